@@ -1,0 +1,150 @@
+-- Laws of odd and even, of tests, and of numbers between bounds. Assumes nothing.
+use mathlib.Core.Bool.{Bool, false, false≢true, true, _&&_}
+use mathlib.Core.Path.{refl, subst, sym, _≡_}
+use Prim.Native.Nat.{suc, ℕ, _<_, _≤_}
+use native.Mathlib.Omega.{arith}
+use lib.Dec.{T, eqb, eqb-refl, eqb→eq, leb, leb→le, le→leb, ltb}
+use Rattle.rules.specs.Lists.{_⊕_, between}
+
+-- ---- laws of ⊕
+pub ⊕-false : (a : Bool) → a ⊕ false ≡ a
+⊕-false true = refl
+⊕-false false = refl
+
+pub ⊕-self : (a : Bool) → a ⊕ a ≡ false
+⊕-self true = refl
+⊕-self false = refl
+
+pub ⊕-comm : (a b : Bool) → a ⊕ b ≡ b ⊕ a
+⊕-comm true true = refl
+⊕-comm true false = refl
+⊕-comm false true = refl
+⊕-comm false false = refl
+
+pub ⊕-assoc : (a b c : Bool) → a ⊕ b ⊕ c ≡ a ⊕ (b ⊕ c)
+⊕-assoc true true true = refl
+⊕-assoc true true false = refl
+⊕-assoc true false c = refl
+⊕-assoc false b c = refl
+
+pub ⊕-left : (a b c : Bool) → a ⊕ (b ⊕ c) ≡ b ⊕ (a ⊕ c)
+⊕-left true true c = refl
+⊕-left true false c = refl
+⊕-left false b c = refl
+
+pub ⊕-cancel : (a b : Bool) → a ⊕ (a ⊕ b) ≡ b
+⊕-cancel true true = refl
+⊕-cancel true false = refl
+⊕-cancel false b = refl
+
+pub &&-⊕ : (a b c : Bool) → a && (b ⊕ c) ≡ (a && b) ⊕ (a && c)
+&&-⊕ true b c = refl
+&&-⊕ false b c = refl
+
+pub &&-false : (a : Bool) → a && false ≡ false
+&&-false true = refl
+&&-false false = refl
+
+pub ruleset xors = (⊕-assoc, ⊕-comm, ⊕-left, ⊕-self, ⊕-cancel, ⊕-false)
+
+pub &&-true : (a : Bool) → a && true ≡ a
+&&-true true = refl
+&&-true false = refl
+
+-- ---- laws of &&
+pub &&-comm : (a b : Bool) → a && b ≡ b && a
+&&-comm true b = sym (&&-true b)
+&&-comm false b = sym (&&-false b)
+
+pub &&-assoc : (a b c : Bool) → a && b && c ≡ a && (b && c)
+&&-assoc true b c = refl
+&&-assoc false b c = refl
+
+pub &&-left : (a b c : Bool) → a && (b && c) ≡ b && (a && c)
+&&-left true b c = refl
+&&-left false b c = sym (&&-false b)
+
+pub &&-self : (a : Bool) → a && a ≡ a
+&&-self true = refl
+&&-self false = refl
+
+pub &&-again : (a b : Bool) → a && (a && b) ≡ a && b
+&&-again true b = refl
+&&-again false b = refl
+
+pub ruleset ands = (&&-assoc, &&-comm, &&-left, &&-self, &&-again)
+
+-- tests of numbers, as paths
+pub T→eq : (b : Bool) → T b → b ≡ true
+T→eq true t = refl
+T→eq false t = absurd t
+
+pub nT→eq : (b : Bool) → (T b → ⊥) → b ≡ false
+nT→eq true t = absurd (t tt)
+nT→eq false t = refl
+
+pub eq→T : (b : Bool) → b ≡ true → T b
+eq→T b e = subst T (sym e) tt
+
+pub leb-yes : (m n : ℕ) → m ≤ n → leb m n ≡ true
+leb-yes m n h = T→eq (leb m n) (le→leb m n h)
+
+pub leb-no : (m n : ℕ) → n < m → leb m n ≡ false
+leb-no m n h = nT→eq (leb m n) (λ t. let h2 : m ≤ n = leb→le m n t in omega arith)
+
+pub eqb-yes : (m n : ℕ) → m ≡ n → eqb m n ≡ true
+eqb-yes m n h = rw h (T→eq (eqb n n) (eqb-refl n))
+
+pub eqb-no : (m n : ℕ) → (m ≡ n → ⊥) → eqb m n ≡ false
+eqb-no m n h = nT→eq (eqb m n) (λ t. h (eqb→eq m n t))
+
+-- a number that lies between
+pub record Bounds (l h i : ℕ) : Type 0 where
+  pub low : l ≤ i
+  pub high : i < h
+
+pub and-left : (a b : Bool) → a && b ≡ true → a ≡ true
+and-left true b e = refl
+and-left false b e = e
+
+pub and-right : (a b : Bool) → a && b ≡ true → b ≡ true
+and-right true b e = e
+and-right false b e = absurd (false≢true e)
+
+pub both : (a b : Bool) → a ≡ true → b ≡ true → a && b ≡ true
+both a b p q = rw (p, q)
+
+pub leb→ : (m n : ℕ) → leb m n ≡ true → m ≤ n
+leb→ m n e = leb→le m n (eq→T (leb m n) e)
+
+pub between→ : (l h i : ℕ) → between l h i ≡ true → Bounds l h i
+between→ l h i e = record { low = leb→ l i (and-left (leb l i) (ltb i h) e); high = leb→ (suc i) h (and-right (leb l i) (ltb i h) e) }
+
+pub between← : (l h i : ℕ) → Bounds l h i → between l h i ≡ true
+between← l h i c = both (leb l i) (ltb i h) (leb-yes l i (c .low)) (leb-yes (suc i) h (c .high))
+
+-- a test that cannot pass
+pub is-false : (b : Bool) → (b ≡ true → ⊥) → b ≡ false
+is-false true h = absurd (h refl)
+is-false false h = refl
+
+-- two tests that pass together
+pub same-test : (a b : Bool) → (a ≡ true → b ≡ true) → (b ≡ true → a ≡ true) → a ≡ b
+same-test true b f g = sym (f refl)
+same-test false true f g = g refl
+same-test false false f g = refl
+
+pub three→ : (l h i l₂ h₂ i₂ l₃ h₃ i₃ : ℕ) → between l h i && (between l₂ h₂ i₂ && between l₃ h₃ i₃) ≡ true → Bounds l h i × Bounds l₂ h₂ i₂ × Bounds l₃ h₃ i₃
+three→ l h i l₂ h₂ i₂ l₃ h₃ i₃ e =
+    let r = and-right (between l h i) (between l₂ h₂ i₂ && between l₃ h₃ i₃) e in
+    (between→ l h i (and-left (between l h i) (between l₂ h₂ i₂ && between l₃ h₃ i₃) e), between→ l₂ h₂ i₂ (and-left (between l₂ h₂ i₂) (between l₃ h₃ i₃) r), between→ l₃ h₃ i₃ (and-right (between l₂ h₂ i₂) (between l₃ h₃ i₃) r))
+
+pub three← : (l h i l₂ h₂ i₂ l₃ h₃ i₃ : ℕ) → Bounds l h i × Bounds l₂ h₂ i₂ × Bounds l₃ h₃ i₃ → between l h i && (between l₂ h₂ i₂ && between l₃ h₃ i₃) ≡ true
+three← l h i l₂ h₂ i₂ l₃ h₃ i₃ c =
+    both (between l h i) (between l₂ h₂ i₂ && between l₃ h₃ i₃) (between← l h i (c .0)) (both (between l₂ h₂ i₂) (between l₃ h₃ i₃) (between← l₂ h₂ i₂ (c .1)) (between← l₃ h₃ i₃ (c .2)))
+
+pub eqb→ : (m n : ℕ) → eqb m n ≡ true → m ≡ n
+eqb→ m n e = eqb→eq m n (eq→T (eqb m n) e)
+
+pub zeros : (a b c d : Bool) → a ≡ false → b ≡ false → c ≡ false → d ≡ false → (a ⊕ b) ⊕ (c ⊕ d) ≡ false
+zeros a b c d p q r s = rw (p, q, r, s)

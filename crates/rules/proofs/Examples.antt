@@ -1,0 +1,97 @@
+-- Examples 1 to 7 of the rules, and four more that pin the tie between sides, the rounding of the cut, the pairing and the path's
+-- order: one table and one claim, proved by computing the definitions. Assumes nothing.
+use mathlib.Core.Path.{_≡_, refl}
+use mathlib.Core.Bool.{Bool, true, false, _&&_, Bool·beq}
+use mathlib.Core.List.{List, [], _∷_}
+use Prim.Native.Nat.{ℕ}
+use lib.Dec.{eqb}
+use lib.ListN.{length}
+use Rattle.rules.specs.Lists.{allOf, count}
+use Rattle.rules.specs.Lattice.{Axis, X, Y, Z, Edge, Set, isIn, setOf, points, places}
+use Rattle.rules.specs.Grid.{bytes, marks}
+use Rattle.rules.specs.Rims.{oddFaces, rims}
+use Rattle.rules.specs.Patch.{patchRim, flips, patched, flipCount}
+use Rattle.rules.specs.Signs.{sign}
+use Rattle.rules.specs.Quads.{quads}
+
+-- edge x(i,j,k), y(i,j,k) or z(i,j,k)
+abbrev edge : Axis → ℕ → ℕ → ℕ → Edge
+edge a i j k = record { axis = a; at = record { i = i; j = j; k = k } }
+
+-- a row: the marks, the number of rims, the edges flipped, the marks after, and the number of points inside
+record Example : Type 0 where
+  before : List Edge
+  rims : ℕ
+  flipped : List Edge
+  after : List Edge
+  inside : ℕ
+
+-- the six edges of point (2,2,2), and all but x(2,2,2)
+unfoldable pub single : List Edge
+single =
+    edge X 1 2 2 ∷ (edge X 2 2 2 ∷ (edge Y 2 1 2 ∷ (edge Y 2 2 2 ∷ (edge Z 2 2 1 ∷ (edge Z 2 2 2 ∷ [])))))
+
+unfoldable pub gap : List Edge
+gap = edge X 1 2 2 ∷ (edge Y 2 1 2 ∷ (edge Y 2 2 2 ∷ (edge Z 2 2 1 ∷ (edge Z 2 2 2 ∷ []))))
+
+-- points (2,2,2) and (3,2,2) inside, with y(2,2,2) and y(3,2,2) unmarked
+unfoldable pub pair : List Edge
+pair =
+    edge X 1 2 2
+    ∷ (edge X 3 2 2 ∷ (edge Y 2 1 2 ∷ (edge Y 3 1 2 ∷ (edge Z 2 2 1 ∷ (edge Z 2 2 2 ∷ (edge Z 3 2 1 ∷ (edge Z 3 2 2 ∷ [])))))))
+
+unfoldable table : List Example
+unfolding single gap pair
+table =
+    record { before = []; rims = 0; flipped = []; after = []; inside = 0 }
+    ∷ (record { before = single; rims = 0; flipped = []; after = single; inside = 1 }
+    ∷ (record { before = gap; rims = 1; flipped = edge X 2 2 2 ∷ []; after = single; inside = 1 }
+    ∷ (record { before = edge X 2 2 2 ∷ []; rims = 1; flipped = edge X 2 2 2 ∷ []; after = []; inside = 0 }
+    ∷ (record { before = edge X 0 1 1 ∷ (edge X 2 3 3 ∷ []); rims = 2; flipped = edge X 0 1 1 ∷ (edge X 2 3 3 ∷ []); after = []; inside = 0 }
+    ∷ (record { before = edge X 2 2 2 ∷ (edge X 2 3 3 ∷ []); rims = 1; flipped = edge X 2 2 2 ∷ (edge X 2 3 3 ∷ []); after = []; inside = 0 }
+    ∷ (record { before = pair; rims = 1; flipped = edge Y 2 2 2 ∷ (edge Y 3 2 2 ∷ []); after = edge Y 2 2 2 ∷ (edge Y 3 2 2 ∷ pair); inside = 2 }
+    -- sides of equal length: x is cut before y and z
+    ∷ (record { before = edge X 2 3 2 ∷ (edge Y 2 3 2 ∷ []); rims = 1; flipped = edge X 2 3 2 ∷ (edge Y 2 3 2 ∷ []); after = []; inside = 0 }
+    -- a side of odd length: the plane is rounded down
+    ∷ (record { before = edge Y 2 2 2 ∷ (edge Y 3 1 1 ∷ (edge Z 3 2 1 ∷ [])); rims = 1; flipped = edge Y 2 2 2 ∷ (edge Y 3 1 1 ∷ (edge Z 3 2 1 ∷ [])); after = []; inside = 0 }
+    -- four faces in one plane: first with second, third with fourth
+    ∷ (record {
+      before = edge Y 3 2 1 ∷ (edge Y 3 3 1 ∷ (edge Z 2 3 0 ∷ []));
+      rims = 1;
+      flipped = edge X 2 3 1 ∷ (edge X 3 3 1 ∷ (edge Z 2 3 0 ∷ (edge Z 3 3 0 ∷ (edge Z 3 3 1 ∷ []))));
+      after = edge X 2 3 1 ∷ (edge X 3 3 1 ∷ (edge Y 3 2 1 ∷ (edge Y 3 3 1 ∷ (edge Z 3 3 0 ∷ (edge Z 3 3 1 ∷ [])))));
+      inside = 1;
+    }
+    -- two faces that differ on both axes: first along the earlier, then along the later
+    ∷ (record {
+      before = edge Y 2 1 1 ∷ (edge Z 2 1 1 ∷ []);
+      rims = 1;
+      flipped = edge X 1 1 1 ∷ (edge X 2 1 1 ∷ (edge Y 2 0 1 ∷ (edge Z 2 1 0 ∷ [])));
+      after = edge X 1 1 1 ∷ (edge X 2 1 1 ∷ (edge Y 2 0 1 ∷ (edge Y 2 1 1 ∷ (edge Z 2 1 0 ∷ (edge Z 2 1 1 ∷ [])))));
+      inside = 1;
+    }
+    ∷ []))))))))))
+
+-- the two sets have the same edges of the level-2 grid
+abbrev sameEdges : Set → Set → Bool
+sameEdges E F = allOf (λ e. Bool·beq (isIn E e) (isIn F e)) (places 5)
+
+-- from the bytes, through the definitions, to rims, flips, marks and signs
+abbrev right : Example → Bool
+right e =
+    let E = marks 4 (bytes 4 (setOf (e .before))) in
+    let F = marks 4 (bytes 4 (patched 4 E)) in
+    eqb (length (rims 4 E)) (e .rims)
+    && (sameEdges (setOf (flips 4 E)) (setOf (e .flipped))
+    && (eqb (flipCount 4 E) (length (e .flipped))
+    && (sameEdges F (setOf (e .after)) && eqb (count (sign F) (points 5)) (e .inside))))
+
+examples-hold : allOf right table ≡ true
+unfolding table single gap pair rims flips patched oddFaces patchRim flipCount bytes marks
+examples-hold = refl
+
+-- the quads that the rules list for one point inside
+listing-holds : quads 4 (setOf single) (sign (setOf single)) ≡
+    21 ∷ (25 ∷ (26 ∷ (22 ∷ (21 ∷ (22 ∷ (38 ∷ (37 ∷ (21 ∷ (37 ∷ (41 ∷ (25 ∷ (22 ∷ (26 ∷ (42 ∷ (38 ∷ (25 ∷ (41 ∷ (42 ∷ (26 ∷ (37 ∷ (38 ∷ (42 ∷ (41 ∷ [])))))))))))))))))))))))
+unfolding single quads
+listing-holds = refl

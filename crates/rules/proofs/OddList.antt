@@ -1,0 +1,42 @@
+-- The odd faces as listed, no odd face, and flips as edges altered. Assumes nothing.
+use mathlib.Core.Bool.{Bool, false, true}
+use mathlib.Core.List.{List, []}
+use mathlib.Core.Path.{ap, fun-ext, subst, sym, _∙_, _≡_}
+use Prim.Native.Nat.{ℕ}
+use Rattle.rules.specs.Lists.{_⊕_, count, All}
+use Rattle.rules.specs.Lattice.{samePlace, places, Set, isIn, setOf, edgeIn, whole, inner, Axis, Point, Place}
+use Rattle.rules.specs.Cell.{oddFace}
+use Rattle.rules.specs.Rims.{oddFaces, elem, rims}
+use Rattle.rules.specs.Patch.{flips, patched}
+use Rattle.rules.proofs.Bits.{⊕-cancel, same-test}
+use Rattle.rules.proofs.Lists.{all-kept, keep-none}
+use Rattle.rules.proofs.Cuts.{samePlace→}
+use Rattle.rules.proofs.Patched.{odd-listed}
+use Rattle.rules.proofs.Chains.{find}
+use Rattle.rules.proofs.Scan.{setOf-elem, set-rims}
+
+module _ (n : ℕ) (E : Set) (inner : (a : Axis) (p : Point) → E a p ≡ true → edgeIn (whole n) a p ≡ true) where
+  -- the list has exactly the odd faces
+  pub elem-odd : (f : Place) → elem f (oddFaces n E) ≡ oddFace E (f .axis) (f .at)
+  unfolding oddFaces
+  elem-odd f = same-test (elem f (oddFaces n E)) (oddFace E (f .axis) (f .at))
+      (λ e. let g = find (samePlace f) (λ x. isIn (oddFace E) x ≡ true) (oddFaces n E) (all-kept (isIn (oddFace E)) (places n)) e in subst (λ (x : Place). isIn (oddFace E) x ≡ true) (sym (samePlace→ f (g .0) (g .1))) (g .2))
+      (λ e. setOf-elem f (oddFaces n E) (odd-listed n E inner (f .axis) (f .at) ∙ e))
+
+  -- a rim's faces as a set
+  pub rim-set : (f : Place) → All (λ r. setOf r (f .axis) (f .at) ≡ elem f r) (rims n E)
+  unfolding rims
+  rim-set = set-rims (oddFaces n E) (λ f. odd-listed n E inner (f .axis) (f .at) ∙ sym (elem-odd f))
+
+  -- number 6 of sign: no odd face is listed exactly where every face is even
+  pub none-odd→ : oddFaces n E ≡ [] → (a : Axis) (p : Point) → oddFace E a p ≡ false
+  none-odd→ e a p = sym (odd-listed n E inner a p) ∙ ap (λ (l : List Place). setOf l a p) e
+
+  pub none-odd← : ((a : Axis) (p : Point) → oddFace E a p ≡ false) → oddFaces n E ≡ []
+  unfolding oddFaces
+  none-odd← h = keep-none (isIn (oddFace E)) (λ f. h (f .axis) (f .at)) (places n)
+
+-- the flips are the edges whose mark differs
+pub flips-differ : (n : ℕ) (E : Set) (l : List Place) → count (λ e. isIn E e ⊕ isIn (patched n E) e) l ≡ count (isIn (setOf (flips n E))) l
+unfolding patched
+flips-differ n E l = ap (λ (w : Place → Bool). count w l) (fun-ext (λ e. ⊕-cancel (isIn E e) (isIn (setOf (flips n E)) e)))

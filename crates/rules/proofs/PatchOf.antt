@@ -1,0 +1,57 @@
+-- The patch of a box as code runs it: the cut, then one half after the other on one working set. Assumes nothing.
+use mathlib.Core.Bool.{false, true, true≢false}
+use mathlib.Core.List.{List, [], _++_}
+use mathlib.Core.Path.{ap, ap₂, refl, sym, _∙_, _≡_}
+use Prim.Native.Nat.{suc, zero, ℕ}
+use native.Mathlib.Omega.{arith}
+use Rattle.rules.specs.Lattice.{Set, setOf, symdiff, Axis, Place, Box}
+use Rattle.rules.specs.Cell.{oddFace}
+use Rattle.rules.specs.Patch.{oneCell, longest, middle, lower, upper, cut, patch, size}
+use Rattle.rules.proofs.Halving.{lower-size, upper-size, one-cell←, side-size, middle-in, patch-one, patch-cut}
+use Rattle.rules.proofs.Recursion.{patch-cong}
+use Rattle.rules.proofs.Fill.{upper-after}
+
+-- ---- the patch of a box with no fuel in sight, as code recurses
+unfoldable pub patchOf : Box → Set → List Place
+patchOf b W = patch (size b) b W
+
+pub patchOf-one : (b : Box) (W : Set) → oneCell b ≡ true → patchOf b W ≡ []
+unfolding patchOf
+patchOf-one b W e = go (size b) refl
+  where
+    go : (n : ℕ) → size b ≡ n → patch n b W ≡ []
+    go zero q = refl
+    go (suc n) q = patch-one n b W e
+
+-- the cut, then the lower half, then the upper half on the working faces as the lower half left them
+pub patchOf-cut : (b : Box) (W : Set) → oneCell b ≡ false →
+    let a = longest b in
+    let m = middle b a in
+    let fl = cut b W a m in
+    let U = symdiff W (oddFace (setOf fl)) in
+    let low = patchOf (lower b a m) U in
+    patchOf b W ≡ fl ++ (low ++ patchOf (upper b a m) (symdiff U (oddFace (setOf low))))
+unfolding patchOf
+patchOf-cut b W e = go (size b) refl
+  where
+    a : Axis
+    a = longest b
+
+    m : ℕ
+    m = middle b a
+
+    U : Set
+    U = symdiff W (oddFace (setOf (cut b W a m)))
+
+    go : (n : ℕ) → size b ≡ n → patch n b W ≡ cut b W a m ++ (patch (size (lower b a m)) (lower b a m) U ++ patch (size (upper b a m)) (upper b a m) (symdiff U (oddFace (setOf (patch (size (lower b a m)) (lower b a m) U)))))
+    go zero q = absurd (true≢false (sym (one-cell← b (λ d. let l = side-size b d in omega arith)) ∙ e))
+    go (suc n) q =
+        let c = middle-in b e in
+        let ls = lower-size b a m c in
+        let us = upper-size b a m c in
+        let el : patch n (lower b a m) U ≡ patch (size (lower b a m)) (lower b a m) U = patch-cong n (size (lower b a m)) (lower b a m) U U (omega arith) (omega arith) (λ d p k. refl) in
+        let eu : patch n (upper b a m) U ≡ patch (size (upper b a m)) (upper b a m) (symdiff U (oddFace (setOf (patch n (lower b a m) U)))) =
+        sym (upper-after b a m c n U (omega arith)) ∙ patch-cong n (size (upper b a m)) (upper b a m) _ _ (omega arith) (omega arith) (λ d p k. refl) in
+        patch-cut n b W e
+        ∙ ap (λ (l : List Place). cut b W a m ++ l)
+        (ap₂ (λ (x y : List Place). x ++ y) el (eu ∙ ap (λ (l : List Place). patch (size (upper b a m)) (upper b a m) (symdiff U (oddFace (setOf l)))) el))

@@ -1,0 +1,135 @@
+-- What a scan over all faces has found so far, a rim as a set of faces, and patches in any order. Assumes nothing.
+use mathlib.Core.Bool.{Bool, cond, false, not, true, true≢false, _&&_, _||_}
+use mathlib.Core.List.{List, [], _∷_}
+use mathlib.Core.Path.{ap, refl, sym, _∙_, _≡_}
+use Prim.Native.Nat.{suc, ℕ, _+_}
+use native.Mathlib.Omega.{arith}
+use lib.ListN.{length}
+use Rattle.rules.specs.Lists.{_⊕_, parity, count, keep, anyOf, All, each}
+use Rattle.rules.specs.Lattice.{samePlace, Set, setOf, symdiff, Axis, Point, Place}
+use Rattle.rules.specs.Rims.{elem, joins, joined, rimsOf, rims}
+use Rattle.rules.specs.Patch.{patchRim, flips, patched}
+use Rattle.rules.proofs.Bits.{⊕-false, ⊕-assoc, ⊕-left, &&-false, is-false, same-test}
+use Rattle.rules.proofs.Sums.{parity-each}
+use Rattle.rules.proofs.Lists.{all-weaken, all-keep}
+use Rattle.rules.proofs.Cuts.{setOf-all}
+use Rattle.rules.proofs.Rims.{parity-rims, or-true}
+use Rattle.rules.proofs.Chains.{same-self, or-left-true, or-no-left, or-no-right, zero-none, any-rims, one-rim, members}
+
+module _ {R : Type 0} where
+  count-or-none : (x y : R → Bool) (rs : List R) → count x rs ≡ 0 → count (λ r. x r || y r) rs ≡ count y rs
+  count-or-none x y [] h = refl
+  count-or-none x y (r ∷ rs) h = go (x r) h (count-or-none x y rs)
+    where
+      go : (c : Bool) → cond c (suc (count x rs)) (count x rs) ≡ 0 → (count x rs ≡ 0 → count (λ s. x s || y s) rs ≡ count y rs) →
+          cond (c || y r) (suc (count (λ s. x s || y s) rs)) (count (λ s. x s || y s) rs) ≡ cond (y r) (suc (count y rs)) (count y rs)
+      go true e k = absurd (omega arith)
+      go false e k = rw (k e)
+
+  any-none : (x y : R → Bool) (rs : List R) → count x rs ≡ 0 → anyOf (λ r. y r && x r) rs ≡ false
+  any-none x y [] h = refl
+  any-none x y (r ∷ rs) h = go (x r) h (any-none x y rs)
+    where
+      go : (c : Bool) → cond c (suc (count x rs)) (count x rs) ≡ 0 → (count x rs ≡ 0 → anyOf (λ s. y s && x s) rs ≡ false) → (y r && c) || anyOf (λ s. y s && x s) rs ≡ false
+      go true e k = absurd (omega arith)
+      go false e k = rw (&&-false (y r)) (k e)
+
+  -- one more class is hit where the new member's class was not yet
+  pub count-or-one : (x y : R → Bool) (rs : List R) → count x rs ≡ 1 → count (λ r. x r || y r) rs ≡ count y rs + cond (anyOf (λ r. y r && x r) rs) 0 1
+  count-or-one x y [] h = absurd (omega arith)
+  count-or-one x y (r ∷ rs) h = go (x r) (y r) h (count-or-one x y rs)
+    where
+      go : (c d : Bool) → cond c (suc (count x rs)) (count x rs) ≡ 1 → (count x rs ≡ 1 → count (λ s. x s || y s) rs ≡ count y rs + cond (anyOf (λ s. y s && x s) rs) 0 1) →
+          cond (c || d) (suc (count (λ s. x s || y s) rs)) (count (λ s. x s || y s) rs) ≡ cond d (suc (count y rs)) (count y rs) + cond ((d && c) || anyOf (λ s. y s && x s) rs) 0 1
+      go true true e k = let z : count x rs ≡ 0 = omega arith in let q = count-or-none x y rs z in omega arith
+      go true false e k = let z : count x rs ≡ 0 = omega arith in let q = count-or-none x y rs z in rw (any-none x y rs z) (omega arith)
+      go false true e k = let q = k e in omega arith
+      go false false e k = k e
+
+-- a rim that has a member among those scanned
+abbrev pub hit : List Place → List Place → Bool
+hit done r = anyOf (λ f. elem f r) done
+
+-- (S) the scan's step: a face that no earlier rim has begins a new one
+pub scan-step : (l : List Place) (done : List Place) (f : Place) → elem f l ≡ true →
+    count (hit (f ∷ done)) (rimsOf l) ≡ count (hit done) (rimsOf l) + cond (anyOf (λ r. hit done r && elem f r) (rimsOf l)) 0 1
+scan-step l done f e = count-or-one (elem f) (hit done) (rimsOf l) (one-rim l f e)
+
+all-length : (w : List Place → Bool) (rs : List (List Place)) → All (λ r. w r ≡ true) rs → count w rs ≡ length rs
+all-length w [] h = refl
+all-length w (r ∷ rs) h = rw (h .0) (ap suc (all-length w rs (h .1)))
+
+-- (N) a rim has a face, and it is one of the list
+pub rim-some : (l : List Place) → All (λ r. hit l r ≡ true) (rimsOf l)
+rim-some [] = tt
+rim-some (f ∷ l) = (
+  or-left-true (elem f (joined f (rimsOf l))) (hit l (joined f (rimsOf l))) (or-left-true (samePlace f f) (elem f (each (λ r. r) (keep (joins f) (rimsOf l)))) (same-self f)),
+  all-keep (λ r. hit (f ∷ l) r ≡ true) (λ r. not (joins f r)) (rimsOf l) (all-weaken _ _ (λ r e. or-true (elem f r) (hit l r) e) (rimsOf l) (rim-some l)),
+)
+
+-- at the end every rim has been hit
+pub scan-end : (l : List Place) → count (hit l) (rimsOf l) ≡ length (rimsOf l)
+scan-end l = all-length (hit l) (rimsOf l) (rim-some l)
+
+-- ---- a rim's members, as a set
+module _ {R : Type 0} where
+  all-zero : (x : R → Bool) (rs : List R) → All (λ r. x r ≡ false) rs → parity x rs ≡ false
+  all-zero x [] h = refl
+  all-zero x (r ∷ rs) h = rw (h .0, all-zero x rs (h .1))
+
+  one-of : (x y : R → Bool) → ((r : R) → x r ≡ true → y r ≡ true) → (rs : List R) → count y rs ≡ 1 → parity x rs ≡ true → All (λ r. x r ≡ y r) rs
+  one-of x y f [] h e = tt
+  one-of x y f (r ∷ rs) h e = go (y r) refl h (one-of x y f rs)
+    where
+      go : (c : Bool) → y r ≡ c → cond c (suc (count y rs)) (count y rs) ≡ 1 → (count y rs ≡ 1 → parity x rs ≡ true → All (λ s. x s ≡ y s) rs) → All (λ s. x s ≡ y s) (r ∷ rs)
+      go true q i k =
+          let n = zero-none y rs (omega arith) in
+          let z = all-zero x rs (all-weaken _ _ (λ s m. is-false (x s) (λ t. m (f s t))) rs n) in
+          (sym (⊕-false (x r)) ∙ ap (λ (b : Bool). x r ⊕ b) (sym z) ∙ e ∙ sym q, all-weaken _ _ (λ s m. same-test (x s) (y s) (f s) (λ t. absurd (m t))) rs n)
+      go false q i k =
+          let z = is-false (x r) (λ t. true≢false (sym (f r t) ∙ q)) in
+          (z ∙ sym q, k i (ap (λ (b : Bool). b ⊕ parity x rs) (sym z) ∙ e))
+
+  one-of-none : (x y : R → Bool) → ((r : R) → x r ≡ true → y r ≡ true) → (rs : List R) → anyOf y rs ≡ false → All (λ r. x r ≡ y r) rs
+  one-of-none x y f [] h = tt
+  one-of-none x y f (r ∷ rs) h =
+      let e = or-no-left (y r) (anyOf y rs) h in
+      (is-false (x r) (λ t. true≢false (sym (f r t) ∙ e)) ∙ sym e, one-of-none x y f rs (or-no-right (y r) (anyOf y rs) h))
+
+pub setOf-elem : (f : Place) (r : List Place) → setOf r (f .axis) (f .at) ≡ true → elem f r ≡ true
+setOf-elem f r e = setOf-all (λ g. elem g r ≡ true) r (members r) (f .axis) (f .at) e
+
+pub set-rims : (l : List Place) → ((f : Place) → setOf l (f .axis) (f .at) ≡ elem f l) → (f : Place) → All (λ r. setOf r (f .axis) (f .at) ≡ elem f r) (rimsOf l)
+set-rims l h f = go (elem f l) refl
+  where
+    go : (c : Bool) → elem f l ≡ c → All (λ r. setOf r (f .axis) (f .at) ≡ elem f r) (rimsOf l)
+    go true e = one-of (λ r. setOf r (f .axis) (f .at)) (elem f) (setOf-elem f) (rimsOf l) (one-rim l f e) (parity-rims (λ g. samePlace g f) l ∙ h f ∙ e)
+    go false e = one-of-none (λ r. setOf r (f .axis) (f .at)) (elem f) (setOf-elem f) (rimsOf l) (any-rims (samePlace f) l ∙ e)
+
+-- ---- patches in any order (M-111)
+pub data Perm : List (List Place) → List (List Place) → Type 0 where
+  none : Perm [] []
+  keepHead : {r : List Place} {s t : List (List Place)} → Perm s t → Perm (r ∷ s) (r ∷ t)
+  swap : {r q : List Place} {s : List (List Place)} → Perm (r ∷ (q ∷ s)) (q ∷ (r ∷ s))
+  chain : {s t u : List (List Place)} → Perm s t → Perm t u → Perm s u
+
+pub parity-perm : (g : List Place → Bool) (s t : List (List Place)) → Perm s t → parity g s ≡ parity g t
+parity-perm g s t none = refl
+parity-perm g s t (keepHead {r = r} {s = s₁} {t = t₁} p) = ap (λ (b : Bool). g r ⊕ b) (parity-perm g s₁ t₁ p)
+parity-perm g s t (swap {r = r} {q = q} {s = u}) = ⊕-left (g r) (g q) (parity g u)
+parity-perm g s t (chain {t = m} p q) = parity-perm g s m p ∙ parity-perm g m t q
+
+-- one rim after the other
+abbrev pub oneByOne : Set → List (List Place) → Set
+oneByOne E [] = E
+oneByOne E (r ∷ rs) = oneByOne (symdiff E (setOf (patchRim r))) rs
+
+pub by-one : (E : Set) (rs : List (List Place)) (a : Axis) (p : Point) → oneByOne E rs a p ≡ E a p ⊕ parity (λ r. setOf (patchRim r) a p) rs
+by-one E [] a p = sym (⊕-false (E a p))
+by-one E (r ∷ rs) a p = by-one (symdiff E (setOf (patchRim r))) rs a p ∙ ⊕-assoc (E a p) (setOf (patchRim r) a p) (parity (λ s. setOf (patchRim s) a p) rs)
+
+pub any-order : (n : ℕ) (E : Set) (rs : List (List Place)) → Perm rs (rims n E) → (a : Axis) (p : Point) → oneByOne E rs a p ≡ patched n E a p
+unfolding patched flips
+any-order n E rs h a p =
+    by-one E rs a p
+    ∙ ap (λ (b : Bool). E a p ⊕ b) (parity-perm (λ r. setOf (patchRim r) a p) rs (rims n E) h ∙ sym (parity-each (λ e. samePlace e (record { axis = a; at = p })) patchRim (rims n E)))

@@ -1,0 +1,91 @@
+-- A buffer of bytes as a set, and what turning one bit of it does. Assumes nothing.
+use mathlib.Core.Bool.{Bool, Bool·beq, cond, false, true, true≢false, _&&_}
+use mathlib.Core.List.{List, [], _∷_}
+use mathlib.Core.Path.{ap, ap₂, refl, subst, sym, _∙_, _≡_}
+use Prim.Native.Nat.{suc, zero, ℕ, _+_, _-_, _<_, _≤_}
+use native.Mathlib.Decide.{ℕ-discrete}
+use native.Mathlib.Omega.{arith}
+use lib.ListN.{getD, length, set}
+use lib.Seq.{getD-set-other, getD-set-same}
+use Rattle.rules.specs.Lists.{_⊕_, allOf, All, upto}
+use Rattle.rules.specs.Lattice.{sameAxis, samePoint, pointNumber, pointCount, points, Set, Axis, X, Y, Z, Point}
+use Rattle.rules.specs.Grid.{weight, has}
+use Rattle.rules.specs.Condition.{OfGrid}
+use Rattle.rules.proofs.Bits.{⊕-false, &&-false, &&-true, and-left, and-right}
+use Rattle.rules.proofs.Cuts.{samePoint→}
+use Rattle.rules.proofs.Chains.{same-point}
+use Rattle.rules.proofs.Numbers.{points-at, number-below}
+
+-- the set that a buffer's lowest three bits hold
+abbrev pub raw : ℕ → List ℕ → Set
+raw n w a p = has a (getD w (pointNumber n p) 0)
+
+pub number-inj : (n : ℕ) (p q : Point) → OfGrid n p → OfGrid n q → pointNumber n p ≡ pointNumber n q → p ≡ q
+number-inj n p q hp hq e =
+    sym (points-at (suc n) p p (omega arith) (omega arith) (omega arith))
+    ∙ ap (λ (i : ℕ). getD (points (suc n)) i p) e
+    ∙ points-at (suc n) q p (omega arith) (omega arith) (omega arith)
+
+-- a store at q changes what is read at q alone
+pub raw-set : (n : ℕ) (w : List ℕ) (q : Point) (v : ℕ) → OfGrid n q → pointCount n ≤ length w → (a : Axis) (p : Point) → OfGrid n p →
+    raw n (set w (pointNumber n q) v) a p ≡ cond (samePoint q p) (has a v) (raw n w a p)
+raw-set n w q v hq l a p hp = go (samePoint q p) refl
+  where
+    go : (c : Bool) → samePoint q p ≡ c → has a (getD (set w (pointNumber n q) v) (pointNumber n p) 0) ≡ cond c (has a v) (raw n w a p)
+    go true e =
+        let b = number-below (suc n) (q .i) (q .j) (q .k) (omega arith) (omega arith) (omega arith) in
+        ap (λ (r : Point). has a (getD (set w (pointNumber n q) v) (pointNumber n r) 0)) (sym (samePoint→ q p e)) ∙ ap (has a) (getD-set-same w (pointNumber n q) v 0 (omega arith))
+    go false e = ap (has a) (getD-set-other w (pointNumber n q) (pointNumber n p) v 0 (λ k. true≢false (sym (same-point q) ∙ ap (samePoint q) (number-inj n q p hq hp (sym k)) ∙ e)))
+
+-- the bit of an axis turned
+abbrev pub toggle : Axis → ℕ → ℕ
+toggle a b = cond (has a b) (b - weight a) (b + weight a)
+
+abbrev axes : List Axis
+axes = X ∷ (Y ∷ (Z ∷ []))
+
+-- its rule, tested over all bytes
+abbrev turned : Axis → Axis → ℕ → Bool
+turned a c b = Bool·beq (has c (toggle a b)) (has c b ⊕ sameAxis a c)
+
+tested : allOf (λ b. allOf (λ a. allOf (λ c. turned a c b) axes) axes) (upto 0 256) ≡ true
+tested = refl
+
+module _ {A : Type 0} where
+  allOf→ : (w : A → Bool) (l : List A) → allOf w l ≡ true → All (λ x. w x ≡ true) l
+  allOf→ w [] e = tt
+  allOf→ w (x ∷ l) e = (and-left (w x) (allOf w l) e, allOf→ w l (and-right (w x) (allOf w l) e))
+
+at-upto : (P : ℕ → Type 0) (i k j : ℕ) → All P (upto i k) → i ≤ j → j < i + k → P j
+at-upto P i zero j h l u = absurd (omega arith)
+at-upto P i (suc k) j h l u = go (ℕ-discrete i j) (at-upto P (suc i) k j (h .1))
+  where
+    go : Dec (i ≡ j) → (suc i ≤ j → j < suc i + k → P j) → P j
+    go (yes e) r = subst P e (h .0)
+    go (no n) r = r (omega arith) (omega arith)
+
+beq→ : (a b : Bool) → Bool·beq a b ≡ true → a ≡ b
+beq→ true true e = refl
+beq→ true false e = sym e
+beq→ false true e = e
+beq→ false false e = refl
+
+at-axis : (w : Axis → Bool) → allOf w axes ≡ true → (a : Axis) → w a ≡ true
+at-axis w e X = and-left (w X) (w Y && (w Z && true)) e
+at-axis w e Y = and-left (w Y) (w Z && true) (and-right (w X) (w Y && (w Z && true)) e)
+at-axis w e Z = and-left (w Z) true (and-right (w Y) (w Z && true) (and-right (w X) (w Y && (w Z && true)) e))
+
+pub toggle-has : (a c : Axis) (b : ℕ) → b < 256 → has c (toggle a b) ≡ has c b ⊕ sameAxis a c
+toggle-has a c b h =
+    beq→ (has c (toggle a b)) (has c b ⊕ sameAxis a c)
+    (at-axis (λ d. turned a d b) (at-axis (λ e. allOf (λ d. turned e d b) axes)
+    (at-upto (λ k. allOf (λ e. allOf (λ d. turned e d k) axes) axes ≡ true) 0 256 b (allOf→ (λ k. allOf (λ e. allOf (λ d. turned e d k) axes) axes) (upto 0 256) tested) (omega arith) (omega arith)) a) c)
+
+-- (T) turning one bit of the buffer turns one member of the set
+pub raw-toggle : (n : ℕ) (w : List ℕ) (d : Axis) (q : Point) → OfGrid n q → pointCount n ≤ length w → getD w (pointNumber n q) 0 < 256 → (a : Axis) (p : Point) → OfGrid n p →
+    raw n (set w (pointNumber n q) (toggle d (getD w (pointNumber n q) 0))) a p ≡ raw n w a p ⊕ (sameAxis d a && samePoint q p)
+raw-toggle n w d q hq l h a p hp = raw-set n w q (toggle d (getD w (pointNumber n q) 0)) hq l a p hp ∙ go (samePoint q p) refl
+  where
+    go : (c : Bool) → samePoint q p ≡ c → cond c (has a (toggle d (getD w (pointNumber n q) 0))) (raw n w a p) ≡ raw n w a p ⊕ (sameAxis d a && c)
+    go true e = toggle-has d a (getD w (pointNumber n q) 0) h ∙ ap₂ _⊕_ (ap (λ (r : Point). raw n w a r) (samePoint→ q p e)) (sym (&&-true (sameAxis d a)))
+    go false e = sym (ap (λ (b : Bool). raw n w a p ⊕ b) (&&-false (sameAxis d a)) ∙ ⊕-false (raw n w a p))

@@ -1,0 +1,126 @@
+-- Parity over lists and over ranges of numbers. Assumes nothing.
+use mathlib.Core.Bool.{Bool, cond, false, true, _&&_}
+use mathlib.Core.List.{List, [], map, _++_, _∷_}
+use mathlib.Core.Path.{ap, ap₂, fun-ext, refl, sym, _∙_, _≡_}
+use Prim.Native.Nat.{suc, zero, ℕ, _+_, _-_, _<_, _≤_}
+use native.Mathlib.Decide.{decLe, ℕ-discrete}
+use native.Mathlib.Nat.{add-suc, add-zero, suc-add}
+use native.Mathlib.Omega.{arith}
+use lib.Dec.{eqb, leb, ltb}
+use Rattle.rules.specs.Lists.{_⊕_, parity, keep, each, upto, parityTo}
+use Rattle.rules.proofs.Bits.{⊕-false, ⊕-self, ⊕-assoc, xors, leb-yes, leb-no, eqb-yes, eqb-no}
+
+-- ---- sums over lists
+module _ {A : Type 0} where
+  pub parity-append : (f : A → Bool) (l m : List A) → parity f (l ++ m) ≡ parity f l ⊕ parity f m
+  parity-append f [] m = refl
+  parity-append f (x ∷ l) m = ap (λ (b : Bool). f x ⊕ b) (parity-append f l m) ∙ sym (⊕-assoc (f x) (parity f l) (parity f m))
+
+  pub parity-plus : (f g : A → Bool) (l : List A) → parity (λ x. f x ⊕ g x) l ≡ parity f l ⊕ parity g l
+  parity-plus f g [] = refl
+  parity-plus f g (x ∷ l) = rw (parity-plus f g l) (simp xors)
+
+  keep-one : (f w : A → Bool) (x : A) (l : List A) (b : Bool) → parity f (cond b (x ∷ l) l) ≡ (b && f x) ⊕ parity f l
+  keep-one f w x l true = refl
+  keep-one f w x l false = refl
+
+  pub parity-keep : (f w : A → Bool) (l : List A) → parity f (keep w l) ≡ parity (λ x. w x && f x) l
+  parity-keep f w [] = refl
+  parity-keep f w (x ∷ l) = keep-one f w x (keep w l) (w x) ∙ ap (λ (c : Bool). (w x && f x) ⊕ c) (parity-keep f w l)
+
+  pub parity-zero : (f : A → Bool) → ((x : A) → f x ≡ false) → (l : List A) → parity f l ≡ false
+  parity-zero f h [] = refl
+  parity-zero f h (x ∷ l) = rw (h x, parity-zero f h l)
+
+module _ {A B : Type 0} where
+  pub parity-map : (f : B → Bool) (g : A → B) (l : List A) → parity f (map g l) ≡ parity (λ x. f (g x)) l
+  parity-map f g [] = refl
+  parity-map f g (x ∷ l) = ap (λ (b : Bool). f (g x) ⊕ b) (parity-map f g l)
+
+  pub parity-each : (f : B → Bool) (g : A → List B) (l : List A) → parity f (each g l) ≡ parity (λ x. parity f (g x)) l
+  parity-each f g [] = refl
+  parity-each f g (x ∷ l) = parity-append f (g x) (each g l) ∙ ap (λ (b : Bool). parity f (g x) ⊕ b) (parity-each f g l)
+
+-- ---- sums over ranges
+pub parityTo-plus : (k : ℕ) (f g : ℕ → Bool) → parityTo k (λ i. f i ⊕ g i) ≡ parityTo k f ⊕ parityTo k g
+parityTo-plus zero f g = refl
+parityTo-plus (suc k) f g = rw (parityTo-plus k f g) (simp xors)
+
+pub parityTo-zero : (k : ℕ) (f : ℕ → Bool) → ((i : ℕ) → f i ≡ false) → parityTo k f ≡ false
+parityTo-zero zero f h = refl
+parityTo-zero (suc k) f h = rw (parityTo-zero k f h, h k)
+
+pub parityTo-cong : (k : ℕ) (f g : ℕ → Bool) → ((i : ℕ) → f i ≡ g i) → parityTo k f ≡ parityTo k g
+parityTo-cong k f g h = ap (λ (u : ℕ → Bool). parityTo k u) (fun-ext h)
+
+pub parityTo-swap : (k l : ℕ) (f : ℕ → ℕ → Bool) → parityTo k (λ i. parityTo l (λ j. f i j)) ≡ parityTo l (λ j. parityTo k (λ i. f i j))
+parityTo-swap zero l f = sym (parityTo-zero l (λ j. false) (λ j. refl))
+parityTo-swap (suc k) l f = rw (parityTo-swap k l f) (sym (parityTo-plus l (λ j. parityTo k (λ i. f i j)) (λ j. f k j)))
+
+-- a sum of steps is the difference of its ends
+pub parityTo-steps : (k : ℕ) (f : ℕ → Bool) → parityTo k (λ i. f i ⊕ f (suc i)) ≡ f 0 ⊕ f k
+parityTo-steps zero f = sym (⊕-self (f 0))
+parityTo-steps (suc k) f = rw (parityTo-steps k f) (simp xors)
+
+pub parityTo-split : (i k : ℕ) (f : ℕ → Bool) → parityTo (i + k) f ≡ parityTo i f ⊕ parityTo k (λ j. f (i + j))
+parityTo-split i zero f = rw (add-zero i) (sym (⊕-false (parityTo i f)))
+parityTo-split i (suc k) f = rw (add-suc i k, parityTo-split i k f) (⊕-assoc (parityTo i f) (parityTo k (λ j. f (i + j))) (f (i + k)))
+
+pub parityTo-first : (k : ℕ) (f : ℕ → Bool) → parityTo (suc k) f ≡ f 0 ⊕ parityTo k (λ j. f (suc j))
+parityTo-first zero f = sym (⊕-false (f 0))
+parityTo-first (suc k) f = rw (parityTo-first k f) (⊕-assoc (f 0) (parityTo k (λ j. f (suc j))) (f (suc k)))
+
+pub parity-upto : (i k : ℕ) (f : ℕ → Bool) → parity f (upto i k) ≡ parityTo k (λ j. f (i + j))
+parity-upto i zero f = refl
+parity-upto i (suc k) f = rw (parityTo-first k (λ j. f (i + j)), add-zero i, parity-upto (suc i) k f) (ap (λ (b : Bool). f i ⊕ b) (parityTo-cong k (λ j. f (suc i + j)) (λ j. f (i + suc j)) (λ j. ap f (suc-add i j ∙ sym (add-suc i j)))))
+
+-- below the bound only
+pub parityTo-cong< : (k : ℕ) (f g : ℕ → Bool) → ((i : ℕ) → i < k → f i ≡ g i) → parityTo k f ≡ parityTo k g
+parityTo-cong< zero f g h = refl
+parityTo-cong< (suc k) f g h = ap₂ _⊕_ (parityTo-cong< k f g (λ i l. h i (omega arith))) (h k (omega arith))
+
+-- the sum over the numbers from l on and below h
+pub parity-range : (l h : ℕ) (f : ℕ → Bool) → parity f (upto l (h - l)) ≡ parityTo h (λ i. leb l i && f i)
+parity-range l h f = go (decLe l h)
+  where
+    g : ℕ → Bool
+    g = λ i. leb l i && f i
+
+    below : (k : ℕ) → k ≤ l → parityTo k g ≡ false
+    below k r = parityTo-cong< k g (λ i. false) (λ i q. rw (leb-no l i (omega arith))) ∙ parityTo-zero k (λ i. false) (λ i. refl)
+
+    above : (j : ℕ) → f (l + j) ≡ g (l + j)
+    above j = rw (leb-yes l (l + j) (omega arith))
+
+    go : Dec (l ≤ h) → parity f (upto l (h - l)) ≡ parityTo h g
+    go (yes p) =
+        let e : l + (h - l) ≡ h = omega arith in
+        parity-upto l (h - l) f ∙ parityTo-cong (h - l) (λ j. f (l + j)) (λ j. g (l + j)) above
+        ∙ sym (ap (λ (b : Bool). b ⊕ parityTo (h - l) (λ j. g (l + j))) (below l (omega arith)))
+        ∙ sym (parityTo-split l (h - l) g) ∙ ap (λ (n : ℕ). parityTo n g) e
+    go (no q) =
+        let e : h - l ≡ 0 = omega arith in
+        rw e (sym (below h (omega arith)))
+
+-- a sum in which only one number counts
+pub parityTo-one : (k c : ℕ) (f : ℕ → Bool) → parityTo k (λ i. eqb i c && f i) ≡ ltb c k && f c
+parityTo-one zero c f = rw (leb-no (suc c) 0 (omega arith))
+parityTo-one (suc k) c f = ap (λ (b : Bool). b ⊕ (eqb k c && f k)) (parityTo-one k c f) ∙ go (ℕ-discrete k c) (decLe k c)
+  where
+    go : Dec (k ≡ c) → Dec (k ≤ c) → (ltb c k && f c) ⊕ (eqb k c && f k) ≡ ltb c (suc k) && f c
+    go (yes e) d = rw (e, eqb-yes c c refl, leb-no (suc c) c (omega arith), leb-yes (suc c) (suc c) (omega arith)) refl
+    go (no n) (yes p) = rw (eqb-no k c n, leb-no (suc c) k (omega arith), leb-no (suc c) (suc k) (omega arith)) refl
+    go (no n) (no p) = rw (eqb-no k c n, leb-yes (suc c) k (omega arith), leb-yes (suc c) (suc k) (omega arith)) (⊕-false (f c))
+
+-- steps along two axes, over a rectangle at whose sides nothing stands
+pub parityTo-around : (k l : ℕ) (f g : ℕ → ℕ → Bool) → ((v : ℕ) → f 0 v ≡ false) → ((v : ℕ) → f k v ≡ false) → ((u : ℕ) → g u 0 ≡ false) → ((u : ℕ) → g u l ≡ false) →
+    parityTo l (λ v. parityTo k (λ u. (f u v ⊕ f (suc u) v) ⊕ (g u v ⊕ g u (suc v)))) ≡ false
+parityTo-around k l f g f0 fk g0 gl =
+    parityTo-cong l _ _ (λ v. parityTo-plus k _ _) ∙ parityTo-plus l _ _
+    ∙ ap₂ _⊕_
+    (parityTo-zero l _ (λ v. parityTo-steps k (λ u. f u v) ∙ ap₂ _⊕_ (f0 v) (fk v)))
+    (parityTo-swap l k (λ v u. g u v ⊕ g u (suc v)) ∙ parityTo-zero k _ (λ u. parityTo-steps l (λ v. g u v) ∙ ap₂ _⊕_ (g0 u) (gl u)))
+
+pub &&-sum : (c : Bool) (k : ℕ) (f : ℕ → Bool) → c && parityTo k f ≡ parityTo k (λ i. c && f i)
+&&-sum true k f = refl
+&&-sum false k f = sym (parityTo-zero k (λ i. false) (λ i. refl))

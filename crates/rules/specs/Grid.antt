@@ -1,0 +1,46 @@
+-- The grid buffer: one byte a point; which buffers are a grid; bytes to marks and back. Assumes nothing.
+use mathlib.Core.Bool.{Bool, true, false, not, _&&_, _||_}
+use mathlib.Core.List.{List, map}
+use Prim.Native.Nat.{ℕ, suc, _+_, _/_, _%_}
+use lib.Dec.{leb, eqb}
+use lib.ListN.{getD}
+use Rattle.rules.specs.Lists.{allOf}
+use Rattle.rules.specs.Lattice.{Axis, X, Y, Z, Point, points, pointNumber, Set, inner}
+
+-- value 1 for a marked x edge, 2 for y, 4 for z
+abbrev pub weight : Axis → ℕ
+weight X = 1
+weight Y = 2
+weight Z = 4
+
+abbrev pub value : Bool → ℕ → ℕ
+value true w = w
+value false w = 0
+
+-- one byte a point: the values of its marked edges, added
+abbrev pub byteAt : Set → Point → ℕ
+byteAt E p = value (E X p) 1 + (value (E Y p) 2 + value (E Z p) 4)
+
+-- the bytes of the points, by rising number
+unfoldable pub bytes : ℕ → Set → List ℕ
+bytes n E = map (byteAt E) (points (suc n))
+
+-- the byte has the axis' value
+abbrev pub has : Axis → ℕ → Bool
+has X b = eqb (b % 2) 1
+has Y b = eqb (b / 2 % 2) 1
+has Z b = eqb (b / 4 % 2) 1
+
+-- the edges that a buffer marks
+unfoldable pub marks : ℕ → List ℕ → Set
+marks n g a p = inner n a p && has a (getD g (pointNumber n p) 0)
+
+-- no byte above 7, and no mark on an edge that isn't inner or doesn't exist
+abbrev pub goodByte : ℕ → List ℕ → Point → Bool
+goodByte n g p =
+    let b = getD g (pointNumber n p) 0 in
+    leb b 7 && ((not (has X b) || inner n X p) && ((not (has Y b) || inner n Y p) && (not (has Z b) || inner n Z p)))
+
+-- the buffer is a grid
+unfoldable pub isGrid : ℕ → List ℕ → Bool
+isGrid n g = allOf (goodByte n g) (points (suc n))

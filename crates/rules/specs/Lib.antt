@@ -1,0 +1,9 @@
+pub mod Lists
+pub mod Lattice
+pub mod Cell
+pub mod Grid
+pub mod Rims
+pub mod Patch
+pub mod Signs
+pub mod Quads
+pub mod Condition

@@ -1,0 +1,64 @@
+-- Odd faces, rims and a rim's box. Assumes nothing.
+use mathlib.Core.Path.{_≡_}
+use mathlib.Core.Bool.{Bool, true, not, _||_}
+use mathlib.Core.List.{List, [], _∷_}
+use Prim.Native.Nat.{ℕ, min, max}
+use Rattle.rules.specs.Lists.{keep, anyOf, each}
+use Rattle.rules.specs.Lattice.{X, Y, Z, Face, Box, up, down, samePlace, places, isIn, Set, whole}
+use Rattle.rules.specs.Cell.{oddFace, ofCell}
+
+-- the odd faces of the grid, by rising point number
+unfoldable pub oddFaces : ℕ → Set → List Face
+oddFaces n E = keep (isIn (oddFace E)) (places n)
+
+-- neighbours in a chain are faces of one cell: of the one above f, or of the one below it
+abbrev pub neighbours : Face → Face → Bool
+neighbours f g = ofCell (f .at) g || ofCell (down (f .axis) (f .at)) g
+
+abbrev pub elem : Face → List Face → Bool
+elem f r = anyOf (samePlace f) r
+
+-- a chain of faces of the list from one to another, each two neighbours in it being faces of one cell
+pub data Chain (l : List Face) : Face → Face → Type 0 where
+  stay : {f : Face} → Chain l f f
+  link : {f g h : Face} → neighbours f g ≡ true → elem g l ≡ true → Chain l g h → Chain l f h
+
+-- f is the neighbour of some face of the rim
+abbrev pub joins : Face → List Face → Bool
+joins f r = anyOf (neighbours f) r
+
+-- f with the rims that it joins, as one
+abbrev pub joined : Face → List (List Face) → List Face
+joined f rs = f ∷ each (λ r. r) (keep (joins f) rs)
+
+abbrev pub add : Face → List (List Face) → List (List Face)
+add f rs = joined f rs ∷ keep (λ r. not (joins f r)) rs
+
+-- the rims of a list of faces: two belong to one rim when a chain joins them
+abbrev pub rimsOf : List Face → List (List Face)
+rimsOf [] = []
+rimsOf (f ∷ l) = add f (rimsOf l)
+
+-- the rims of the grid as it came
+unfoldable pub rims : ℕ → Set → List (List Face)
+rims n E = rimsOf (oddFaces n E)
+
+-- the box of a face's two cells
+abbrev pub ownBox : Face → Box
+ownBox f = record { lo = down (f .axis) (f .at); hi = up X (up Y (up Z (f .at))) }
+
+abbrev pub joinBox : Box → Box → Box
+joinBox b c =
+    record {
+      lo = record { i = min (b .lo .i) (c .lo .i); j = min (b .lo .j) (c .lo .j); k = min (b .lo .k) (c .lo .k) };
+      hi = record { i = max (b .hi .i) (c .hi .i); j = max (b .hi .j) (c .hi .j); k = max (b .hi .k) (c .hi .k) };
+    }
+
+abbrev pub boxFrom : Box → List Face → Box
+boxFrom b [] = b
+boxFrom b (f ∷ l) = boxFrom (joinBox b (ownBox f)) l
+
+-- a rim's box is the smallest box of cells that holds both cells of each of its faces
+abbrev pub boxOf : List Face → Box
+boxOf [] = whole 0
+boxOf (f ∷ l) = boxFrom (ownBox f) l

@@ -1,0 +1,18 @@
+-- Signs: inside or outside at each point. Assumes nothing.
+use mathlib.Core.Bool.{Bool}
+use mathlib.Core.List.{List, map}
+use Prim.Native.Nat.{ℕ, suc}
+use Rattle.rules.specs.Lists.{_⊕_, parityTo}
+use Rattle.rules.specs.Lattice.{X, Y, Z, Point, points, Set}
+use Rattle.rules.specs.Grid.{value}
+
+-- inside: an odd number of marks on the way from (0,0,0), which is outside, along x, then y, then z
+abbrev pub sign : Set → Point → Bool
+sign E p =
+    parityTo (p .i) (λ i. E X (record { i = i; j = 0; k = 0 }))
+    ⊕ (parityTo (p .j) (λ j. E Y (record { i = p .i; j = j; k = 0 }))
+    ⊕ parityTo (p .k) (λ k. E Z (record { i = p .i; j = p .j; k = k })))
+
+-- signs are one byte a point, 0 outside and 1 inside
+unfoldable pub signBytes : ℕ → Set → List ℕ
+signBytes n E = map (λ p. value (sign E p) 1) (points (suc n))
