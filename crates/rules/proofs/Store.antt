@@ -17,8 +17,8 @@ use Rattle.rules.proofs.Chains.{same-point}
 use Rattle.rules.proofs.Numbers.{points-at, number-below}
 
 -- the set that a buffer's lowest three bits hold
-abbrev pub raw : ℕ → List ℕ → Set
-raw n w a p = has a (getD w (pointNumber n p) 0)
+abbrev pub stored : ℕ → List ℕ → Set
+stored n w a p = has a (getD w (pointNumber n p) 0)
 
 pub number-inj : (n : ℕ) (p q : Point) → OfGrid n p → OfGrid n q → pointNumber n p ≡ pointNumber n q → p ≡ q
 number-inj n p q hp hq e =
@@ -27,11 +27,11 @@ number-inj n p q hp hq e =
     ∙ points-at (suc n) q p (omega arith) (omega arith) (omega arith)
 
 -- a store at q changes what is read at q alone
-pub raw-set : (n : ℕ) (w : List ℕ) (q : Point) (v : ℕ) → OfGrid n q → pointCount n ≤ length w → (a : Axis) (p : Point) → OfGrid n p →
-    raw n (set w (pointNumber n q) v) a p ≡ cond (samePoint q p) (has a v) (raw n w a p)
-raw-set n w q v hq l a p hp = go (samePoint q p) refl
+pub stored-set : (n : ℕ) (w : List ℕ) (q : Point) (v : ℕ) → OfGrid n q → pointCount n ≤ length w → (a : Axis) (p : Point) → OfGrid n p →
+    stored n (set w (pointNumber n q) v) a p ≡ cond (samePoint q p) (has a v) (stored n w a p)
+stored-set n w q v hq l a p hp = go (samePoint q p) refl
   where
-    go : (c : Bool) → samePoint q p ≡ c → has a (getD (set w (pointNumber n q) v) (pointNumber n p) 0) ≡ cond c (has a v) (raw n w a p)
+    go : (c : Bool) → samePoint q p ≡ c → has a (getD (set w (pointNumber n q) v) (pointNumber n p) 0) ≡ cond c (has a v) (stored n w a p)
     go true e =
         let b = number-below (suc n) (q .i) (q .j) (q .k) (omega arith) (omega arith) (omega arith) in
         ap (λ (r : Point). has a (getD (set w (pointNumber n q) v) (pointNumber n r) 0)) (sym (samePoint→ q p e)) ∙ ap (has a) (getD-set-same w (pointNumber n q) v 0 (omega arith))
@@ -82,10 +82,10 @@ toggle-has a c b h =
     (at-upto (λ k. allOf (λ e. allOf (λ d. turned e d k) axes) axes ≡ true) 0 256 b (allOf→ (λ k. allOf (λ e. allOf (λ d. turned e d k) axes) axes) (upto 0 256) tested) (omega arith) (omega arith)) a) c)
 
 -- (T) turning one bit of the buffer turns one member of the set
-pub raw-toggle : (n : ℕ) (w : List ℕ) (d : Axis) (q : Point) → OfGrid n q → pointCount n ≤ length w → getD w (pointNumber n q) 0 < 256 → (a : Axis) (p : Point) → OfGrid n p →
-    raw n (set w (pointNumber n q) (toggle d (getD w (pointNumber n q) 0))) a p ≡ raw n w a p ⊕ (sameAxis d a && samePoint q p)
-raw-toggle n w d q hq l h a p hp = raw-set n w q (toggle d (getD w (pointNumber n q) 0)) hq l a p hp ∙ go (samePoint q p) refl
+pub stored-toggle : (n : ℕ) (w : List ℕ) (d : Axis) (q : Point) → OfGrid n q → pointCount n ≤ length w → getD w (pointNumber n q) 0 < 256 → (a : Axis) (p : Point) → OfGrid n p →
+    stored n (set w (pointNumber n q) (toggle d (getD w (pointNumber n q) 0))) a p ≡ stored n w a p ⊕ (sameAxis d a && samePoint q p)
+stored-toggle n w d q hq l h a p hp = stored-set n w q (toggle d (getD w (pointNumber n q) 0)) hq l a p hp ∙ go (samePoint q p) refl
   where
-    go : (c : Bool) → samePoint q p ≡ c → cond c (has a (toggle d (getD w (pointNumber n q) 0))) (raw n w a p) ≡ raw n w a p ⊕ (sameAxis d a && c)
-    go true e = toggle-has d a (getD w (pointNumber n q) 0) h ∙ ap₂ _⊕_ (ap (λ (r : Point). raw n w a r) (samePoint→ q p e)) (sym (&&-true (sameAxis d a)))
-    go false e = sym (ap (λ (b : Bool). raw n w a p ⊕ b) (&&-false (sameAxis d a)) ∙ ⊕-false (raw n w a p))
+    go : (c : Bool) → samePoint q p ≡ c → cond c (has a (toggle d (getD w (pointNumber n q) 0))) (stored n w a p) ≡ stored n w a p ⊕ (sameAxis d a && c)
+    go true e = toggle-has d a (getD w (pointNumber n q) 0) h ∙ ap₂ _⊕_ (ap (λ (r : Point). stored n w a r) (samePoint→ q p e)) (sym (&&-true (sameAxis d a)))
+    go false e = sym (ap (λ (b : Bool). stored n w a p ⊕ b) (&&-false (sameAxis d a)) ∙ ⊕-false (stored n w a p))

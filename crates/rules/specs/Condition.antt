@@ -11,9 +11,9 @@ use Rattle.rules.specs.Signs.{sign}
 
 -- a point of the grid
 pub record OfGrid (n : ℕ) (p : Point) : Type 0 where
-  pub i-in : p .i ≤ n
-  pub j-in : p .j ≤ n
-  pub k-in : p .k ≤ n
+  pub i : p .i ≤ n
+  pub j : p .j ≤ n
+  pub k : p .k ≤ n
 
 -- a route from point to point along edges of the grid, up or down each, with the list of the edges met
 pub data Route (n : ℕ) : Point → Point → List Edge → Type 0 where

@@ -1,0 +1,12 @@
+use Rattle.halving.proofs.upper_half.Tie as tie
+use borrow.Author.Needs.{needs}
+use Rattle.halving.proofs.upper_half.Statement.{statement}
+
+with-requires : tie.Need-with-requires
+with-requires c κs = search needs
+
+returns : tie.Need-returns
+returns c = rw (c .with .ensures)
+
+pub upper-half-spec : {M : Type 1} → statement M
+upper-half-spec = tie.close (tie.spec with-requires returns)

@@ -1,0 +1,77 @@
+-- The scan of a cut plane, and what the code asks of boxes and edges. Assumes nothing.
+use mathlib.Core.Bool.{true, false, cond}
+use mathlib.Core.List.{List, [], _∷_, map}
+use Prim.Native.Nat.{ℕ, zero, suc, _+_, _≤_, _<_}
+use Rattle.rules.specs.Lists.{upto}
+use Rattle.rules.specs.declared.Axis.{Axis}
+use Rattle.rules.specs.declared.Place.{Place}
+use Rattle.rules.specs.declared.Box.{Box}
+use Rattle.rules.specs.declared.Spot.{Spot}
+use Rattle.rules.specs.Lattice.{earlier, later, coord, up, pointAt}
+use Rattle.rules.specs.Patch.{path}
+use Rattle.rules.proofs.Store.{stored}
+use Rattle.rules.specs.Condition.{OfGrid}
+use Rattle.lattice.specs.Cells.{turns, works}
+use Rattle.halving.specs.declared.Held.{Held}
+
+-- an inner edge
+pub record Edged (n : ℕ) (e : Place) : Type 0 where
+  pub in-grid : OfGrid n (e .at)
+  pub one : 1 ≤ coord (earlier (e .axis)) (e .at)
+  pub two : 1 ≤ coord (later (e .axis)) (e .at)
+
+-- k inner edges in a row along b
+pub record Run (n : ℕ) (b : Axis) (k : ℕ) (e : Place) : Type 0 where
+  pub fits : coord b (e .at) + k ≤ n + 1
+  pub next : coord (earlier b) (e .at) ≤ n
+  pub last : coord (later b) (e .at) ≤ n
+  pub one : 1 ≤ coord (earlier (e .axis)) (e .at)
+  pub two : 1 ≤ coord (later (e .axis)) (e .at)
+
+abbrev pub ahead : Axis → Place → Place
+ahead b e = record { axis = e .axis; at = up b (e .at) }
+
+abbrev pub along : Axis → ℕ → Place → List Place
+along b zero e = []
+along b (suc k) e = e ∷ along b k (ahead b e)
+
+-- the scan: the place that waits for a partner, if one does, and the two buffers
+pub record Scan : Type 0 where
+  pub held : Held
+  pub grid : List ℕ
+  pub work : List ℕ
+
+abbrev pub idle : Spot → Held
+idle q = record { has = false; at = q }
+
+abbrev pub waits : Spot → Held
+waits q = record { has = true; at = q }
+
+unfoldable pub pairOf : ℕ → Axis → ℕ → Spot → Scan → Scan
+pairOf n a m q s =
+    cond (stored n (s .work) a (pointAt a m (q .u) (q .v)))
+        (cond (s .held .has)
+            (record { held = idle q; grid = turns n (path a m (s .held .at) q) (s .grid); work = works n (path a m (s .held .at) q) (s .work) })
+            (record { held = waits q; grid = s .grid; work = s .work }))
+        s
+
+abbrev pub scanAll : ℕ → Axis → ℕ → List Spot → Scan → Scan
+scanAll n a m [] s = s
+scanAll n a m (q ∷ l) s = scanAll n a m l (pairOf n a m q s)
+
+-- a place of the plane m square to a, one that lies in the grid
+pub record Placed (n : ℕ) (q : Spot) : Type 0 where
+  pub u : q .u < n
+  pub v : q .v < n
+
+-- a box of cells of the grid
+pub record Fits (n : ℕ) (b : Box) : Type 0 where
+  pub i : b .lo .i < b .hi .i
+  pub j : b .lo .j < b .hi .j
+  pub k : b .lo .k < b .hi .k
+  pub hx : b .hi .i ≤ n
+  pub hy : b .hi .j ≤ n
+  pub hz : b .hi .k ≤ n
+
+abbrev pub rowOf : ℕ → ℕ → ℕ → List Spot
+rowOf u k v = map (λ i. record { u = i; v = v }) (upto u k)

@@ -1,0 +1,85 @@
+-- A cell's faces and edges, and turns of members of a set that a buffer's lowest three bits hold. Assumes nothing.
+use mathlib.Core.List.{List, [], _∷_}
+use Prim.Native.Nat.{ℕ, zero, suc, _+_, _/_, _≤_, _<_}
+use lib.ListN.{getD, set}
+use Rattle.rules.specs.Lists.{each}
+use Rattle.rules.specs.declared.Axis.{Axis}
+use Rattle.rules.specs.declared.Axis.the-variants.{X, Y, Z}
+use Rattle.rules.specs.declared.Point.{Point}
+use Rattle.rules.specs.declared.Place.{Place}
+use Rattle.rules.specs.Lattice.{earlier, later, up, down, Set, pointNumber}
+use Rattle.rules.specs.Grid.{has}
+use Rattle.rules.proofs.Store.{toggle}
+
+-- 0, 1, 2 are x, y, z
+abbrev pub axisOf : ℕ → Axis
+axisOf zero = X
+axisOf (suc zero) = Y
+axisOf (suc (suc a)) = Z
+
+abbrev pub indexOf : Axis → ℕ
+indexOf X = 0
+indexOf Y = 1
+indexOf Z = 2
+
+abbrev pub at : ℕ → ℕ → ℕ → Point
+at x y z = record { i = x; j = y; k = z }
+
+-- the faces of the cell at (0,0,0): the three lower ones, then the three upper ones
+unfoldable pub faceRule : ℕ → Place
+faceRule zero = record { axis = X; at = at 0 0 0 }
+faceRule (suc zero) = record { axis = Y; at = at 0 0 0 }
+faceRule (suc (suc zero)) = record { axis = Z; at = at 0 0 0 }
+faceRule (suc (suc (suc zero))) = record { axis = X; at = at 1 0 0 }
+faceRule (suc (suc (suc (suc zero)))) = record { axis = Y; at = at 0 1 0 }
+faceRule (suc (suc (suc (suc (suc f))))) = record { axis = Z; at = at 0 0 1 }
+
+-- the four edges of its face f
+unfoldable pub faceEdge : Place → ℕ → Place
+faceEdge f zero = record { axis = earlier (f .axis); at = f .at }
+faceEdge f (suc zero) = record { axis = earlier (f .axis); at = up (later (f .axis)) (f .at) }
+faceEdge f (suc (suc zero)) = record { axis = later (f .axis); at = f .at }
+faceEdge f (suc (suc (suc s))) = record { axis = later (f .axis); at = up (earlier (f .axis)) (f .at) }
+
+-- the face or edge e of the cell at (0,0,0), moved to the cell c
+abbrev pub moved : Point → Place → Place
+moved c e = record { axis = e .axis; at = at (c .i + e .at .i) (c .j + e .at .j) (c .k + e .at .k) }
+
+unfoldable pub faceOf : ℕ → Point → Place
+faceOf f c = moved c (faceRule f)
+
+unfoldable pub edgeOf : ℕ → ℕ → Point → Place
+edgeOf f s c = moved c (faceEdge (faceRule f) s)
+
+-- coordinates that are at most n
+pub record OfGrid (n : ℕ) (p : Point) : Type 0 where
+  pub i : p .i ≤ n
+  pub j : p .j ≤ n
+  pub k : p .k ≤ n
+
+-- a cell of the grid
+pub record Cell (n : ℕ) (p : Point) : Type 0 where
+  pub i : p .i < n
+  pub j : p .j < n
+  pub k : p .k < n
+
+-- the marks as they came, in the bits 8, 16, 32 of the grid's bytes
+abbrev pub old : ℕ → List ℕ → Set
+old n g a p = has a (getD g (pointNumber n p) 0 / 8)
+
+-- one member turned
+unfoldable pub turnOne : ℕ → Place → List ℕ → List ℕ
+turnOne n f s = set s (pointNumber n (f .at)) (toggle (f .axis) (getD s (pointNumber n (f .at)) 0))
+
+abbrev pub turns : ℕ → List Place → List ℕ → List ℕ
+turns n [] s = s
+turns n (f ∷ l) s = turns n l (turnOne n f s)
+
+-- the four faces of an edge: two of the cell above it, two of the cell below it
+abbrev pub facesOf : Place → List Place
+facesOf e =
+    record { axis = earlier (e .axis); at = e .at } ∷ (record { axis = later (e .axis); at = e .at }
+    ∷ (record { axis = earlier (e .axis); at = down (later (e .axis)) (e .at) } ∷ (record { axis = later (e .axis); at = down (earlier (e .axis)) (e .at) } ∷ [])))
+
+abbrev pub works : ℕ → List Place → List ℕ → List ℕ
+works n l s = turns n (each facesOf l) s

@@ -1,0 +1,225 @@
+// The cell's table, a point's number, and the bits of a buffer.
+use rules::Place;
+use rules::Axis;
+use rules::Point;
+ghost use mathlib.Core.Path.{_≡_};
+ghost use Prim.Native.Nat.{_≤_, _<_, _+_, _*_, _/_};
+ghost use lib.ListN.{length, getD};
+ghost use Rattle.rules.specs.Lists.{_⊕_};
+ghost use Rattle.rules.specs.declared.Axis.the-variants.{X, Y, Z};
+ghost use Rattle.rules.specs.Lattice.{earlier, later, pointNumber, pointCount};
+ghost use Rattle.rules.specs.Grid.{has};
+ghost use Rattle.rules.specs.Cell.{oddFace};
+ghost use Rattle.rules.proofs.Store.{toggle};
+ghost use Rattle.lattice.specs.Cells.{indexOf, faceRule, faceEdge, moved, faceOf, edgeOf, Cell, old, turnOne};
+ghost use Rattle.rules.specs.Condition.{OfGrid};
+
+// The cell's six faces: the three lower ones, then the three upper ones.
+const FACES: [Place; 6] = [
+    Place { axis: Axis::X, at: Point { i: 0, j: 0, k: 0 } },
+    Place { axis: Axis::Y, at: Point { i: 0, j: 0, k: 0 } },
+    Place { axis: Axis::Z, at: Point { i: 0, j: 0, k: 0 } },
+    Place { axis: Axis::X, at: Point { i: 1, j: 0, k: 0 } },
+    Place { axis: Axis::Y, at: Point { i: 0, j: 1, k: 0 } },
+    Place { axis: Axis::Z, at: Point { i: 0, j: 0, k: 1 } },
+];
+
+// Its twelve edges.
+const EDGES: [Place; 12] = [
+    Place { axis: Axis::X, at: Point { i: 0, j: 0, k: 0 } },
+    Place { axis: Axis::X, at: Point { i: 0, j: 1, k: 0 } },
+    Place { axis: Axis::X, at: Point { i: 0, j: 0, k: 1 } },
+    Place { axis: Axis::X, at: Point { i: 0, j: 1, k: 1 } },
+    Place { axis: Axis::Y, at: Point { i: 0, j: 0, k: 0 } },
+    Place { axis: Axis::Y, at: Point { i: 1, j: 0, k: 0 } },
+    Place { axis: Axis::Y, at: Point { i: 0, j: 0, k: 1 } },
+    Place { axis: Axis::Y, at: Point { i: 1, j: 0, k: 1 } },
+    Place { axis: Axis::Z, at: Point { i: 0, j: 0, k: 0 } },
+    Place { axis: Axis::Z, at: Point { i: 1, j: 0, k: 0 } },
+    Place { axis: Axis::Z, at: Point { i: 0, j: 1, k: 0 } },
+    Place { axis: Axis::Z, at: Point { i: 1, j: 1, k: 0 } },
+];
+
+// The four edges of each face, by their place in EDGES.
+const FACE_EDGES: [usize; 24] = [
+    4, 6, 8, 10, 0, 2, 8, 9, 0, 1, 4, 5, 5, 7, 9, 11, 1, 3, 10, 11, 2, 3, 6, 7,
+];
+
+// The number of a point.
+pub fn number_of(n: usize, p: Point) -> usize
+    requires { ⌜ (n ≤ 32) × OfGrid n p ⌝ }
+    ensures { λ r. ⌜ (r ≡ pointNumber n p) × (r < pointCount n) ⌝ }
+{
+    p.i + (n + 1) * (p.j + (n + 1) * p.k)
+}
+
+pub fn earlier(a: Axis) -> Axis
+    ensures { λ r. ⌜ r ≡ earlier a ⌝ }
+{
+    match a {
+        Axis::X => Axis::Y,
+        Axis::Y => Axis::X,
+        Axis::Z => Axis::X,
+    }
+}
+
+pub fn later(a: Axis) -> Axis
+    ensures { λ r. ⌜ r ≡ later a ⌝ }
+{
+    match a {
+        Axis::X => Axis::Z,
+        Axis::Y => Axis::Z,
+        Axis::Z => Axis::Y,
+    }
+}
+
+pub fn index(a: Axis) -> usize
+    ensures { λ r. ⌜ (r ≡ indexOf a) × (r < 3) ⌝ }
+{
+    match a {
+        Axis::X => 0,
+        Axis::Y => 1,
+        Axis::Z => 2,
+    }
+}
+
+// Whether a byte has the member of an axis.
+pub fn bit(b: u8, a: Axis) -> bool
+    ensures { λ r. ⌜ r ≡ has a b ⌝ }
+{
+    match a {
+        Axis::X => b % 2 == 1,
+        Axis::Y => b / 2 % 2 == 1,
+        Axis::Z => b / 4 % 2 == 1,
+    }
+}
+
+fn turn_x(b: u8) -> u8
+    ensures { λ r. ⌜ r ≡ toggle X b ⌝ }
+{
+    if b % 2 == 1 {
+        return b - 1;
+    }
+    b + 1
+}
+
+fn turn_y(b: u8) -> u8
+    ensures { λ r. ⌜ r ≡ toggle Y b ⌝ }
+{
+    if b / 2 % 2 == 1 {
+        return b - 2;
+    }
+    b + 2
+}
+
+fn turn_z(b: u8) -> u8
+    ensures { λ r. ⌜ r ≡ toggle Z b ⌝ }
+{
+    if b / 4 % 2 == 1 {
+        return b - 4;
+    }
+    b + 4
+}
+
+fn turned(b: u8, a: Axis) -> u8
+    ensures { λ r. ⌜ r ≡ toggle a b ⌝ }
+{
+    match a {
+        Axis::X => turn_x(b),
+        Axis::Y => turn_y(b),
+        Axis::Z => turn_z(b),
+    }
+}
+
+// Turns one member of the set that a buffer's lowest three bits hold.
+pub fn turn(n: usize, s: &mut [u8], f: Place)
+    requires { ⌜ (n ≤ 32) × (pointCount n ≤ length (now s)) × OfGrid n (f .at) ⌝ }
+    ensures { λ _. ⌜ now (s .exit) ≡ turnOne n f (now (s .entry)) ⌝ }
+{
+    let at = number_of(n, f.at);
+    let a = f.axis;
+    let v = turned(s[at], a);
+    s[at] = v;
+}
+
+// Whether the set that a buffer's lowest three bits hold has a member.
+pub fn member(n: usize, s: &[u8], f: Place) -> bool
+    requires { ⌜ (n ≤ 32) × (pointCount n ≤ length (now s)) × OfGrid n (f .at) ⌝ }
+    ensures { λ r. ⌜ r ≡ has (f .axis) (getD (now (s .entry)) (pointNumber n (f .at)) 0) ⌝ }
+{
+    let at = number_of(n, f.at);
+    let a = f.axis;
+    bit(s[at], a)
+}
+
+// Whether an edge had a mark when the call began.
+pub fn marked(n: usize, grid: &[u8], e: Place) -> bool
+    requires { ⌜ (n ≤ 32) × (pointCount n ≤ length (now grid)) × OfGrid n (e .at) ⌝ }
+    ensures { λ r. ⌜ r ≡ old n (now (grid .entry)) (e .axis) (e .at) ⌝ }
+{
+    let at = number_of(n, e.at);
+    let a = e.axis;
+    bit(grid[at] / 8, a)
+}
+
+fn face_rule(f: usize) -> Place
+    requires { ⌜ f < 6 ⌝ }
+    ensures { λ r. ⌜ r ≡ faceRule f ⌝ }
+{
+    FACES[f]
+}
+
+fn edge_rule(f: usize, s: usize) -> Place
+    requires { ⌜ (f < 6) × (s < 4) ⌝ }
+    ensures { λ r. ⌜ r ≡ faceEdge (faceRule f) s ⌝ }
+{
+    let k = FACE_EDGES[f * 4 + s];
+    EDGES[k]
+}
+
+fn move_to(n: usize, c: Point, e: Place) -> Place
+    requires { ⌜ (n ≤ 32) × OfGrid n c × OfGrid 1 (e .at) ⌝ }
+    ensures { λ r. ⌜ r ≡ moved c e ⌝ }
+{
+    let o = e.at;
+    let a = e.axis;
+    let p = Point { i: c.i + o.i, j: c.j + o.j, k: c.k + o.k };
+    Place { axis: a, at: p }
+}
+
+// Face f of the cell c.
+pub fn face(n: usize, c: Point, f: usize) -> Place
+    requires { ⌜ (n ≤ 32) × OfGrid n c × (f < 6) ⌝ }
+    ensures { λ r. ⌜ r ≡ faceOf f c ⌝ }
+{
+    move_to(n, c, face_rule(f))
+}
+
+// Edge s of the face f of the cell c.
+pub fn edge(n: usize, c: Point, f: usize, s: usize) -> Place
+    requires { ⌜ (n ≤ 32) × OfGrid n c × (f < 6) × (s < 4) ⌝ }
+    ensures { λ r. ⌜ r ≡ edgeOf f s c ⌝ }
+{
+    move_to(n, c, edge_rule(f, s))
+}
+
+fn differ(a: bool, b: bool) -> bool
+    ensures { λ r. ⌜ r ≡ a ⊕ b ⌝ }
+{
+    if a {
+        return !b;
+    }
+    b
+}
+
+// Whether the face f of the cell c was odd when the call began.
+pub fn odd(n: usize, grid: &[u8], c: Point, f: usize) -> bool
+    requires { ⌜ (n ≤ 32) × (pointCount n ≤ length (now grid)) × Cell n c × (f < 6) ⌝ }
+    ensures { λ r. ⌜ r ≡ oddFace (old n (now (grid .entry))) (faceOf f c .axis) (faceOf f c .at) ⌝ }
+{
+    let p = marked(n, grid, edge(n, c, f, 0));
+    let q = marked(n, grid, edge(n, c, f, 1));
+    let r = marked(n, grid, edge(n, c, f, 2));
+    let s = marked(n, grid, edge(n, c, f, 3));
+    differ(differ(p, q), differ(r, s))
+}

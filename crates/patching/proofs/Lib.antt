@@ -1,0 +1,5 @@
+pub mod PaintLaws
+pub mod Rim
+pub mod Next
+pub mod Cover
+pub mod Ends

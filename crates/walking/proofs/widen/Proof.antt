@@ -1,0 +1,49 @@
+use Rattle.walking.proofs.widen.Tie as tie
+use borrow.Author.Needs.{needs}
+use Rattle.walking.proofs.widen.Statement.{statement}
+use native.Mathlib.Numerals.{add-one}
+
+least-requires : tie.Need-least-requires
+least-requires c κs = search needs
+
+least-requires-2 : tie.Need-least-requires-2
+least-requires-2 c κs = search needs
+
+least-requires-3 : tie.Need-least-requires-3
+least-requires-3 c κs = search needs
+
+add-most : tie.Need-add-most
+add-most c = search needs
+
+most-requires : tie.Need-most-requires
+most-requires c κs = search needs
+
+add-most-2 : tie.Need-add-most-2
+add-most-2 c = search needs
+
+most-requires-2 : tie.Need-most-requires-2
+most-requires-2 c κs = search needs
+
+add-most-3 : tie.Need-add-most-3
+add-most-3 c = search needs
+
+most-requires-3 : tie.Need-most-requires-3
+most-requires-3 c κs = search needs
+
+returns : tie.Need-returns
+returns c = rw (c .before .before .before .before .before .before .before .before .least .ensures, c .before .before .before .before .before .before .before .least2 .ensures, c .before .before .before .before .before .before .least3 .ensures, c .before .before .before .before .most .ensures, c .before .before .most2 .ensures, c .most3 .ensures) (simp add-one)
+
+pub widen-spec : {M : Type 1} → statement M
+widen-spec =
+    tie.close
+    (tie.spec
+    least-requires
+    least-requires-2
+    least-requires-3
+    add-most
+    most-requires
+    add-most-2
+    most-requires-2
+    add-most-3
+    most-requires-3
+    returns)
