@@ -70,11 +70,12 @@ pub record Running (n : ℕ) (b : Axis) (count : ℕ) (e : Place) (g₀ w₀ : L
 pub running-on : (n : ℕ) (b : Axis) (count : ℕ) (e : Place) (g₀ w₀ : List ℕ) (k : ℕ) (at : Place) (g w : List ℕ) → Running n b count e g₀ w₀ k at g w → 1 ≤ k →
     (at′ : Place) (g′ w′ : List ℕ) → at′ ≡ ahead b at → g′ ≡ turns n (at ∷ []) g → w′ ≡ works n (at ∷ []) w → Running n b count e g₀ w₀ (k - 1) at′ g′ w′
 running-on n b count e g₀ w₀ k at g w h l at′ g′ w′ ea eg ew = record {
-    run = subst (Run n b (k - 1)) (sym ea) (run-next n b k at (h .run) l);
-    grid = ap₂ (λ (x : Place) (s : List ℕ). turns n (along b (k - 1) x) s) ea eg ∙ sym (turns-append n (at ∷ []) (along b (k - 1) (ahead b at)) g) ∙ ap (λ (m : List Place). turns n m g) (sym (along-step b k at l)) ∙ h .grid;
-    work = ap₂ (λ (x : Place) (s : List ℕ). works n (along b (k - 1) x) s) ea ew ∙ sym (works-append n (at ∷ []) (along b (k - 1) (ahead b at)) w) ∙ ap (λ (m : List Place). works n m w) (sym (along-step b k at l)) ∙ h .work;
-    g-long = ap length eg ∙ turns-length n (at ∷ []) g ∙ h .g-long;
-    w-long = ap length ew ∙ turns-length n (each facesOf (at ∷ [])) w ∙ h .w-long }
+  run = subst (Run n b (k - 1)) (sym ea) (run-next n b k at (h .run) l);
+  grid = ap₂ (λ (x : Place) (s : List ℕ). turns n (along b (k - 1) x) s) ea eg ∙ sym (turns-append n (at ∷ []) (along b (k - 1) (ahead b at)) g) ∙ ap (λ (m : List Place). turns n m g) (sym (along-step b k at l)) ∙ h .grid;
+  work = ap₂ (λ (x : Place) (s : List ℕ). works n (along b (k - 1) x) s) ea ew ∙ sym (works-append n (at ∷ []) (along b (k - 1) (ahead b at)) w) ∙ ap (λ (m : List Place). works n m w) (sym (along-step b k at l)) ∙ h .work;
+  g-long = ap length eg ∙ turns-length n (at ∷ []) g ∙ h .g-long;
+  w-long = ap length ew ∙ turns-length n (each facesOf (at ∷ [])) w ∙ h .w-long;
+}
 
 -- ---- the path as two runs
 steps-u : (a : Axis) (m v i k : ℕ) → map (λ j. record { axis = later a; at = pointAt a m j v }) (upto i k) ≡ along (earlier a) k (record { axis = later a; at = pointAt a m i v })
@@ -96,8 +97,8 @@ second-run a m p q = along (later a) (max (p .v) (q .v) - min (p .v) (q .v)) (re
 pub path-runs : (a : Axis) (m : ℕ) (p q : Spot) → path a m p q ≡ first-run a m p q ++ second-run a m p q
 path-runs a m p q =
     ap₂ (λ (x y : List Place). x ++ y)
-        (steps-u a m (p .v) (suc (min (p .u) (q .u))) (max (p .u) (q .u) - min (p .u) (q .u)) ∙ ap (λ (k : ℕ). along (earlier a) (max (p .u) (q .u) - min (p .u) (q .u)) (record { axis = later a; at = pointAt a m k (p .v) })) (sym (add-one (min (p .u) (q .u)))))
-        (steps-v a m (q .u) (suc (min (p .v) (q .v))) (max (p .v) (q .v) - min (p .v) (q .v)) ∙ ap (λ (k : ℕ). along (later a) (max (p .v) (q .v) - min (p .v) (q .v)) (record { axis = earlier a; at = pointAt a m (q .u) k })) (sym (add-one (min (p .v) (q .v)))))
+    (steps-u a m (p .v) (suc (min (p .u) (q .u))) (max (p .u) (q .u) - min (p .u) (q .u)) ∙ ap (λ (k : ℕ). along (earlier a) (max (p .u) (q .u) - min (p .u) (q .u)) (record { axis = later a; at = pointAt a m k (p .v) })) (sym (add-one (min (p .u) (q .u)))))
+    (steps-v a m (q .u) (suc (min (p .v) (q .v))) (max (p .v) (q .v) - min (p .v) (q .v)) ∙ ap (λ (k : ℕ). along (later a) (max (p .v) (q .v) - min (p .v) (q .v)) (record { axis = earlier a; at = pointAt a m (q .u) k })) (sym (add-one (min (p .v) (q .v)))))
 
 module _ (n : ℕ) (a : Axis) (m : ℕ) (l₁ : 1 ≤ m) (l₂ : m ≤ n) (p q : Spot) (hp : Placed n p) (hq : Placed n q) where
   pub run-1 : Run n (earlier a) (max (p .u) (q .u) - min (p .u) (q .u)) (record { axis = later a; at = pointAt a m (min (p .u) (q .u) + 1) (p .v) })
@@ -163,11 +164,12 @@ module _ (n : ℕ) (a : Axis) (m : ℕ) (l₁ : 1 ≤ m) (l₂ : m ≤ n) (W : S
 
   reads-on : (p q : Spot) (w : List ℕ) → Placed n p → Placed n q → pointCount n ≤ length w → (l : List Spot) → All (Placed n) l → Away p l → Away q l → Reads w l → Reads (works n (path a m p q) w) l
   reads-on p q w hp hq k [] hl ap′ aq r = tt
-  reads-on p q w hp hq k (x ∷ l) hl ap′ aq r =
-      (stored-works n (path a m p q) w (path-edged n a m l₁ l₂ p q hp hq) k a (pointAt a m (x .u) (x .v)) (placed-low n a m x l₂ (hl .0))
-       ∙ ap (λ (b : Bool). stored n w a (pointAt a m (x .u) (x .v)) ⊕ b) (path-ends a m p q (x .u) (x .v) ∙ ap₂ _⊕_ (ap′ .0) (aq .0))
-       ∙ ⊕-false (stored n w a (pointAt a m (x .u) (x .v))) ∙ r .0
-      , reads-on p q w hp hq k l (hl .1) (ap′ .1) (aq .1) (r .1))
+  reads-on p q w hp hq k (x ∷ l) hl ap′ aq r = (
+    stored-works n (path a m p q) w (path-edged n a m l₁ l₂ p q hp hq) k a (pointAt a m (x .u) (x .v)) (placed-low n a m x l₂ (hl .0))
+        ∙ ap (λ (b : Bool). stored n w a (pointAt a m (x .u) (x .v)) ⊕ b) (path-ends a m p q (x .u) (x .v) ∙ ap₂ _⊕_ (ap′ .0) (aq .0))
+        ∙ ⊕-false (stored n w a (pointAt a m (x .u) (x .v))) ∙ r .0,
+    reads-on p q w hp hq k l (hl .1) (ap′ .1) (aq .1) (r .1),
+  )
 
   pub scan-is : (l : List Spot) (s : Scan) → All (Placed n) l → Apart l → Reads (s .work) l → HeldOk n (s .held) l → pointCount n ≤ length (s .work) →
       (scanAll n a m l s .grid ≡ turns n (paths a m (heldL (s .held) (keep W l))) (s .grid)) × (scanAll n a m l s .work ≡ works n (paths a m (heldL (s .held) (keep W l))) (s .work))
@@ -180,27 +182,31 @@ module _ (n : ℕ) (a : Axis) (m : ℕ) (l₁ : 1 ≤ m) (l₂ : m ≤ n) (W : S
     where
       p : Spot
       p = s .held .at
+
       Goal : Scan → List Spot → Type 0
       Goal t k = (scanAll n a m l t .grid ≡ turns n (paths a m k) (s .grid)) × (scanAll n a m l t .work ≡ works n (paths a m k) (s .work))
+
       IH : Type 0
       IH = (t : Scan) → All (Placed n) l → Apart l → Reads (t .work) l → HeldOk n (t .held) l → pointCount n ≤ length (t .work) →
           (scanAll n a m l t .grid ≡ turns n (paths a m (heldL (t .held) (keep W l))) (t .grid)) × (scanAll n a m l t .work ≡ works n (paths a m (heldL (t .held) (keep W l))) (t .work))
+
       tail : HeldOk n (s .held) l
       tail e = (hh e .0, hh e .1 .1)
+
       go : (x : Bool) → stored n (s .work) a (pointAt a m (q .u) (q .v)) ≡ x → (y : Bool) → s .held .has ≡ y → IH → Goal (pairOf n a m q s) (cond (s .held .has) (p ∷ cond x (q ∷ keep W l) (keep W l)) (cond x (q ∷ keep W l) (keep W l)))
       go false e y f ih = subst (λ (t : Scan). Goal t (heldL (s .held) (keep W l))) (sym (pair-pass n a m q s e)) (ih s (hl .1) (ha .1) (hr .1) tail k)
       go true e false f ih = subst (λ (t : Scan). Goal t (cond (s .held .has) (p ∷ (q ∷ keep W l)) (q ∷ keep W l))) (sym (pair-wait n a m q s e f))
           (subst (λ (b : Bool). Goal (record { held = waits q; grid = s .grid; work = s .work }) (cond b (p ∷ (q ∷ keep W l)) (q ∷ keep W l))) (sym f)
-              (ih (record { held = waits q; grid = s .grid; work = s .work }) (hl .1) (ha .1) (hr .1) (λ u. (hl .0, ha .0)) k))
+          (ih (record { held = waits q; grid = s .grid; work = s .work }) (hl .1) (ha .1) (hr .1) (λ u. (hl .0, ha .0)) k))
       go true e true f ih =
           let hp = hh f .0 in
           let w′ = works n (path a m p q) (s .work) in
           let len = turns-length n (each facesOf (path a m p q)) (s .work) in
           let r = ih (record { held = idle q; grid = turns n (path a m p q) (s .grid); work = w′ }) (hl .1) (ha .1)
-                  (reads-on p q (s .work) hp (hl .0) k l (hl .1) (hh f .1 .1) (ha .0) (hr .1)) (λ u. absurd (false≢true u)) (omega arith) in
+          (reads-on p q (s .work) hp (hl .0) k l (hl .1) (hh f .1 .1) (ha .0) (hr .1)) (λ u. absurd (false≢true u)) (omega arith) in
           subst (λ (t : Scan). Goal t (cond (s .held .has) (p ∷ (q ∷ keep W l)) (q ∷ keep W l))) (sym (pair-join n a m q s e f))
           (subst (λ (b : Bool). Goal (record { held = idle q; grid = turns n (path a m p q) (s .grid); work = w′ }) (cond b (p ∷ (q ∷ keep W l)) (q ∷ keep W l))) (sym f)
-              (r .0 ∙ sym (turns-append n (path a m p q) (paths a m (keep W l)) (s .grid)), r .1 ∙ sym (works-append n (path a m p q) (paths a m (keep W l)) (s .work))))
+          (r .0 ∙ sym (turns-append n (path a m p q) (paths a m (keep W l)) (s .grid)), r .1 ∙ sym (works-append n (path a m p q) (paths a m (keep W l)) (s .work))))
 
 -- ---- the places of a plane are apart and lie in the grid
 apart-append : (l m : List Spot) → Apart l → Apart m → All (λ q. Away q m) l → Apart (l ++ m)
@@ -215,17 +221,18 @@ differ-v i j u w h = ap (λ (b : Bool). eqb i j && b) (eqb-no u w h) ∙ &&-fals
 
 apart-row : (u k v : ℕ) → Apart (rowOf u k v)
 apart-row u zero v = tt
-apart-row u (suc k) v =
-    (all-map (λ r. sameSpot (record { u = u; v = v }) r ≡ false) (λ i. record { u = i; v = v }) (upto (suc u) k) (all-weaken (Bounds (suc u) (suc u + k)) _ (λ i h. differ-u u i v (λ e. let z : ⊥ = omega arith in z)) (upto (suc u) k) (all-upto (suc u) k))
-    , apart-row (suc u) k v)
+apart-row u (suc k) v = (
+  all-map (λ r. sameSpot (record { u = u; v = v }) r ≡ false) (λ i. record { u = i; v = v }) (upto (suc u) k) (all-weaken (Bounds (suc u) (suc u + k)) _ (λ i h. differ-u u i v (λ e. let z : ⊥ = omega arith in z)) (upto (suc u) k) (all-upto (suc u) k)),
+  apart-row (suc u) k v,
+)
 
 apart-rows : (u k v j : ℕ) → Apart (each (λ i. rowOf u k i) (upto v j))
 apart-rows u k v zero = tt
 apart-rows u k v (suc j) = apart-append (rowOf u k v) (each (λ i. rowOf u k i) (upto (suc v) j)) (apart-row u k v) (apart-rows u k (suc v) j)
     (all-map (λ q. Away q (each (λ i. rowOf u k i) (upto (suc v) j))) (λ i. record { u = i; v = v }) (upto u k)
-        (all-weaken (Bounds u (u + k)) _ (λ i h. all-each (λ r. sameSpot (record { u = i; v = v }) r ≡ false) (λ w. rowOf u k w) (upto (suc v) j)
-            (all-weaken (Bounds (suc v) (suc v + j)) _ (λ w g. all-map (λ r. sameSpot (record { u = i; v = v }) r ≡ false) (λ x. record { u = x; v = w }) (upto u k)
-                (all-weaken (Bounds u (u + k)) _ (λ x y. differ-v i x v w (λ e. let z : ⊥ = omega arith in z)) (upto u k) (all-upto u k))) (upto (suc v) j) (all-upto (suc v) j))) (upto u k) (all-upto u k)))
+    (all-weaken (Bounds u (u + k)) _ (λ i h. all-each (λ r. sameSpot (record { u = i; v = v }) r ≡ false) (λ w. rowOf u k w) (upto (suc v) j)
+    (all-weaken (Bounds (suc v) (suc v + j)) _ (λ w g. all-map (λ r. sameSpot (record { u = i; v = v }) r ≡ false) (λ x. record { u = x; v = w }) (upto u k)
+    (all-weaken (Bounds u (u + k)) _ (λ x y. differ-v i x v w (λ e. let z : ⊥ = omega arith in z)) (upto u k) (all-upto u k))) (upto (suc v) j) (all-upto (suc v) j))) (upto u k) (all-upto u k)))
 
 fits-coord : (n : ℕ) (b : Box) (a : Axis) → Fits n b → coord a (b .hi) ≤ n
 fits-coord n b X h = h .hx
@@ -343,14 +350,15 @@ module _ (n : ℕ) (b : Box) (h : Fits n b) (o : oneCell b ≡ false) (a : Axis)
         cut-eq c j ec ej =
             subst (λ (i : ℕ). patchOf b (stored n w) ≡ cut b (stored n w) c i ++ (patchOf (lower b c i) (symdiff (stored n w) (oddFace (setOf (cut b (stored n w) c i)))) ++ patchOf (upper b c i) (symdiff (symdiff (stored n w) (oddFace (setOf (cut b (stored n w) c i)))) (oddFace (setOf (patchOf (lower b c i) (symdiff (stored n w) (oddFace (setOf (cut b (stored n w) c i)))))))))) (sym ej)
             (subst (λ (x : Axis). patchOf b (stored n w) ≡ cut b (stored n w) x (middle b x) ++ (patchOf (lower b x (middle b x)) (symdiff (stored n w) (oddFace (setOf (cut b (stored n w) x (middle b x))))) ++ patchOf (upper b x (middle b x)) (symdiff (symdiff (stored n w) (oddFace (setOf (cut b (stored n w) x (middle b x))))) (oddFace (setOf (patchOf (lower b x (middle b x)) (symdiff (stored n w) (oddFace (setOf (cut b (stored n w) x (middle b x))))))))))) (sym ec)
-                (patchOf-cut b (stored n w) o))
+            (patchOf-cut b (stored n w) o))
 
     pub halves-is : (g₃ ≡ turns n (patchOf b (stored n w)) g) × (w₃ ≡ works n (patchOf b (stored n w)) w)
-    halves-is =
-        (u-g ∙ ap (turns n (patchOf (upper b a m) (stored n w₂))) (l-g ∙ ap (turns n (patchOf (lower b a m) (stored n w₁))) c-g)
-         ∙ sym (ap (λ (t : List Place). turns n t g) all-is ∙ turns-append n (cut b (stored n w) a m) _ g ∙ turns-append n (patchOf (lower b a m) (stored n w₁)) (patchOf (upper b a m) (stored n w₂)) _)
-        , u-w ∙ ap (works n (patchOf (upper b a m) (stored n w₂))) (l-w ∙ ap (works n (patchOf (lower b a m) (stored n w₁))) c-w)
-         ∙ sym (ap (λ (t : List Place). works n t w) all-is ∙ works-append n (cut b (stored n w) a m) _ w ∙ works-append n (patchOf (lower b a m) (stored n w₁)) (patchOf (upper b a m) (stored n w₂)) _))
+    halves-is = (
+      u-g ∙ ap (turns n (patchOf (upper b a m) (stored n w₂))) (l-g ∙ ap (turns n (patchOf (lower b a m) (stored n w₁))) c-g)
+          ∙ sym (ap (λ (t : List Place). turns n t g) all-is ∙ turns-append n (cut b (stored n w) a m) _ g ∙ turns-append n (patchOf (lower b a m) (stored n w₁)) (patchOf (upper b a m) (stored n w₂)) _),
+      u-w ∙ ap (works n (patchOf (upper b a m) (stored n w₂))) (l-w ∙ ap (works n (patchOf (lower b a m) (stored n w₁))) c-w)
+          ∙ sym (ap (λ (t : List Place). works n t w) all-is ∙ works-append n (cut b (stored n w) a m) _ w ∙ works-append n (patchOf (lower b a m) (stored n w₁)) (patchOf (upper b a m) (stored n w₂)) _),
+    )
 
 -- ---- small facts that the code asks for
 pub coord-le : (n : ℕ) (b : Box) (a : Axis) → Fits n b → coord a (b .lo) ≤ coord a (b .hi)
@@ -392,8 +400,10 @@ pair-long n a m q s = go (stored n (s .work) a (pointAt a m (q .u) (q .v))) (s .
   where
     J : Scan
     J = record { held = idle q; grid = turns n (path a m (s .held .at) q) (s .grid); work = works n (path a m (s .held .at) q) (s .work) }
+
     H : Scan
     H = record { held = waits q; grid = s .grid; work = s .work }
+
     go : (x y : Bool) → (length (cond x (cond y J H) s .grid) ≡ length (s .grid)) × (length (cond x (cond y J H) s .work) ≡ length (s .work))
     go true true = (turns-length n (path a m (s .held .at) q) (s .grid), turns-length n (each facesOf (path a m (s .held .at) q)) (s .work))
     go true false = (refl, refl)
@@ -409,11 +419,12 @@ pub rowing-on : (n : ℕ) (a : Axis) (m to v : ℕ) (s₀ : Scan) (from u : ℕ)
     (h′ : Held) (g′ w′ : List ℕ) → _≡_ {A = Scan} (record { held = h′; grid = g′; work = w′ }) (pairOf n a m (record { u = u; v = v }) (record { held = h; grid = g; work = w })) → Placed n (h′ .at) →
     Rowing n a m to v s₀ from (u + 1) h′ g′ w′
 rowing-on n a m to v s₀ from u h g w r l h′ g′ w′ e p = record {
-    scan = let q : to - (u + 1) ≡ to - u - 1 = omega arith in
-        ap₂ (λ (k : ℕ) (s : Scan). scanAll n a m (rowOf (u + 1) k v) s) q e ∙ ap (λ (l : List Spot). scanAll n a m l (record { held = h; grid = g; work = w })) (sym (row-step u (to - u) v (omega arith))) ∙ r .scan;
-    held = p;
-    g-long = ap (λ (s : Scan). length (s .grid)) e ∙ pair-long n a m (record { u = u; v = v }) (record { held = h; grid = g; work = w }) .0 ∙ r .g-long;
-    w-long = ap (λ (s : Scan). length (s .work)) e ∙ pair-long n a m (record { u = u; v = v }) (record { held = h; grid = g; work = w }) .1 ∙ r .w-long }
+  scan = let q : to - (u + 1) ≡ to - u - 1 = omega arith in
+      ap₂ (λ (k : ℕ) (s : Scan). scanAll n a m (rowOf (u + 1) k v) s) q e ∙ ap (λ (l : List Spot). scanAll n a m l (record { held = h; grid = g; work = w })) (sym (row-step u (to - u) v (omega arith))) ∙ r .scan;
+  held = p;
+  g-long = ap (λ (s : Scan). length (s .grid)) e ∙ pair-long n a m (record { u = u; v = v }) (record { held = h; grid = g; work = w }) .0 ∙ r .g-long;
+  w-long = ap (λ (s : Scan). length (s .work)) e ∙ pair-long n a m (record { u = u; v = v }) (record { held = h; grid = g; work = w }) .1 ∙ r .w-long;
+}
 
 pub rowing-end : (n : ℕ) (a : Axis) (m to v : ℕ) (s₀ : Scan) (from u : ℕ) (h : Held) (g w : List ℕ) → Rowing n a m to v s₀ from u h g w → to ≤ u →
     _≡_ {A = Scan} (record { held = h; grid = g; work = w }) (scanAll n a m (rowOf from (to - from) v) s₀)
@@ -436,11 +447,12 @@ pub planing-on : (n : ℕ) (a : Axis) (m from to end : ℕ) (s₀ : Scan) (v₀ 
     (h′ : Held) (g′ w′ : List ℕ) → _≡_ {A = Scan} (record { held = h′; grid = g′; work = w′ }) (scanAll n a m (rowOf from (to - from) v) (record { held = h; grid = g; work = w })) → Placed n (h′ .at) →
     Planing n a m from to end s₀ v₀ (v + 1) h′ g′ w′
 planing-on n a m from to end s₀ v₀ v h g w r l h′ g′ w′ e p = record {
-    scan = let q : end - (v + 1) ≡ end - v - 1 = omega arith in
-        ap₂ (λ (k : ℕ) (s : Scan). scanAll n a m (rowsOf from (to - from) (v + 1) k) s) q e ∙ sym (rows-step n a m from (to - from) v (end - v) (record { held = h; grid = g; work = w }) (omega arith)) ∙ r .scan;
-    held = p;
-    g-long = ap (λ (s : Scan). length (s .grid)) e ∙ scan-long n a m (rowOf from (to - from) v) (record { held = h; grid = g; work = w }) .0 ∙ r .g-long;
-    w-long = ap (λ (s : Scan). length (s .work)) e ∙ scan-long n a m (rowOf from (to - from) v) (record { held = h; grid = g; work = w }) .1 ∙ r .w-long }
+  scan = let q : end - (v + 1) ≡ end - v - 1 = omega arith in
+      ap₂ (λ (k : ℕ) (s : Scan). scanAll n a m (rowsOf from (to - from) (v + 1) k) s) q e ∙ sym (rows-step n a m from (to - from) v (end - v) (record { held = h; grid = g; work = w }) (omega arith)) ∙ r .scan;
+  held = p;
+  g-long = ap (λ (s : Scan). length (s .grid)) e ∙ scan-long n a m (rowOf from (to - from) v) (record { held = h; grid = g; work = w }) .0 ∙ r .g-long;
+  w-long = ap (λ (s : Scan). length (s .work)) e ∙ scan-long n a m (rowOf from (to - from) v) (record { held = h; grid = g; work = w }) .1 ∙ r .w-long;
+}
 
 -- the scan of the plane at its end
 pub planing-end : (n : ℕ) (b : Box) (a : Axis) (m : ℕ) → Fits n b → coord a (b .lo) < m → m < coord a (b .hi) → (g₀ w₀ : List ℕ) → pointCount n ≤ length w₀ → (from to end v₀ v : ℕ) (h : Held) (g w : List ℕ) (q₀ : Spot) →
@@ -450,9 +462,9 @@ planing-end n b a m f lo hi g₀ w₀ k from to end v₀ v h g w q₀ r l ef et 
     let z : 0 ≡ end - v = omega arith in
     let c = cut-is n b a m (omega arith) (let y = fits-coord n b a f in omega arith) f w₀ k q₀ g₀ in
     let s : _≡_ {A = Scan} (record { held = h; grid = g; work = w }) (scanAll n a m (plane b a) (record { held = idle q₀; grid = g₀; work = w₀ })) =
-        ap (λ (j : ℕ). scanAll n a m (rowsOf from (to - from) v j) (record { held = h; grid = g; work = w })) z ∙ r .scan
-        ∙ ap₂ (λ (i j : ℕ). scanAll n a m (rowsOf i (j - i) v₀ (end - v₀)) (record { held = idle q₀; grid = g₀; work = w₀ })) ef et
-        ∙ ap₂ (λ (i j : ℕ). scanAll n a m (rowsOf (coord (earlier a) (b .lo)) (coord (earlier a) (b .hi) - coord (earlier a) (b .lo)) i (j - i)) (record { held = idle q₀; grid = g₀; work = w₀ })) ev ee in
+    ap (λ (j : ℕ). scanAll n a m (rowsOf from (to - from) v j) (record { held = h; grid = g; work = w })) z ∙ r .scan
+    ∙ ap₂ (λ (i j : ℕ). scanAll n a m (rowsOf i (j - i) v₀ (end - v₀)) (record { held = idle q₀; grid = g₀; work = w₀ })) ef et
+    ∙ ap₂ (λ (i j : ℕ). scanAll n a m (rowsOf (coord (earlier a) (b .lo)) (coord (earlier a) (b .hi) - coord (earlier a) (b .lo)) i (j - i)) (record { held = idle q₀; grid = g₀; work = w₀ })) ev ee in
     (ap (λ (x : Scan). x .grid) s ∙ c .0, ap (λ (x : Scan). x .work) s ∙ c .1)
 
 -- ---- the join
@@ -535,5 +547,5 @@ module _ (n : ℕ) (b : Box) (h : Fits n b) (o : oneCell b ≡ false) (a : Axis)
       (g₃ ≡ turns n (patchOf s (stored n w₂)) g₂) × (w₃ ≡ works n (patchOf s (stored n w₂)) w₂) → (g₃ ≡ turns n (patchOf b (stored n w)) g) × (w₃ ≡ works n (patchOf b (stored n w)) w)
   halves-turn w g w₁ g₁ w₂ g₂ w₃ g₃ r s k er es c l u =
       halves-is n b h o a m ea em w g w₁ g₁ w₂ g₂ w₃ g₃ k (c .1) (c .0)
-          (l .1 ∙ ap (λ (x : Box). works n (patchOf x (stored n w₁)) w₁) er) (l .0 ∙ ap (λ (x : Box). turns n (patchOf x (stored n w₁)) g₁) er)
-          (u .1 ∙ ap (λ (x : Box). works n (patchOf x (stored n w₂)) w₂) es) (u .0 ∙ ap (λ (x : Box). turns n (patchOf x (stored n w₂)) g₂) es)
+      (l .1 ∙ ap (λ (x : Box). works n (patchOf x (stored n w₁)) w₁) er) (l .0 ∙ ap (λ (x : Box). turns n (patchOf x (stored n w₁)) g₁) er)
+      (u .1 ∙ ap (λ (x : Box). works n (patchOf x (stored n w₂)) w₂) es) (u .0 ∙ ap (λ (x : Box). turns n (patchOf x (stored n w₂)) g₂) es)

@@ -282,6 +282,6 @@ module _ (n : ℕ) (e : Place) (b c : Axis) (i j : ℕ) (q₁ q : Point) (h : Ed
       s₁ ≡ turnOne n f₁ s → s₂ ≡ turnOne n f₂ s₁ → s₃ ≡ turnOne n f₃ s₂ → s₄ ≡ turnOne n f₄ s₃ → s₄ ≡ works n (e ∷ []) s
   flip-is f₁ f₂ f₃ f₄ s s₁ s₂ s₃ s₄ g₁ g₂ g₃ g₄ t₁ t₂ t₃ t₄ =
       t₄ ∙ ap₂ (λ (f : Place) (t : List ℕ). turnOne n f t) (g₄ ∙ side-4)
-          (t₃ ∙ ap₂ (λ (f : Place) (t : List ℕ). turnOne n f t) (g₃ ∙ side-3)
-              (t₂ ∙ ap₂ (λ (f : Place) (t : List ℕ). turnOne n f t) (g₂ ∙ side-2)
-                  (t₁ ∙ ap (λ (f : Place). turnOne n f s) (g₁ ∙ side-1))))
+      (t₃ ∙ ap₂ (λ (f : Place) (t : List ℕ). turnOne n f t) (g₃ ∙ side-3)
+      (t₂ ∙ ap₂ (λ (f : Place) (t : List ℕ). turnOne n f t) (g₂ ∙ side-2)
+      (t₁ ∙ ap (λ (f : Place). turnOne n f s) (g₁ ∙ side-1))))

@@ -50,10 +50,10 @@ waits q = record { has = true; at = q }
 unfoldable pub pairOf : ℕ → Axis → ℕ → Spot → Scan → Scan
 pairOf n a m q s =
     cond (stored n (s .work) a (pointAt a m (q .u) (q .v)))
-        (cond (s .held .has)
-            (record { held = idle q; grid = turns n (path a m (s .held .at) q) (s .grid); work = works n (path a m (s .held .at) q) (s .work) })
-            (record { held = waits q; grid = s .grid; work = s .work }))
-        s
+    (cond (s .held .has)
+    (record { held = idle q; grid = turns n (path a m (s .held .at) q) (s .grid); work = works n (path a m (s .held .at) q) (s .work) })
+    (record { held = waits q; grid = s .grid; work = s .work }))
+    s
 
 abbrev pub scanAll : ℕ → Axis → ℕ → List Spot → Scan → Scan
 scanAll n a m [] s = s

@@ -5,14 +5,14 @@ use lattice::index;
 use lattice::later;
 use lattice::member;
 use lattice::turn;
+use rules::Axis;
+use rules::Box;
+use rules::Place;
+use rules::Point;
+use rules::Spot;
 use walking::least;
 use walking::most;
 use walking::step_down;
-use rules::Place;
-use rules::Axis;
-use rules::Box;
-use rules::Point;
-use rules::Spot;
 ghost use mathlib.Core.Path.{_≡_};
 ghost use mathlib.Core.List.{[], _∷_};
 ghost use Prim.Native.Nat.{_≤_, _<_, _+_, _-_, _/_};
@@ -137,7 +137,17 @@ fn pair(n: usize, grid: &mut [u8], work: &mut [u8], a: Axis, m: usize, q: Spot, 
 }
 
 // The places u to h in row v.
-fn row(n: usize, grid: &mut [u8], work: &mut [u8], a: Axis, m: usize, from: usize, to: usize, v: usize, first: Held) -> Held
+fn row(
+    n: usize,
+    grid: &mut [u8],
+    work: &mut [u8],
+    a: Axis,
+    m: usize,
+    from: usize,
+    to: usize,
+    v: usize,
+    first: Held,
+) -> Held
     requires { ⌜ (n ≤ 32) × (pointCount n ≤ length (now grid)) × (pointCount n ≤ length (now work)) × (1 ≤ m) × (m ≤ n) × (to ≤ n) × (v < n) × Placed n (first .at) ⌝ }
     ensures { λ r. ⌜ (_≡_ {A = Scan} (record { held = r; grid = now (grid .exit); work = now (work .exit) }) (scanAll n a m (rowOf from (to - from) v) (record { held = first; grid = now (grid .entry); work = now (work .entry) }))) × Placed n (r .at) ⌝ }
 {
@@ -172,7 +182,10 @@ fn cut_plane(n: usize, grid: &mut [u8], work: &mut [u8], b: Box, a: Axis, m: usi
     let from = along_axis(lo, c);
     let to = along_axis(hi, c);
     let end = along_axis(hi, d);
-    let mut h = Held { has: false, at: Spot { u: 0, v: 0 } };
+    let mut h = Held {
+        has: false,
+        at: Spot { u: 0, v: 0 },
+    };
     let mut v = along_axis(lo, d);
     while v < end {
         h = row(n, grid, work, a, m, from, to, v, h);

@@ -63,9 +63,9 @@ pub record Cell (n : ℕ) (p : Point) : Type 0 where
   pub j : p .j < n
   pub k : p .k < n
 
--- the marks as they came, in the bits 8, 16, 32 of the grid's bytes
-abbrev pub old : ℕ → List ℕ → Set
-old n g a p = has a (getD g (pointNumber n p) 0 / 8)
+-- the set that three bits of each byte hold, from the bit of value d on: layer 1 as it is now, layer 8 as it came
+abbrev pub layer : ℕ → ℕ → List ℕ → Set
+layer d n g a p = has a (getD g (pointNumber n p) 0 / d)
 
 -- one member turned
 unfoldable pub turnOne : ℕ → Place → List ℕ → List ℕ

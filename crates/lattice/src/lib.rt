@@ -1,6 +1,6 @@
 // The cell's table, a point's number, and the bits of a buffer.
-use rules::Place;
 use rules::Axis;
+use rules::Place;
 use rules::Point;
 ghost use mathlib.Core.Path.{_≡_};
 ghost use Prim.Native.Nat.{_≤_, _<_, _+_, _*_, _/_};
@@ -11,38 +11,115 @@ ghost use Rattle.rules.specs.Lattice.{earlier, later, pointNumber, pointCount};
 ghost use Rattle.rules.specs.Grid.{has};
 ghost use Rattle.rules.specs.Cell.{oddFace};
 ghost use Rattle.rules.proofs.Store.{toggle};
-ghost use Rattle.lattice.specs.Cells.{indexOf, faceRule, faceEdge, moved, faceOf, edgeOf, Cell, old, turnOne};
+ghost use Rattle.lattice.specs.Cells.{indexOf, faceRule, faceEdge, moved, faceOf, edgeOf, Cell, layer, turnOne};
 ghost use Rattle.rules.specs.Condition.{OfGrid};
 
 // The cell's six faces: the three lower ones, then the three upper ones.
 const FACES: [Place; 6] = [
-    Place { axis: Axis::X, at: Point { i: 0, j: 0, k: 0 } },
-    Place { axis: Axis::Y, at: Point { i: 0, j: 0, k: 0 } },
-    Place { axis: Axis::Z, at: Point { i: 0, j: 0, k: 0 } },
-    Place { axis: Axis::X, at: Point { i: 1, j: 0, k: 0 } },
-    Place { axis: Axis::Y, at: Point { i: 0, j: 1, k: 0 } },
-    Place { axis: Axis::Z, at: Point { i: 0, j: 0, k: 1 } },
+    Place {
+        axis: Axis::X,
+        at: Point { i: 0, j: 0, k: 0 },
+    },
+    Place {
+        axis: Axis::Y,
+        at: Point { i: 0, j: 0, k: 0 },
+    },
+    Place {
+        axis: Axis::Z,
+        at: Point { i: 0, j: 0, k: 0 },
+    },
+    Place {
+        axis: Axis::X,
+        at: Point { i: 1, j: 0, k: 0 },
+    },
+    Place {
+        axis: Axis::Y,
+        at: Point { i: 0, j: 1, k: 0 },
+    },
+    Place {
+        axis: Axis::Z,
+        at: Point { i: 0, j: 0, k: 1 },
+    },
 ];
 
 // Its twelve edges.
 const EDGES: [Place; 12] = [
-    Place { axis: Axis::X, at: Point { i: 0, j: 0, k: 0 } },
-    Place { axis: Axis::X, at: Point { i: 0, j: 1, k: 0 } },
-    Place { axis: Axis::X, at: Point { i: 0, j: 0, k: 1 } },
-    Place { axis: Axis::X, at: Point { i: 0, j: 1, k: 1 } },
-    Place { axis: Axis::Y, at: Point { i: 0, j: 0, k: 0 } },
-    Place { axis: Axis::Y, at: Point { i: 1, j: 0, k: 0 } },
-    Place { axis: Axis::Y, at: Point { i: 0, j: 0, k: 1 } },
-    Place { axis: Axis::Y, at: Point { i: 1, j: 0, k: 1 } },
-    Place { axis: Axis::Z, at: Point { i: 0, j: 0, k: 0 } },
-    Place { axis: Axis::Z, at: Point { i: 1, j: 0, k: 0 } },
-    Place { axis: Axis::Z, at: Point { i: 0, j: 1, k: 0 } },
-    Place { axis: Axis::Z, at: Point { i: 1, j: 1, k: 0 } },
+    Place {
+        axis: Axis::X,
+        at: Point { i: 0, j: 0, k: 0 },
+    },
+    Place {
+        axis: Axis::X,
+        at: Point { i: 0, j: 1, k: 0 },
+    },
+    Place {
+        axis: Axis::X,
+        at: Point { i: 0, j: 0, k: 1 },
+    },
+    Place {
+        axis: Axis::X,
+        at: Point { i: 0, j: 1, k: 1 },
+    },
+    Place {
+        axis: Axis::Y,
+        at: Point { i: 0, j: 0, k: 0 },
+    },
+    Place {
+        axis: Axis::Y,
+        at: Point { i: 1, j: 0, k: 0 },
+    },
+    Place {
+        axis: Axis::Y,
+        at: Point { i: 0, j: 0, k: 1 },
+    },
+    Place {
+        axis: Axis::Y,
+        at: Point { i: 1, j: 0, k: 1 },
+    },
+    Place {
+        axis: Axis::Z,
+        at: Point { i: 0, j: 0, k: 0 },
+    },
+    Place {
+        axis: Axis::Z,
+        at: Point { i: 1, j: 0, k: 0 },
+    },
+    Place {
+        axis: Axis::Z,
+        at: Point { i: 0, j: 1, k: 0 },
+    },
+    Place {
+        axis: Axis::Z,
+        at: Point { i: 1, j: 1, k: 0 },
+    },
 ];
 
 // The four edges of each face, by their place in EDGES.
 const FACE_EDGES: [usize; 24] = [
-    4, 6, 8, 10, 0, 2, 8, 9, 0, 1, 4, 5, 5, 7, 9, 11, 1, 3, 10, 11, 2, 3, 6, 7,
+    4,
+    6,
+    8,
+    10,
+    0,
+    2,
+    8,
+    9,
+    0,
+    1,
+    4,
+    5,
+    5,
+    7,
+    9,
+    11,
+    1,
+    3,
+    10,
+    11,
+    2,
+    3,
+    6,
+    7,
 ];
 
 // The number of a point.
@@ -152,14 +229,14 @@ pub fn member(n: usize, s: &[u8], f: Place) -> bool
     bit(s[at], a)
 }
 
-// Whether an edge had a mark when the call began.
-pub fn marked(n: usize, grid: &[u8], e: Place) -> bool
-    requires { ⌜ (n ≤ 32) × (pointCount n ≤ length (now grid)) × OfGrid n (e .at) ⌝ }
-    ensures { λ r. ⌜ r ≡ old n (now (grid .entry)) (e .axis) (e .at) ⌝ }
+// Whether an edge is marked in layer d of the grid's bytes.
+pub fn marked(n: usize, grid: &[u8], d: u8, e: Place) -> bool
+    requires { ⌜ (n ≤ 32) × (pointCount n ≤ length (now grid)) × OfGrid n (e .at) × (1 ≤ d) ⌝ }
+    ensures { λ r. ⌜ r ≡ layer d n (now (grid .entry)) (e .axis) (e .at) ⌝ }
 {
     let at = number_of(n, e.at);
     let a = e.axis;
-    bit(grid[at] / 8, a)
+    bit(grid[at] / d, a)
 }
 
 fn face_rule(f: usize) -> Place
@@ -183,7 +260,11 @@ fn move_to(n: usize, c: Point, e: Place) -> Place
 {
     let o = e.at;
     let a = e.axis;
-    let p = Point { i: c.i + o.i, j: c.j + o.j, k: c.k + o.k };
+    let p = Point {
+        i: c.i + o.i,
+        j: c.j + o.j,
+        k: c.k + o.k,
+    };
     Place { axis: a, at: p }
 }
 
@@ -212,14 +293,14 @@ fn differ(a: bool, b: bool) -> bool
     b
 }
 
-// Whether the face f of the cell c was odd when the call began.
-pub fn odd(n: usize, grid: &[u8], c: Point, f: usize) -> bool
-    requires { ⌜ (n ≤ 32) × (pointCount n ≤ length (now grid)) × Cell n c × (f < 6) ⌝ }
-    ensures { λ r. ⌜ r ≡ oddFace (old n (now (grid .entry))) (faceOf f c .axis) (faceOf f c .at) ⌝ }
+// Whether face f of the cell c is odd in layer d of the grid's bytes.
+pub fn odd(n: usize, grid: &[u8], d: u8, c: Point, f: usize) -> bool
+    requires { ⌜ (n ≤ 32) × (pointCount n ≤ length (now grid)) × Cell n c × (f < 6) × (1 ≤ d) ⌝ }
+    ensures { λ r. ⌜ r ≡ oddFace (layer d n (now (grid .entry))) (faceOf f c .axis) (faceOf f c .at) ⌝ }
 {
-    let p = marked(n, grid, edge(n, c, f, 0));
-    let q = marked(n, grid, edge(n, c, f, 1));
-    let r = marked(n, grid, edge(n, c, f, 2));
-    let s = marked(n, grid, edge(n, c, f, 3));
+    let p = marked(n, grid, d, edge(n, c, f, 0));
+    let q = marked(n, grid, d, edge(n, c, f, 1));
+    let r = marked(n, grid, d, edge(n, c, f, 2));
+    let s = marked(n, grid, d, edge(n, c, f, 3));
     differ(differ(p, q), differ(r, s))
 }

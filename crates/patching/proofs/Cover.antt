@@ -43,8 +43,8 @@ unfolding cellOf
 cell-of n p c =
     let h = high-digit n (p .i) (p .j + n * p .k) (c .i) in
     pointAt-eq _ p (low-digit n (p .i) (p .j + n * p .k) (c .i))
-        (ap (λ (k : ℕ). k % n) h ∙ low-digit n (p .j) (p .k) (c .j))
-        (ap (λ (k : ℕ). k / n) h ∙ high-digit n (p .j) (p .k) (c .j))
+    (ap (λ (k : ℕ). k % n) h ∙ low-digit n (p .j) (p .k) (c .j))
+    (ap (λ (k : ℕ). k / n) h ∙ high-digit n (p .j) (p .k) (c .j))
 
 pub is-cell : (n k : ℕ) → 1 ≤ n → k < n * n * n → Cell n (cellOf n k)
 unfolding cellOf
@@ -65,10 +65,10 @@ module _ (n : ℕ) (E : Set) (inner : (a : Axis) (p : Point) → E a p ≡ true 
   unfolding rims oddFaces
   some-hit = all-pair (λ r. hit (oddFaces n E) r ≡ true) (All (λ x. isIn (oddFace E) x ≡ true)) _
       (λ r h o. let x = find (λ f. elem f r) (λ f. isIn (oddFace E) f ≡ true) (oddFaces n E) (all-kept (isIn (oddFace E)) (places n)) h in
-          let q = face-cells n (x .0 .axis) (x .0 .at) (odd-in n E inner (x .0 .axis) (x .0 .at) (x .2)) in
-          let p = x .0 .at in
-          hits-at n (n * n * n) (p .i + n * (p .j + n * p .k)) r (let c = q .upper in number-below n (p .i) (p .j) (p .k) (c .i) (c .j) (c .k))
-              (subst (λ (y : Point). owns y r ≡ true) (sym (cell-of n p (q .upper))) (own-of (x .0) r (x .1))))
+      let q = face-cells n (x .0 .axis) (x .0 .at) (odd-in n E inner (x .0 .axis) (x .0 .at) (x .2)) in
+      let p = x .0 .at in
+      hits-at n (n * n * n) (p .i + n * (p .j + n * p .k)) r (let c = q .upper in number-below n (p .i) (p .j) (p .k) (c .i) (c .j) (c .k))
+      (subst (λ (y : Point). owns y r ≡ true) (sym (cell-of n p (q .upper))) (own-of (x .0) r (x .1))))
       (rims n E) (rim-some (oddFaces n E)) (rims-all (λ x. isIn (oddFace E) x ≡ true) (oddFaces n E) (all-kept (isIn (oddFace E)) (places n)))
     where
       own-of : (f : Place) (r : List Place) → elem f r ≡ true → owns (f .at) r ≡ true
@@ -85,10 +85,15 @@ module _ (n : ℕ) (E : Set) (inner : (a : Axis) (p : Point) → E a p ≡ true 
   pub finished : (g₀ w₀ g w : List ℕ) (k : ℕ) → Between n E (hits (cellsBelow n (n * n * n))) g₀ w₀ g w k → Finished n E g₀ w₀ g w k
   unfolding flips
   finished g₀ w₀ g w k B = record {
-      g-long = B .g-long; w-long = B .w-long; g-past = B .g-past; w-past = B .w-past; came-in = B .came-in;
-      marks-now = λ a p l. B .marks-now a p l ∙ ap (λ (x : Bool). stored n g₀ a p ⊕ x)
-          (all-sum (hits (cellsBelow n (n * n * n))) (λ r. setOf (patchRim r) a p) (rims n E) some-hit ∙ sym (parity-each (λ e. samePlace e (record { axis = a; at = p })) patchRim (rims n E)));
-      counted = B .counted ∙ all-length (hits (cellsBelow n (n * n * n))) (rims n E) some-hit }
+    g-long = B .g-long;
+    w-long = B .w-long;
+    g-past = B .g-past;
+    w-past = B .w-past;
+    came-in = B .came-in;
+    marks-now = λ a p l. B .marks-now a p l ∙ ap (λ (x : Bool). stored n g₀ a p ⊕ x)
+        (all-sum (hits (cellsBelow n (n * n * n))) (λ r. setOf (patchRim r) a p) (rims n E) some-hit ∙ sym (parity-each (λ e. samePlace e (record { axis = a; at = p })) patchRim (rims n E)));
+    counted = B .counted ∙ all-length (hits (cellsBelow n (n * n * n))) (rims n E) some-hit;
+  }
 
 -- ---- the loop
 pub record Scanned (n : ℕ) (g₀ w₀ : List ℕ) (k found : ℕ) (g w : List ℕ) : Type 0 where
@@ -102,9 +107,14 @@ pub record Scanned (n : ℕ) (g₀ w₀ : List ℕ) (k found : ℕ) (g w : List 
 pub scanned-on : (n : ℕ) (g₀ w₀ : List ℕ) (k found : ℕ) (g w : List ℕ) → Scanned n g₀ w₀ k found g w → k < n * n * n → (c : Point) → c ≡ cellOf n k → (r : ℕ) (g₂ w₂ : List ℕ) → length g₂ ≡ length g → length w₂ ≡ length w →
     (r ≤ 1) × Moves n c g w g₂ w₂ r × Fine n g₂ → Scanned n g₀ w₀ (k + 1) (found + r) g₂ w₂
 scanned-on n g₀ w₀ k found g w s l c e r g₂ w₂ lg lw m = record {
-    at-most = omega arith; few = let z = s .few in let y = m .0 in omega arith; fine = m .2; g-long = lg ∙ s .g-long; w-long = lw ∙ s .w-long;
-    now = λ B. subst (λ (j : ℕ). Between n (came n g₀) (hits (cellsBelow n j)) g₀ w₀ g₂ w₂ (found + r)) (sym (add-one k))
-        (subst (λ (q : Point). Between n (came n g₀) (λ t. owns q t || hits (cellsBelow n k) t) g₀ w₀ g₂ w₂ (found + r)) e (m .1 (hits (cellsBelow n k)) g₀ w₀ found (s .now B))) }
+  at-most = omega arith;
+  few = let z = s .few in let y = m .0 in omega arith;
+  fine = m .2;
+  g-long = lg ∙ s .g-long;
+  w-long = lw ∙ s .w-long;
+  now = λ B. subst (λ (j : ℕ). Between n (came n g₀) (hits (cellsBelow n j)) g₀ w₀ g₂ w₂ (found + r)) (sym (add-one k))
+      (subst (λ (q : Point). Between n (came n g₀) (λ t. owns q t || hits (cellsBelow n k) t) g₀ w₀ g₂ w₂ (found + r)) e (m .1 (hits (cellsBelow n k)) g₀ w₀ found (s .now B)));
+}
 
 pub cube-small : (n : ℕ) → n ≤ 32 → n * n * n ≤ 32768
 cube-small n h =

@@ -22,7 +22,7 @@ use Rattle.rules.proofs.Rims.{touch}
 use Rattle.rules.proofs.Boxes.{inBox→}
 use Rattle.rules.proofs.Store.{stored}
 use Rattle.rules.specs.Condition.{OfGrid}
-use Rattle.lattice.specs.Cells.{old}
+use Rattle.lattice.specs.Cells.{layer}
 use Rattle.lattice.proofs.Laws.{num-below}
 use Rattle.walking.specs.Walks.{came, Fine, seenB}
 use Rattle.walking.proofs.Laws.{has-high, below}
@@ -62,7 +62,7 @@ module _ (n : ℕ) (g w : List ℕ) (lg : pointCount n ≤ length g) (lw : point
   at-w : (p : Point) → OfGrid n p → getD (paint nought (pointCount n) w) (pointNumber n p) 0 ≡ 0
   at-w p b = paint-at nought (pointCount n) w (pointNumber n p) (num-below n p b) lw
 
-  old-is : (a : Axis) (p : Point) → OfGrid n p → old n (paint nine (pointCount n) g) a p ≡ has a (getD g (pointNumber n p) 0)
+  old-is : (a : Axis) (p : Point) → OfGrid n p → layer 8 n (paint nine (pointCount n) g) a p ≡ has a (getD g (pointNumber n p) 0)
   old-is a p b =
       let s = h .small p b in
       ap (λ (k : ℕ). has a (k / 8)) (at-g p b) ∙ ap (has a) (let e : getD g (pointNumber n p) 0 * 9 / 8 ≡ getD g (pointNumber n p) 0 = omega arith in e)
@@ -75,7 +75,7 @@ module _ (n : ℕ) (g w : List ℕ) (lg : pointCount n ≤ length g) (lw : point
   unfolding came marks
   came-start = fun-ext (λ a. fun-ext (λ p. go a p (edgeIn (whole n) a p) refl))
     where
-      go : (a : Axis) (p : Point) (x : Bool) → edgeIn (whole n) a p ≡ x → x && old n (paint nine (pointCount n) g) a p ≡ x && has a (getD g (pointNumber n p) 0)
+      go : (a : Axis) (p : Point) (x : Bool) → edgeIn (whole n) a p ≡ x → x && layer 8 n (paint nine (pointCount n) g) a p ≡ x && has a (getD g (pointNumber n p) 0)
       go a p true e = old-is a p (edge-below n a p e)
       go a p false e = refl
 
@@ -90,19 +90,24 @@ module _ (n : ℕ) (g w : List ℕ) (lg : pointCount n ≤ length g) (lw : point
   pub start : Between n (came n (paint nine (pointCount n) g)) none (paint nine (pointCount n) g) (paint nought (pointCount n) w) (paint nine (pointCount n) g) (paint nought (pointCount n) w) 0
   unfolding seenB
   start = record {
-      g-long = refl; w-long = refl; g-past = λ i l. refl; w-past = λ i l. refl; came-in = λ i. refl;
-      marks-now = λ a p l. sym (ap (λ (x : Bool). stored n (paint nine (pointCount n) g) a p ⊕ x) (zero-sum (λ r. setOf (patchRim r) a p) (rims n (came n (paint nine (pointCount n) g)))) ∙ ⊕-false _);
-      work-now = λ a p l. ap (has a) (at-w p l) ∙ zero-has a;
-      seen-now = λ q u. ap (λ (k : ℕ). has X (k / 8)) (at-w q (below n q u)) ∙ sym (zero-any (touch q) (rims n (came n (paint nine (pointCount n) g))));
-      counted = sym (zero-count (rims n (came n (paint nine (pointCount n) g)))) }
+    g-long = refl;
+    w-long = refl;
+    g-past = λ i l. refl;
+    w-past = λ i l. refl;
+    came-in = λ i. refl;
+    marks-now = λ a p l. sym (ap (λ (x : Bool). stored n (paint nine (pointCount n) g) a p ⊕ x) (zero-sum (λ r. setOf (patchRim r) a p) (rims n (came n (paint nine (pointCount n) g)))) ∙ ⊕-false _);
+    work-now = λ a p l. ap (has a) (at-w p l) ∙ zero-has a;
+    seen-now = λ q u. ap (λ (k : ℕ). has X (k / 8)) (at-w q (below n q u)) ∙ sym (zero-any (touch q) (rims n (came n (paint nine (pointCount n) g))));
+    counted = sym (zero-count (rims n (came n (paint nine (pointCount n) g))));
+  }
 
 -- ---- how it ends
 points-below : (n : ℕ) → All (OfGrid n) (points (suc n))
 points-below n =
     all-each (OfGrid n) (λ z. each (λ y. map (λ x. record { i = x; j = y; k = z }) (upto 0 (suc n))) (upto 0 (suc n))) (upto 0 (suc n))
     (all-weaken (Bounds 0 (0 + suc n)) _ (λ z hz. all-each (OfGrid n) (λ y. map (λ x. record { i = x; j = y; k = z }) (upto 0 (suc n))) (upto 0 (suc n))
-        (all-weaken (Bounds 0 (0 + suc n)) _ (λ y hy. all-map (OfGrid n) (λ x. record { i = x; j = y; k = z }) (upto 0 (suc n))
-            (all-weaken (Bounds 0 (0 + suc n)) _ (λ x hx. omega arith) (upto 0 (suc n)) (all-upto 0 (suc n)))) (upto 0 (suc n)) (all-upto 0 (suc n)))) (upto 0 (suc n)) (all-upto 0 (suc n)))
+    (all-weaken (Bounds 0 (0 + suc n)) _ (λ y hy. all-map (OfGrid n) (λ x. record { i = x; j = y; k = z }) (upto 0 (suc n))
+    (all-weaken (Bounds 0 (0 + suc n)) _ (λ x hx. omega arith) (upto 0 (suc n)) (all-upto 0 (suc n)))) (upto 0 (suc n)) (all-upto 0 (suc n)))) (upto 0 (suc n)) (all-upto 0 (suc n)))
 
 map-all : (f h : Point → ℕ) (l : List Point) → All (λ p. f p ≡ h p) l → map f l ≡ map h l
 map-all f h [] k = refl
@@ -131,18 +136,19 @@ module _ (n : ℕ) (g w : List ℕ) (lg : pointCount n ≤ length g) (lw : point
       ∙ sym (ap (map (λ i. getD (paint low (pointCount n) g₃) i 0)) (rising n))
       ∙ map-map (λ i. getD (paint low (pointCount n) g₃) i 0) (pointNumber n) (points (suc n))
       ∙ map-all (λ p. getD (paint low (pointCount n) g₃) (pointNumber n p) 0) (byteAt (patched n (marks n g))) (points (suc n))
-          (all-weaken (OfGrid n) _ (λ p b. paint-at low (pointCount n) g₃ (pointNumber n p) (num-below n p b) (omega arith) ∙ byte-is (patched n (marks n g)) p (getD g₃ (pointNumber n p) 0) (λ a. mark-is a p b)) (points (suc n)) (points-below n))
+      (all-weaken (OfGrid n) _ (λ p b. paint-at low (pointCount n) g₃ (pointNumber n p) (num-below n p b) (omega arith) ∙ byte-is (patched n (marks n g)) p (getD g₃ (pointNumber n p) 0) (λ a. mark-is a p b)) (points (suc n)) (points-below n))
 
   pub rims-are : r ≡ length (rims n (marks n g))
   rims-are = D .counted ∙ ap (λ (E : Set). length (rims n E)) (came-start n g w lg lw h)
 
   pub all-well : (g₄ w₄ : List ℕ) → g₄ ≡ paint low (pointCount n) g₃ → w₄ ≡ paint nought (pointCount n) w₃ → PatchedWell n g w g₄ w₄ r
   all-well g₄ w₄ eg ew = record {
-      rims-is = rims-are;
-      bytes-is = ap (take (pointCount n)) eg ∙ bytes-are;
-      grid-past = λ i l. ap (λ (s : List ℕ). getD s i 0) eg ∙ paint-past low (pointCount n) g₃ i l ∙ D .g-past i l ∙ paint-past nine (pointCount n) g i l;
-      work-zero = λ i l. let e = D .w-long ∙ paint-length nought (pointCount n) w in ap (λ (s : List ℕ). getD s i 0) ew ∙ paint-at nought (pointCount n) w₃ i l (omega arith);
-      work-past = λ i l. ap (λ (s : List ℕ). getD s i 0) ew ∙ paint-past nought (pointCount n) w₃ i l ∙ D .w-past i l ∙ paint-past nought (pointCount n) w i l }
+    rims-is = rims-are;
+    bytes-is = ap (take (pointCount n)) eg ∙ bytes-are;
+    grid-past = λ i l. ap (λ (s : List ℕ). getD s i 0) eg ∙ paint-past low (pointCount n) g₃ i l ∙ D .g-past i l ∙ paint-past nine (pointCount n) g i l;
+    work-zero = λ i l. let e = D .w-long ∙ paint-length nought (pointCount n) w in ap (λ (s : List ℕ). getD s i 0) ew ∙ paint-at nought (pointCount n) w₃ i l (omega arith);
+    work-past = λ i l. ap (λ (s : List ℕ). getD s i 0) ew ∙ paint-past nought (pointCount n) w₃ i l ∙ D .w-past i l ∙ paint-past nought (pointCount n) w i l;
+  }
 
 pub total-is : (n : ℕ) → (n + 1) * (n + 1) * (n + 1) ≡ pointCount n
 total-is n = simp add-one
@@ -165,5 +171,5 @@ module _ (n : ℕ) (g w : List ℕ) (lg : pointCount n ≤ length g) (lw : point
       let eg′ : g₁ ≡ paint nine (pointCount n) g = eg ∙ ap (λ (j : ℕ). paint nine j g) ek in
       let ew′ : w₁ ≡ paint nought (pointCount n) w = ew ∙ ap (λ (j : ℕ). paint nought j w) ek in
       let F = subst (λ (x : List ℕ). Between n (came n (paint nine (pointCount n) g)) none (paint nine (pointCount n) g) x (paint nine (pointCount n) g) x 0 → Finished n (came n (paint nine (pointCount n) g)) (paint nine (pointCount n) g) x g₃ w₃ r) ew′
-              (subst (λ (x : List ℕ). Between n (came n x) none x w₁ x w₁ 0 → Finished n (came n x) x w₁ g₃ w₃ r) eg′ f) in
+      (subst (λ (x : List ℕ). Between n (came n x) none x w₁ x w₁ 0 → Finished n (came n x) x w₁ g₃ w₃ r) eg′ f) in
       all-well n g w lg lw h g₃ w₃ r (F (start n g w lg lw h)) g₄ w₄ (fg ∙ ap (λ (j : ℕ). paint low j g₃) ek) (fw ∙ ap (λ (j : ℕ). paint nought j w₃) ek)

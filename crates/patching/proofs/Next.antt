@@ -127,7 +127,7 @@ module _ (n : ℕ) (E : Set) (inner : (a : Axis) (p : Point) → E a p ≡ true 
   owns-has : All (λ r. owns (f .at) r ≡ elem f r) (rims n E)
   owns-has = all-weaken _ _ (λ r c. same-test (owns (f .at) r) (elem f r)
       (λ e. let x = find (λ g. samePoint (g .at) (f .at)) (λ g. elem g r ≡ true) r (members r) e in
-          c (x .0) (neighbours-cell (f .at) (x .0) f (subst (λ (y : Point). ofCell y (x .0) ≡ true) (samePoint→ (x .0 .at) (f .at) (x .1)) (own-upper (x .0))) (own-upper f)) (x .2))
+      c (x .0) (neighbours-cell (f .at) (x .0) f (subst (λ (y : Point). ofCell y (x .0) ≡ true) (samePoint→ (x .0 .at) (f .at) (x .1)) (own-upper (x .0))) (own-upper f)) (x .2))
       (λ e. any-mono (samePlace f) (λ g. samePoint (g .at) (f .at)) (λ g s. subst (λ (y : Place). samePoint (y .at) (f .at) ≡ true) (samePlace→ f g s) (same-point (f .at))) r e)) (rims n E) closes
 
   one-has : count (elem f) (rims n E) ≡ 1
@@ -146,9 +146,9 @@ module _ (n : ℕ) (E : Set) (inner : (a : Axis) (p : Point) → E a p ≡ true 
   shut a p o u l =
       B .seen-now p u
       ∙ any-same (λ r. hit r && touch p r) (λ r. hit r && touch (down a p) r) (rims n E)
-          (all-pair (λ r. touch p r ≡ elem (record { axis = a; at = p }) r) (λ r. touch (down a p) r ≡ elem (record { axis = a; at = p }) r) _ (λ r x y. ap (λ (t : Bool). hit r && t) (x ∙ sym y)) (rims n E)
-              (touch-has n E inner (record { axis = a; at = p }) o p (own-upper (record { axis = a; at = p })))
-              (touch-has n E inner (record { axis = a; at = p }) o (down a p) (own-lower (record { axis = a; at = p }))))
+      (all-pair (λ r. touch p r ≡ elem (record { axis = a; at = p }) r) (λ r. touch (down a p) r ≡ elem (record { axis = a; at = p }) r) _ (λ r x y. ap (λ (t : Bool). hit r && t) (x ∙ sym y)) (rims n E)
+      (touch-has n E inner (record { axis = a; at = p }) o p (own-upper (record { axis = a; at = p })))
+      (touch-has n E inner (record { axis = a; at = p }) o (down a p) (own-lower (record { axis = a; at = p }))))
       ∙ sym (B .seen-now (down a p) l)
 
   shut′ : (a : Axis) (p : Point) → oddFace E a p ≡ true → seenB n w p ≡ seenB n w (down a p)
@@ -191,11 +191,13 @@ module _ (n : ℕ) (E : Set) (inner : (a : Axis) (p : Point) → E a p ≡ true 
       old true false e = refl
       old false true e = e
       old false false e = refl
+
       fresh : (x y : Bool) → y ≡ false → x ≡ y || (x && not y)
       fresh true true e = refl
       fresh true false e = refl
       fresh false true e = absurd (true≢false e)
       fresh false false e = refl
+
       go : (getD v (pointNumber n q) 0 ≡ getD w (pointNumber n q) 0) ⊎ New n E w v c q → seenB n v q ≡ seenB n w q || (seenB n v q && not (seenB n w q))
       go (inl e) = old (seenB n v q) (seenB n w q) (seen-same n w v q e)
       go (inr h) = fresh (seenB n v q) (seenB n w q) (h .dark)
@@ -206,36 +208,40 @@ module _ (n : ℕ) (E : Set) (inner : (a : Axis) (p : Point) → E a p ≡ true 
 
   pub rim-next : (g₂ w₂ : List ℕ) → g₂ ≡ turns n (patchOf b (stored n v)) g → w₂ ≡ works n (patchOf b (stored n v)) v → Between n E (λ s. owns c s || hit s) g₀ w₀ g₂ w₂ (k + 1)
   rim-next g₂ w₂ eg ew = record {
-      g-long = ap length eg ∙ turns-length n (patchOf b (stored n v)) g ∙ B .g-long;
-      w-long = ap length ew ∙ turns-length n (each facesOf (patchOf b (stored n v))) v ∙ F .long ∙ B .w-long;
-      g-past = λ i l. ap (λ (s : List ℕ). getD s i 0) eg ∙ turns-past n (patchOf b (stored n v)) g i (low-edges n (patchOf b (stored n v)) ed) l ∙ B .g-past i l;
-      w-past = λ i l. ap (λ (s : List ℕ). getD s i 0) ew ∙ turns-past n (each facesOf (patchOf b (stored n v))) v i (low-faces n (patchOf b (stored n v)) ed) l ∙ F .past i l ∙ B .w-past i l;
-      came-in = λ i. ap (λ (s : List ℕ). getD s i 0 / 8) eg ∙ turns-high n (patchOf b (stored n v)) g i (low-edges n (patchOf b (stored n v)) ed) g-size ∙ B .came-in i;
-      marks-now = λ a p l. ap (λ (s : List ℕ). stored n s a p) eg ∙ stored-turns n (patchOf b (stored n v)) g (low-edges n (patchOf b (stored n v)) ed) g-size a p l
-          ∙ ap (λ (x : Bool). x ⊕ setOf (patchOf b (stored n v)) a p) (B .marks-now a p l)
-          ∙ assoc (stored n g₀ a p) (parity (λ r. hit r && setOf (patchRim r) a p) (rims n E)) (setOf (patchOf b (stored n v)) a p)
-          ∙ ap (λ (x : Bool). stored n g₀ a p ⊕ x) (sym (join-sum (owns c) hit (λ r. setOf (patchRim r) a p) (setOf (patchOf b (stored n v)) a p) (rims n E) not-hit
-              (all-pair (λ r. owns c r ≡ elem (record { axis = a₀; at = c }) r) _ _ (λ r x y e. ap (λ (t : List Place). setOf t a p) (sym (y (sym x ∙ e) .patches))) (rims n E) own-is got) own-one));
-      work-now = λ a p l. ap (λ (s : List ℕ). stored n s a p) ew ∙ stored-works n (patchOf b (stored n v)) v ed w-size′ a p l
-          ∙ ap₂ _⊕_ (stored-is n E inner w v c b F a₀ o₀ shut′ (B .work-now) a p l) (ap (λ (t : List Place). oddFace (setOf t) a p) (the .2 (the .1) .patches) ∙ the .2 (the .1) .clears a p)
-          ∙ ⊕-self (S n E inner w v c b F a₀ o₀ shut′ (B .work-now) (record { axis = a; at = p }));
-      seen-now = λ q u. high-same w₂ v q (ap (λ (s : List ℕ). getD s (pointNumber n q) 0 / 8) ew ∙ turns-high n (each facesOf (patchOf b (stored n v))) v (pointNumber n q) (low-faces n (patchOf b (stored n v)) ed) w-size′)
-          ∙ seen-or q u ∙ ap (λ (x : Bool). x || newB n E inner w v c b F a₀ o₀ shut′ (B .work-now) q) (B .seen-now q u)
-          ∙ sym (join-any (owns c) hit (touch q) (newB n E inner w v c b F a₀ o₀ shut′ (B .work-now) q) (rims n E) not-hit
-              (all-pair (λ r. owns c r ≡ elem (record { axis = a₀; at = c }) r) _ _ (λ r x y e. y (sym x ∙ e) .touches q u) (rims n E) own-is got) own-one);
-      counted =
-          let s = count-or-one (owns c) hit (rims n E) own-one in
-          let z = no-any (λ r. hit r && owns c r) (rims n E) (all-weaken _ _ (λ r h. no-both (hit r) (owns c r) h) (rims n E) not-hit) in
-          ap (λ (i : ℕ). i + 1) (B .counted) ∙ sym (s ∙ ap (λ (x : Bool). count hit (rims n E) + cond x 0 1) z) }
+    g-long = ap length eg ∙ turns-length n (patchOf b (stored n v)) g ∙ B .g-long;
+    w-long = ap length ew ∙ turns-length n (each facesOf (patchOf b (stored n v))) v ∙ F .long ∙ B .w-long;
+    g-past = λ i l. ap (λ (s : List ℕ). getD s i 0) eg ∙ turns-past n (patchOf b (stored n v)) g i (low-edges n (patchOf b (stored n v)) ed) l ∙ B .g-past i l;
+    w-past = λ i l. ap (λ (s : List ℕ). getD s i 0) ew ∙ turns-past n (each facesOf (patchOf b (stored n v))) v i (low-faces n (patchOf b (stored n v)) ed) l ∙ F .past i l ∙ B .w-past i l;
+    came-in = λ i. ap (λ (s : List ℕ). getD s i 0 / 8) eg ∙ turns-high n (patchOf b (stored n v)) g i (low-edges n (patchOf b (stored n v)) ed) g-size ∙ B .came-in i;
+    marks-now = λ a p l. ap (λ (s : List ℕ). stored n s a p) eg ∙ stored-turns n (patchOf b (stored n v)) g (low-edges n (patchOf b (stored n v)) ed) g-size a p l
+        ∙ ap (λ (x : Bool). x ⊕ setOf (patchOf b (stored n v)) a p) (B .marks-now a p l)
+        ∙ assoc (stored n g₀ a p) (parity (λ r. hit r && setOf (patchRim r) a p) (rims n E)) (setOf (patchOf b (stored n v)) a p)
+        ∙ ap (λ (x : Bool). stored n g₀ a p ⊕ x) (sym (join-sum (owns c) hit (λ r. setOf (patchRim r) a p) (setOf (patchOf b (stored n v)) a p) (rims n E) not-hit
+        (all-pair (λ r. owns c r ≡ elem (record { axis = a₀; at = c }) r) _ _ (λ r x y e. ap (λ (t : List Place). setOf t a p) (sym (y (sym x ∙ e) .patches))) (rims n E) own-is got) own-one));
+    work-now = λ a p l. ap (λ (s : List ℕ). stored n s a p) ew ∙ stored-works n (patchOf b (stored n v)) v ed w-size′ a p l
+        ∙ ap₂ _⊕_ (stored-is n E inner w v c b F a₀ o₀ shut′ (B .work-now) a p l) (ap (λ (t : List Place). oddFace (setOf t) a p) (the .2 (the .1) .patches) ∙ the .2 (the .1) .clears a p)
+        ∙ ⊕-self (S n E inner w v c b F a₀ o₀ shut′ (B .work-now) (record { axis = a; at = p }));
+    seen-now = λ q u. high-same w₂ v q (ap (λ (s : List ℕ). getD s (pointNumber n q) 0 / 8) ew ∙ turns-high n (each facesOf (patchOf b (stored n v))) v (pointNumber n q) (low-faces n (patchOf b (stored n v)) ed) w-size′)
+        ∙ seen-or q u ∙ ap (λ (x : Bool). x || newB n E inner w v c b F a₀ o₀ shut′ (B .work-now) q) (B .seen-now q u)
+        ∙ sym (join-any (owns c) hit (touch q) (newB n E inner w v c b F a₀ o₀ shut′ (B .work-now) q) (rims n E) not-hit
+        (all-pair (λ r. owns c r ≡ elem (record { axis = a₀; at = c }) r) _ _ (λ r x y e. y (sym x ∙ e) .touches q u) (rims n E) own-is got) own-one);
+    counted =
+        let s = count-or-one (owns c) hit (rims n E) own-one in
+        let z = no-any (λ r. hit r && owns c r) (rims n E) (all-weaken _ _ (λ r h. no-both (hit r) (owns c r) h) (rims n E) not-hit) in
+        ap (λ (i : ℕ). i + 1) (B .counted) ∙ sym (s ∙ ap (λ (x : Bool). count hit (rims n E) + cond x 0 1) z);
+  }
     where
       ed : All (Edged n) (patchOf b (stored n v))
       ed = patch-edged n b (stored n v) fit
+
       assoc : (p q s : Bool) → (p ⊕ q) ⊕ s ≡ p ⊕ (q ⊕ s)
       assoc p q s = simp xors
+
       no-both : (x y : Bool) → (y ≡ true → x ≡ false) → x && y ≡ false
       no-both true true h = h refl
       no-both true false h = refl
       no-both false y h = refl
+
       the : (r : List Place) × (elem (record { axis = a₀; at = c }) r ≡ true) × (elem (record { axis = a₀; at = c }) r ≡ true → Result n E inner w v c b F a₀ o₀ shut′ (B .work-now) r)
       the = find (elem (record { axis = a₀; at = c })) _ (rims n E) got (any-has n E inner (record { axis = a₀; at = c }) o₀)
 
@@ -251,9 +257,11 @@ module _ {R : Type 0} where
     where
       absent : (s : R) → x s ≡ false → x s ≡ true → y s ≡ true
       absent s f t = absurd (true≢false (sym t ∙ f))
+
       and-no : (p q : Bool) → q ≡ false → p && q ≡ false
       and-no true q k = k
       and-no false q k = refl
+
       go : (b : Bool) → x r ≡ b → cond b (suc (count x rs)) (count x rs) ≤ 1 → (y r && x r) || anyOf (λ s. y s && x s) rs ≡ true → (count x rs ≤ 1 → anyOf (λ s. y s && x s) rs ≡ true → All (λ s. x s ≡ true → y s ≡ true) rs) → All (λ s. x s ≡ true → y s ≡ true) (r ∷ rs)
       go true q c a i =
           let n = count-none x rs (omega arith) in
@@ -272,15 +280,21 @@ module _ {R : Type 0} where
 module _ (n : ℕ) (E : Set) (hit : List Place → Bool) (g₀ w₀ g w : List ℕ) (k : ℕ) (B : Between n E hit g₀ w₀ g w k) (c : Point) where
   same-hit : All (λ r. owns c r ≡ true → hit r ≡ true) (rims n E) → Between n E (λ s. owns c s || hit s) g₀ w₀ g w (k + 0)
   same-hit h = record {
-      g-long = B .g-long; w-long = B .w-long; g-past = B .g-past; w-past = B .w-past; came-in = B .came-in;
-      marks-now = λ a p l. B .marks-now a p l ∙ ap (λ (x : Bool). stored n g₀ a p ⊕ x) (sym (parity-all _ _ (rims n E) (all-weaken _ _ (λ r e. ap (λ (x : Bool). x && setOf (patchRim r) a p) e) (rims n E) eq)));
-      work-now = B .work-now;
-      seen-now = λ q u. B .seen-now q u ∙ sym (any-same _ _ (rims n E) (all-weaken _ _ (λ r e. ap (λ (x : Bool). x && touch q r) e) (rims n E) eq));
-      counted = (let z : k + 0 ≡ k = omega arith in z) ∙ B .counted ∙ sym (count-same (λ s. owns c s || hit s) hit (rims n E) eq) }
+    g-long = B .g-long;
+    w-long = B .w-long;
+    g-past = B .g-past;
+    w-past = B .w-past;
+    came-in = B .came-in;
+    marks-now = λ a p l. B .marks-now a p l ∙ ap (λ (x : Bool). stored n g₀ a p ⊕ x) (sym (parity-all _ _ (rims n E) (all-weaken _ _ (λ r e. ap (λ (x : Bool). x && setOf (patchRim r) a p) e) (rims n E) eq)));
+    work-now = B .work-now;
+    seen-now = λ q u. B .seen-now q u ∙ sym (any-same _ _ (rims n E) (all-weaken _ _ (λ r e. ap (λ (x : Bool). x && touch q r) e) (rims n E) eq));
+    counted = (let z : k + 0 ≡ k = omega arith in z) ∙ B .counted ∙ sym (count-same (λ s. owns c s || hit s) hit (rims n E) eq);
+  }
     where
       absorb : (x y : Bool) → (x ≡ true → y ≡ true) → x || y ≡ y
       absorb true y f = sym (f refl)
       absorb false y f = refl
+
       eq : All (λ r. owns c r || hit r ≡ hit r) (rims n E)
       eq = all-weaken _ _ (λ r f. absorb (owns c r) (hit r) f) (rims n E) h
 

@@ -48,14 +48,17 @@ of-own f q l = go f l
   where
     at : (F : Place) → faceOf f q ≡ F → ofCell q F ≡ true → ofCell q (faceOf f q) ≡ true
     at F e k = subst (λ (x : Place). ofCell q x ≡ true) (sym e) k
+
     low-at : (a : Axis) → ofCell q (record { axis = a; at = q }) ≡ true
     low-at a = ap (λ (x : Bool). x || samePoint q (up a q)) (same-point q)
+
     high-at : (a : Axis) → ofCell q (record { axis = a; at = up a q }) ≡ true
     high-at a = two (samePoint (up a q) q) (same-point (up a q))
       where
         two : (x : Bool) → samePoint (up a q) (up a q) ≡ true → x || samePoint (up a q) (up a q) ≡ true
         two true e = refl
         two false e = e
+
     go : (k : ℕ) → k < 6 → ofCell q (faceOf k q) ≡ true
     go zero h = subst (λ (x : Place). ofCell q x ≡ true) (sym (face-0 q)) (low-at X)
     go (suc zero) h = subst (λ (x : Place). ofCell q x ≡ true) (sym (face-1 q)) (low-at Y)
@@ -174,6 +177,7 @@ module _ (n : ℕ) (E : Set) (inner : (a : Axis) (p : Point) → E a p ≡ true 
       clash true true p r = false≢true p
       clash true false p r = true≢false r
       clash false y p r = false≢true p
+
       go : (getD v (pointNumber n q) 0 ≡ getD w (pointNumber n q) 0) ⊎ New n E w v c q → New n E w v c q
       go (inl h) = absurd (clash (seenB n v q) (seenB n w q) e (seen-same n w v q h))
       go (inr h) = h
@@ -188,12 +192,12 @@ module _ (n : ℕ) (E : Set) (inner : (a : Axis) (p : Point) → E a p ≡ true 
   cells-agree : (a : Axis) (p : Point) → oddFace E a p ≡ true → newB p ≡ newB (down a p)
   cells-agree a p o = same-test (newB p) (newB (down a p))
       (λ e. both (seenB n v (down a p)) (not (seenB n w (down a p)))
-          (subst (λ (q : Point). seenB n v q ≡ true) (across-low a p) (F .closed p (to-new p (pr .upper) e) (indexOf a) (let i = index-small a in omega arith) (subst (λ (x : Place). oddFace E (x .axis) (x .at) ≡ true) (sym (face-low a p)) o)))
-          (ap not (sym (shut a p o)) ∙ and-right (seenB n v p) (not (seenB n w p)) e))
+      (subst (λ (q : Point). seenB n v q ≡ true) (across-low a p) (F .closed p (to-new p (pr .upper) e) (indexOf a) (let i = index-small a in omega arith) (subst (λ (x : Place). oddFace E (x .axis) (x .at) ≡ true) (sym (face-low a p)) o)))
+      (ap not (sym (shut a p o)) ∙ and-right (seenB n v p) (not (seenB n w p)) e))
       (λ e. both (seenB n v p) (not (seenB n w p))
-          (subst (λ (q : Point). seenB n v q ≡ true) (across-high a (down a p) ∙ up-down a p (pr .above)) (F .closed (down a p) (to-new (down a p) (pr .lower) e) (indexOf a + 3) (index-small a .1)
-              (subst (λ (x : Place). oddFace E (x .axis) (x .at) ≡ true) (sym (face-high a (down a p) ∙ ap (λ (q : Point). record { axis = a; at = q }) (up-down a p (pr .above)))) o)))
-          (ap not (shut a p o) ∙ and-right (seenB n v (down a p)) (not (seenB n w (down a p))) e))
+      (subst (λ (q : Point). seenB n v q ≡ true) (across-high a (down a p) ∙ up-down a p (pr .above)) (F .closed (down a p) (to-new (down a p) (pr .lower) e) (indexOf a + 3) (index-small a .1)
+      (subst (λ (x : Place). oddFace E (x .axis) (x .at) ≡ true) (sym (face-high a (down a p) ∙ ap (λ (q : Point). record { axis = a; at = q }) (up-down a p (pr .above)))) o)))
+      (ap not (shut a p o) ∙ and-right (seenB n v (down a p)) (not (seenB n w (down a p))) e))
     where
       pr : Pair n a p
       pr = pair-of a p o
@@ -233,8 +237,8 @@ module _ (n : ℕ) (E : Set) (inner : (a : Axis) (p : Point) → E a p ≡ true 
   rim-is = fill-rim (oddFaces n E) f₀ S (both (newB c) (oddFace E a₀ c) seed-new o₀)
       (λ g e. reach (g .at) (s-new g e .route) g (own-upper g) (s-odd g e))
       (λ g h k l e. let o = sym (elem-odd n E inner h) ∙ l in let x = neighbours-cells g h k in
-          both (newB (h .at)) (oddFace E (h .axis) (h .at))
-              (at-cell h (x .0) o (x .2) ∙ sym (at-cell g (x .0) (s-odd g e) (x .1)) ∙ and-left (newB (g .at)) (oddFace E (g .axis) (g .at)) e) o)
+      both (newB (h .at)) (oddFace E (h .axis) (h .at))
+      (at-cell h (x .0) o (x .2) ∙ sym (at-cell g (x .0) (s-odd g e) (x .1)) ∙ and-left (newB (g .at)) (oddFace E (g .axis) (g .at)) e) o)
 
   -- the working set after the walk
   pub stored-is : (a : Axis) (p : Point) → OfGrid n p → stored n v a p ≡ S (record { axis = a; at = p })
@@ -244,6 +248,7 @@ module _ (n : ℕ) (E : Set) (inner : (a : Axis) (p : Point) → E a p ≡ true 
       none true true e = refl
       none true false e = absurd (true≢false e)
       none false y e = refl
+
       go : (getD v (pointNumber n p) 0 ≡ getD w (pointNumber n p) 0) ⊎ New n E w v c p → stored n v a p ≡ newB p && oddFace E a p
       go (inl e) = ap (Rattle.rules.specs.Grid.has a) e ∙ clear a p l ∙ sym (ap (λ (x : Bool). x && oddFace E a p) (none (seenB n v p) (seenB n w p) (seen-same n w v p e)))
       go (inr h) = h .faces a ∙ sym (ap (λ (x : Bool). x && oddFace E a p) (of-new p h))
@@ -264,15 +269,16 @@ module _ (n : ℕ) (E : Set) (inner : (a : Axis) (p : Point) → E a p ≡ true 
   unfolding patchRim patchOf
   result [] e s d i z = absurd (false≢true e)
   result (f ∷ l) e s d i z = record {
-      box = box-is;
-      patches = patchOf-cong b (stored n v) (setOf (f ∷ l)) (λ a p k. stored-is a p (in-low a p k) ∙ s (record { axis = a; at = p }) ∙ sym (d (record { axis = a; at = p })))
-          ∙ ap (λ (x : Box). patch (size x) x (setOf (f ∷ l))) box-is;
-      clears = λ a p. rim-ends (f ∷ l) i z a p ∙ d (record { axis = a; at = p }) ∙ sym (s (record { axis = a; at = p }));
-      touches = λ q cell. same-test (touch q (f ∷ l)) (newB q)
-          (λ k. let x = find (ofCell q) (λ g. elem g (f ∷ l) ≡ true) (f ∷ l) (members (f ∷ l)) k in
-              let t = s (x .0) ∙ x .2 in
-              sym (at-cell (x .0) q (s-odd (x .0) t) (x .1)) ∙ and-left (newB (x .0 .at)) _ t)
-          (λ k. touch-of q (to-new q cell k)) }
+    box = box-is;
+    patches = patchOf-cong b (stored n v) (setOf (f ∷ l)) (λ a p k. stored-is a p (in-low a p k) ∙ s (record { axis = a; at = p }) ∙ sym (d (record { axis = a; at = p })))
+        ∙ ap (λ (x : Box). patch (size x) x (setOf (f ∷ l))) box-is;
+    clears = λ a p. rim-ends (f ∷ l) i z a p ∙ d (record { axis = a; at = p }) ∙ sym (s (record { axis = a; at = p }));
+    touches = λ q cell. same-test (touch q (f ∷ l)) (newB q)
+        (λ k. let x = find (ofCell q) (λ g. elem g (f ∷ l) ≡ true) (f ∷ l) (members (f ∷ l)) k in
+        let t = s (x .0) ∙ x .2 in
+        sym (at-cell (x .0) q (s-odd (x .0) t) (x .1)) ∙ and-left (newB (x .0 .at)) _ t)
+        (λ k. touch-of q (to-new q cell k));
+  }
     where
       held : (q : Point) → New n E w v c q → Sub (cellBox q) (boxOf (f ∷ l))
       held q h =
@@ -287,6 +293,7 @@ module _ (n : ℕ) (E : Set) (inner : (a : Axis) (p : Point) → E a p ≡ true 
               go : (samePoint (g .at) q ≡ true) ⊎ (samePoint (g .at) (up (g .axis) q) ≡ true) → Sub (cellBox q) (ownBox g)
               go (inl e) = subst (λ (x : Point). Sub (cellBox x) (ownBox g)) (samePoint→ (g .at) q e) (upper-sub g)
               go (inr e) = subst (λ (x : Point). Sub (cellBox x) (ownBox g)) (ap (down (g .axis)) (samePoint→ (g .at) (up (g .axis) q) e) ∙ down-up (g .axis) q) (lower-sub g)
+
       own-in : (g : Place) → elem g (f ∷ l) ≡ true → Sub (ownBox g) b
       own-in g k =
           let t = s g ∙ k in
@@ -294,10 +301,13 @@ module _ (n : ℕ) (E : Set) (inner : (a : Axis) (p : Point) → E a p ≡ true 
           let pr = pair-of (g .axis) (g .at) o in
           let m = and-left (newB (g .at)) _ t in
           own-sub (g .axis) (g .at) b (pr .above) (F .holds (g .at) (to-new (g .at) (pr .upper) m)) (F .holds (down (g .axis) (g .at)) (to-new _ (pr .lower) (sym (cells-agree (g .axis) (g .at) o) ∙ m)))
+
       box-is : b ≡ boxOf (f ∷ l)
       box-is = eq6 b (boxOf (f ∷ l)) (F .least (boxOf (f ∷ l)) held) (box-least f l b (all-weaken (λ g. elem g (f ∷ l) ≡ true) (λ g. Sub (ownBox g) b) own-in (f ∷ l) (members (f ∷ l))))
+
       in-low : (a : Axis) (p : Point) → faceIn b a p ≡ true → OfGrid n p
       in-low a p k = box-face n b fits a p k
+
       touch-of : (q : Point) → New n E w v c q → touch q (f ∷ l) ≡ true
       touch-of q h =
           let x = some-face q (h .route) in
@@ -309,10 +319,10 @@ module _ (n : ℕ) (E : Set) (inner : (a : Axis) (p : Point) → E a p ≡ true 
   unfolding rims
   results =
       all-pair (λ r. elem f₀ r ≡ true → (g : Place) → S g ≡ elem g r) (λ r. ((g : Place) → setOf r (g .axis) (g .at) ≡ elem g r) × All Inner r × ((p : Point) → oddCell (setOf r) p ≡ false)) _
-          (λ r h k e. result r e (h e) (k .0) (k .1) (k .2)) (rims n E) rim-is
-          (all-pair (λ r. (g : Place) → setOf r (g .axis) (g .at) ≡ elem g r) (λ r. All Inner r × ((p : Point) → oddCell (setOf r) p ≡ false)) _ (λ r x y. (x, y .0, y .1)) (rims n E)
-              (all-swap (λ g r. setOf r (g .axis) (g .at) ≡ elem g r) (rims n E) (rim-set n E inner))
-              (all-pair (All Inner) (λ r. (p : Point) → oddCell (setOf r) p ≡ false) _ (λ r x y. (x, y)) (rims n E)
-                  (rims-all Inner (oddFaces n E) (odd-inner n E inner))
-                  (all-swap (λ q r. oddCell (setOf r) q ≡ false) (rims n E)
-                      (rims-even (oddFaces n E) (λ q. ap (λ (G : Set). oddCell G q) (fun-ext (λ d. fun-ext (λ s. odd-listed n E inner d s))) ∙ cell-even E q)))))
+      (λ r h k e. result r e (h e) (k .0) (k .1) (k .2)) (rims n E) rim-is
+      (all-pair (λ r. (g : Place) → setOf r (g .axis) (g .at) ≡ elem g r) (λ r. All Inner r × ((p : Point) → oddCell (setOf r) p ≡ false)) _ (λ r x y. (x, y .0, y .1)) (rims n E)
+      (all-swap (λ g r. setOf r (g .axis) (g .at) ≡ elem g r) (rims n E) (rim-set n E inner))
+      (all-pair (All Inner) (λ r. (p : Point) → oddCell (setOf r) p ≡ false) _ (λ r x y. (x, y)) (rims n E)
+      (rims-all Inner (oddFaces n E) (odd-inner n E inner))
+      (all-swap (λ q r. oddCell (setOf r) q ≡ false) (rims n E)
+      (rims-even (oddFaces n E) (λ q. ap (λ (G : Set). oddCell G q) (fun-ext (λ d. fun-ext (λ s. odd-listed n E inner d s))) ∙ cell-even E q)))))

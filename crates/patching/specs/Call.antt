@@ -41,11 +41,12 @@ zeros (suc k) = 0 ∷ zeros k
 
 unfoldable pub done : ℕ → List ℕ → List ℕ → Outcome
 done n g w = record {
-    number = 0;
-    rims = length (rims n (marks n g));
-    flips = count (isIn (setOf (flips n (marks n g)))) (places (suc n));
-    grid = bytes n (patched n (marks n g)) ++ drop (pointCount n) g;
-    work = zeros (pointCount n) ++ drop (pointCount n) w }
+  number = 0;
+  rims = length (rims n (marks n g));
+  flips = count (isIn (setOf (flips n (marks n g)))) (places (suc n));
+  grid = bytes n (patched n (marks n g)) ++ drop (pointCount n) g;
+  work = zeros (pointCount n) ++ drop (pointCount n) w;
+}
 
 unfoldable pub patchAt : ℕ → List ℕ → List ℕ → Outcome
 patchAt n g w =

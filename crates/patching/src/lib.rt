@@ -1,9 +1,9 @@
 // The call patch.
+use halving::halves;
+use rules::Point;
 use walking::fill;
 use walking::own;
 use walking::seen;
-use rules::Point;
-use halving::halves;
 ghost use mathlib.Core.Path.{_≡_};
 ghost use mathlib.Core.Bool.{Bool, _||_};
 ghost use mathlib.Core.List.{List};
@@ -52,7 +52,11 @@ fn cell_of(n: usize, k: usize) -> Point
     requires { ⌜ (1 ≤ n) × (n ≤ 32) × (k < n * n * n) ⌝ }
     ensures { λ r. ⌜ (r ≡ cellOf n k) × Cell n r ⌝ }
 {
-    Point { i: k % n, j: k / n % n, k: k / n / n }
+    Point {
+        i: k % n,
+        j: k / n % n,
+        k: k / n / n,
+    }
 }
 
 // Patches every rim, and counts them.
@@ -91,7 +95,10 @@ pub fn patch_grid(n: usize, grid: &mut [u8], work: &mut [u8]) -> Counts
     prepare(count, grid, work);
     let rims = all_rims(n, grid, work);
     let flips = finish(count, grid, work);
-    Counts { rims: rims, flips: flips }
+    Counts {
+        rims: rims,
+        flips: flips,
+    }
 }
 
 // Puts each mark beside itself, into the bits 8, 16, 32, and clears the work bytes.

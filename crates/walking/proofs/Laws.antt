@@ -23,7 +23,7 @@ use Rattle.rules.proofs.Boxes.{faceIn→}
 use Rattle.rules.proofs.Patched.{odd-in}
 use Rattle.rules.proofs.Numbers.{number-below, has-bit, three-of}
 use Rattle.rules.proofs.Store.{number-inj}
-use Rattle.lattice.specs.Cells.{faceRule, faceOf, edgeOf, old, Cell}
+use Rattle.lattice.specs.Cells.{faceRule, faceOf, edgeOf, layer, Cell}
 use Rattle.rules.specs.Condition.{OfGrid}
 use Rattle.lattice.proofs.Laws.{odd-four, edge-below, face-small}
 use Rattle.walking.specs.Walks.{came, Fine, oddAt, seenB, acrossOf, opposite, sawOf, visitOf, openB, firstOpen}
@@ -88,8 +88,10 @@ module _ (n : ℕ) (E : Set) (inner : (a : Axis) (p : Point) → E a p ≡ true 
       let ey : (down X c) .j ≡ c .j = refl in
       let ez : (down X c) .k ≡ c .k = refl in
       let eb : (up X (down X c)) .i ≡ suc ((down X c) .i) = refl in
-      record { cell = subst (Cell n) (sym e) (omega arith);
-               back = ap (acrossOf 3) e ∙ high 3 (down X c) X _ refl (face-3 (down X c)) ∙ pointAt-eq _ _ (omega arith) refl refl }
+      record {
+        cell = subst (Cell n) (sym e) (omega arith);
+        back = ap (acrossOf 3) e ∙ high 3 (down X c) X _ refl (face-3 (down X c)) ∙ pointAt-eq _ _ (omega arith) refl refl;
+      }
   crossed (suc zero) c h k o =
       let b = faceIn→ (whole n) Y c (odd-face 1 c _ (face-1 c) o) in
       let e = low 1 c Y c refl (face-1 c) in
@@ -97,8 +99,10 @@ module _ (n : ℕ) (E : Set) (inner : (a : Axis) (p : Point) → E a p ≡ true 
       let ey : c .j ≡ suc ((down Y c) .j) = pred-suc (c .j) (b .1 .low) in
       let ez : (down Y c) .k ≡ c .k = refl in
       let eb : (up Y (down Y c)) .j ≡ suc ((down Y c) .j) = refl in
-      record { cell = subst (Cell n) (sym e) (omega arith);
-               back = ap (acrossOf 4) e ∙ high 4 (down Y c) Y _ refl (face-4 (down Y c)) ∙ pointAt-eq _ _ refl (omega arith) refl }
+      record {
+        cell = subst (Cell n) (sym e) (omega arith);
+        back = ap (acrossOf 4) e ∙ high 4 (down Y c) Y _ refl (face-4 (down Y c)) ∙ pointAt-eq _ _ refl (omega arith) refl;
+      }
   crossed (suc (suc zero)) c h k o =
       let b = faceIn→ (whole n) Z c (odd-face 2 c _ (face-2 c) o) in
       let e = low 2 c Z c refl (face-2 c) in
@@ -106,8 +110,10 @@ module _ (n : ℕ) (E : Set) (inner : (a : Axis) (p : Point) → E a p ≡ true 
       let ey : (down Z c) .j ≡ c .j = refl in
       let ez : c .k ≡ suc ((down Z c) .k) = pred-suc (c .k) (b .2 .low) in
       let eb : (up Z (down Z c)) .k ≡ suc ((down Z c) .k) = refl in
-      record { cell = subst (Cell n) (sym e) (omega arith);
-               back = ap (acrossOf 5) e ∙ high 5 (down Z c) Z _ refl (face-5 (down Z c)) ∙ pointAt-eq _ _ refl refl (omega arith) }
+      record {
+        cell = subst (Cell n) (sym e) (omega arith);
+        back = ap (acrossOf 5) e ∙ high 5 (down Z c) Z _ refl (face-5 (down Z c)) ∙ pointAt-eq _ _ refl refl (omega arith);
+      }
   crossed (suc (suc (suc zero))) c h k o =
       let b = faceIn→ (whole n) X (up X c) (odd-face 3 c _ (face-3 c) o) in
       let e = high 3 c X (up X c) refl (face-3 c) in
@@ -115,8 +121,10 @@ module _ (n : ℕ) (E : Set) (inner : (a : Axis) (p : Point) → E a p ≡ true 
       let ey : (up X c) .j ≡ c .j = refl in
       let ez : (up X c) .k ≡ c .k = refl in
       let eb : suc (c .i) ≡ suc ((down X (up X c)) .i) = pred-suc (suc (c .i)) (omega arith) in
-      record { cell = subst (Cell n) (sym e) (omega arith);
-               back = ap (acrossOf 0) e ∙ low 0 (up X c) X _ refl (face-0 (up X c)) ∙ pointAt-eq _ _ (omega arith) refl refl }
+      record {
+        cell = subst (Cell n) (sym e) (omega arith);
+        back = ap (acrossOf 0) e ∙ low 0 (up X c) X _ refl (face-0 (up X c)) ∙ pointAt-eq _ _ (omega arith) refl refl;
+      }
   crossed (suc (suc (suc (suc zero)))) c h k o =
       let b = faceIn→ (whole n) Y (up Y c) (odd-face 4 c _ (face-4 c) o) in
       let e = high 4 c Y (up Y c) refl (face-4 c) in
@@ -124,8 +132,10 @@ module _ (n : ℕ) (E : Set) (inner : (a : Axis) (p : Point) → E a p ≡ true 
       let ey : (up Y c) .j ≡ suc (c .j) = refl in
       let ez : (up Y c) .k ≡ c .k = refl in
       let eb : suc (c .j) ≡ suc ((down Y (up Y c)) .j) = pred-suc (suc (c .j)) (omega arith) in
-      record { cell = subst (Cell n) (sym e) (omega arith);
-               back = ap (acrossOf 1) e ∙ low 1 (up Y c) Y _ refl (face-1 (up Y c)) ∙ pointAt-eq _ _ refl (omega arith) refl }
+      record {
+        cell = subst (Cell n) (sym e) (omega arith);
+        back = ap (acrossOf 1) e ∙ low 1 (up Y c) Y _ refl (face-1 (up Y c)) ∙ pointAt-eq _ _ refl (omega arith) refl;
+      }
   crossed (suc (suc (suc (suc (suc zero))))) c h k o =
       let b = faceIn→ (whole n) Z (up Z c) (odd-face 5 c _ (face-5 c) o) in
       let e = high 5 c Z (up Z c) refl (face-5 c) in
@@ -133,23 +143,25 @@ module _ (n : ℕ) (E : Set) (inner : (a : Axis) (p : Point) → E a p ≡ true 
       let ey : (up Z c) .j ≡ c .j = refl in
       let ez : (up Z c) .k ≡ suc (c .k) = refl in
       let eb : suc (c .k) ≡ suc ((down Z (up Z c)) .k) = pred-suc (suc (c .k)) (omega arith) in
-      record { cell = subst (Cell n) (sym e) (omega arith);
-               back = ap (acrossOf 2) e ∙ low 2 (up Z c) Z _ refl (face-2 (up Z c)) ∙ pointAt-eq _ _ refl refl (omega arith) }
+      record {
+        cell = subst (Cell n) (sym e) (omega arith);
+        back = ap (acrossOf 2) e ∙ low 2 (up Z c) Z _ refl (face-2 (up Z c)) ∙ pointAt-eq _ _ refl refl (omega arith);
+      }
   crossed (suc (suc (suc (suc (suc (suc f)))))) c h k o = absurd (omega arith)
 
 -- ---- marks on inner edges
-pub came-old : (n : ℕ) (g : List ℕ) → Fine n g → (a : Axis) (p : Point) → OfGrid n p → old n g a p ≡ came n g a p
+pub came-old : (n : ℕ) (g : List ℕ) → Fine n g → (a : Axis) (p : Point) → OfGrid n p → layer 8 n g a p ≡ came n g a p
 unfolding came
-came-old n g h a p b = same-test (old n g a p) (edgeIn (whole n) a p && old n g a p) (λ e. both _ _ (h .inner a p b e) e) (λ e. and-right (edgeIn (whole n) a p) (old n g a p) e)
+came-old n g h a p b = same-test (layer 8 n g a p) (edgeIn (whole n) a p && layer 8 n g a p) (λ e. both _ _ (h .inner a p b e) e) (λ e. and-right (edgeIn (whole n) a p) (layer 8 n g a p) e)
 
 pub came-inner : (n : ℕ) (g : List ℕ) (a : Axis) (p : Point) → came n g a p ≡ true → edgeIn (whole n) a p ≡ true
 unfolding came
-came-inner n g a p e = and-left (edgeIn (whole n) a p) (old n g a p) e
+came-inner n g a p e = and-left (edgeIn (whole n) a p) (layer 8 n g a p) e
 
-pub odd-came : (n : ℕ) (g : List ℕ) → Fine n g → (f : ℕ) (c : Point) → Cell n c → oddFace (old n g) (faceOf f c .axis) (faceOf f c .at) ≡ oddAt (came n g) f c
+pub odd-came : (n : ℕ) (g : List ℕ) → Fine n g → (f : ℕ) (c : Point) → Cell n c → oddFace (layer 8 n g) (faceOf f c .axis) (faceOf f c .at) ≡ oddAt (came n g) f c
 odd-came n g h f c k =
-    let e : (s : ℕ) → old n g (edgeOf f s c .axis) (edgeOf f s c .at) ≡ came n g (edgeOf f s c .axis) (edgeOf f s c .at) = λ s. came-old n g h _ _ (edge-below n f s c (edgeOf f s c) k refl) in
-    sym (odd-four (old n g) f c)
+    let e : (s : ℕ) → layer 8 n g (edgeOf f s c .axis) (edgeOf f s c .at) ≡ came n g (edgeOf f s c .axis) (edgeOf f s c .at) = λ s. came-old n g h _ _ (edge-below n f s c (edgeOf f s c) k refl) in
+    sym (odd-four (layer 8 n g) f c)
     ∙ ap₂ _⊕_ (ap₂ _⊕_ (e 0) (e 1)) (ap₂ _⊕_ (e 2) (e 3))
     ∙ odd-four (came n g) f c
 

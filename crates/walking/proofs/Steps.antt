@@ -27,7 +27,7 @@ use Rattle.rules.proofs.Cuts.{samePoint→}
 use Rattle.rules.proofs.Chains.{same-point, or-no-left, or-no-right}
 use Rattle.rules.proofs.Store.{number-inj}
 use Rattle.rules.proofs.RimBox.{Sub}
-use Rattle.lattice.specs.Cells.{faceOf, old, Cell}
+use Rattle.lattice.specs.Cells.{faceOf, layer, Cell}
 use Rattle.rules.specs.Condition.{OfGrid}
 use Rattle.walking.specs.Walks.{came, Fine, oddAt, seenB, acrossOf, opposite, backOf, sawOf, visitOf, openB, firstOpen, cellBox, Walked, pushOf, popOf, stopOf, stepOf, Route, here, over, New, Done, Filled}
 use Rattle.walking.specs.declared.Walk.{Walk}
@@ -81,8 +81,13 @@ module _ (n : ℕ) (E : Set) (w₀ : List ℕ) (seed : Point) where
     new-on : (q : Point) → New n E w₀ w seed q → New n E w₀ after seed q
     new-on q h =
         let e = other q (h .lit) in
-        record { cell = h .cell; dark = h .dark; lit = seen-same n w after q e ∙ h .lit;
-                 faces = λ a. ap (has a) e ∙ h .faces a; route = h .route }
+        record {
+          cell = h .cell;
+          dark = h .dark;
+          lit = seen-same n w after q e ∙ h .lit;
+          faces = λ a. ap (has a) e ∙ h .faces a;
+          route = h .route;
+        }
 
     trail-on : (q : Point) → OnTrail w q → OnTrail after q
     trail-on q h = record { new = new-on q (h .new); dir = subst (λ (k : ℕ). opposite (k / 16) < 6) (sym (other q (h .new .lit))) (h .dir) }
@@ -96,8 +101,12 @@ module _ (n : ℕ) (E : Set) (w₀ : List ℕ) (seed : Point) where
     -- the new cell itself
     new-here : seenB n w₀ d ≡ false → Route E seed d → New n E w₀ after seed d
     new-here h r = record {
-        cell = cell; dark = h; lit = visit-lit n E f d w long (below n d cell);
-        faces = λ a. ap (has a) (visit-same n E f d w long (below n d cell)) ∙ saw-has E f d a; route = r }
+      cell = cell;
+      dark = h;
+      lit = visit-lit n E f d w long (below n d cell);
+      faces = λ a. ap (has a) (visit-same n E f d w long (below n d cell)) ∙ saw-has E f d a;
+      route = r;
+    }
 
     -- a cell that is new afterwards was new, or is d
     new-was : (q : Point) → OfGrid n q → (getD w (pointNumber n q) 0 ≡ getD w₀ (pointNumber n q) 0) ⊎ New n E w₀ w seed q → New n E w₀ after seed q → (q ≡ d) ⊎ New n E w₀ w seed q
@@ -152,51 +161,68 @@ module _ (n : ℕ) (E : Set) (w₀ : List ℕ) (seed : Point) where
 
     pub push-inv : (s : Walked) → Inv s → (f : ℕ) → f < 6 → openB n E (s .work) (s .walk .c) f ≡ true → Inv (pushOf n E f s)
     push-inv s h f l o = record {
-        long = simp-length ∙ h .long;
-        past = λ i k. visit-other n E f d w long (below n d cell) i (λ e. let z = num-small n d (below n d cell) in let y : ⊥ = omega arith in y) ∙ h .past i k;
-        each = λ q b. each-on w f d long cell dark dark₀ route q b (h .each q b);
-        first = new-on w f d long cell dark seed (h .first);
-        trail = subst (All (OnTrail (after w f d long cell dark))) (sym trail-is)
-            (record { new = new-here w f d long cell dark dark₀ route; dir = subst (λ (k : ℕ). opposite (k / 16) < 6) (sym (visit-same n E f d w long (below n d cell))) (subst (λ (k : ℕ). opposite k < 6) (sym (saw-dir E f d)) (opp-small f l)) }
-            , all-weaken _ _ (trail-on w f d long cell dark) (trailOf n w (s .walk .depth) c) (h .trail));
-        closed = λ q k t. done-of q k (sym (ap (anyOf (samePoint q)) trail-is) ∙ t) (new-was w f d long cell dark q (below n q (k .cell)) (h .each q (below n q (k .cell))) k);
-        holds = λ q k. hold-of q (new-was w f d long cell dark q (below n q (k .cell)) (h .each q (below n q (k .cell))) k);
-        least = λ b k. sub-both (s .walk .b) (cellBox d) b (h .least b (λ q m. k q (new-on w f d long cell dark q m))) (k d (new-here w f d long cell dark dark₀ route));
-        room = let e = dark-visit n E f d w long (below n d cell) dark in let r = h .room in omega arith }
+      long = simp-length ∙ h .long;
+      past = λ i k. visit-other n E f d w long (below n d cell) i (λ e. let z = num-small n d (below n d cell) in let y : ⊥ = omega arith in y) ∙ h .past i k;
+      each = λ q b. each-on w f d long cell dark dark₀ route q b (h .each q b);
+      first = new-on w f d long cell dark seed (h .first);
+      trail = subst (All (OnTrail (after w f d long cell dark))) (sym trail-is) (
+        record { new = new-here w f d long cell dark dark₀ route; dir = subst (λ (k : ℕ). opposite (k / 16) < 6) (sym (visit-same n E f d w long (below n d cell))) (subst (λ (k : ℕ). opposite k < 6) (sym (saw-dir E f d)) (opp-small f l)) },
+        all-weaken _ _ (trail-on w f d long cell dark) (trailOf n w (s .walk .depth) c) (h .trail),
+      );
+      closed = λ q k t. done-of q k (sym (ap (anyOf (samePoint q)) trail-is) ∙ t) (new-was w f d long cell dark q (below n q (k .cell)) (h .each q (below n q (k .cell))) k);
+      holds = λ q k. hold-of q (new-was w f d long cell dark q (below n q (k .cell)) (h .each q (below n q (k .cell))) k);
+      least = λ b k. sub-both (s .walk .b) (cellBox d) b (h .least b (λ q m. k q (new-on w f d long cell dark q m))) (k d (new-here w f d long cell dark dark₀ route));
+      room = let e = dark-visit n E f d w long (below n d cell) dark in let r = h .room in omega arith;
+    }
       where
         c : Point
         c = s .walk .c
+
         d : Point
         d = acrossOf f c
+
         w : List ℕ
         w = s .work
+
         ot : OnTrail w c
         ot = head w (s .walk .depth) c (h .trail)
+
         odd : oddAt E f c ≡ true
         odd = and-left (oddAt E f c) (not (seenB n w d)) o
+
         dark : seenB n w d ≡ false
         dark = not-true (seenB n w d) (and-right (oddAt E f c) (not (seenB n w d)) o)
+
         long : pointCount n ≤ length w
         long = let e = h .long in omega arith
+
         cr : Crossed n f c
         cr = crossed n E inner f c l (ot .new .cell) odd
+
         cell : Cell n d
         cell = cr .cell
+
         dark₀ : seenB n w₀ d ≡ false
         dark₀ = was-dark w d (h .each d (below n d cell)) dark
+
         route : Route E seed d
         route = over (ot .new .route) f l odd
+
         simp-length : length (visitOf n E f d w) ≡ length w
         simp-length = visit-length n E f d w
+
         back-is : backOf n (visitOf n E f d w) d ≡ c
         back-is = ap (λ (k : ℕ). acrossOf (opposite (k / 16)) d) (visit-same n E f d w long (below n d cell)) ∙ ap (λ (k : ℕ). acrossOf (opposite k) d) (saw-dir E f d) ∙ cr .back
+
         trail-is : trailOf n (visitOf n E f d w) (s .walk .depth + 1) d ≡ d ∷ trailOf n w (s .walk .depth) c
         trail-is = ap (λ (k : ℕ). trailOf n (visitOf n E f d w) k d) (add-one (s .walk .depth))
             ∙ ap (λ (q : Point). d ∷ trailOf n (visitOf n E f d w) (s .walk .depth) q) back-is
             ∙ ap (λ (t : List Point). d ∷ t) (same-trail w f d long cell dark (s .walk .depth) c (h .trail))
+
         done-of : (q : Point) → New n E w₀ (visitOf n E f d w) seed q → samePoint q d || anyOf (samePoint q) (trailOf n w (s .walk .depth) c) ≡ false → (q ≡ d) ⊎ New n E w₀ w seed q → Done n E (visitOf n E f d w) q
         done-of q k t (inl e) = absurd (not-same q d (or-no-left (samePoint q d) _ t) e)
         done-of q k t (inr m) = done-on w f d long cell dark q (m .cell) (across-cell q (m .cell)) (h .closed q m (or-no-right (samePoint q d) _ t))
+
         hold-of : (q : Point) → (q ≡ d) ⊎ New n E w₀ w seed q → Sub (cellBox q) (joinBox (s .walk .b) (cellBox d))
         hold-of q (inl e) = subst (λ (x : Point). Sub (cellBox x) (joinBox (s .walk .b) (cellBox d))) (sym e) (sub-right (s .walk .b) (cellBox d))
         hold-of q (inr m) = sub-left (cellBox q) (s .walk .b) (cellBox d) (h .holds q m)
@@ -211,15 +237,23 @@ module _ (n : ℕ) (E : Set) (w₀ : List ℕ) (seed : Point) where
 
     pub pop-inv : (s : Walked) → Inv s → (k : ℕ) → s .walk .depth ≡ suc k → 6 ≤ firstOpen n E (s .work) (s .walk .c) 6 0 → Inv (popOf n s)
     pop-inv s h k e f = record {
-        long = h .long; past = h .past; each = h .each; first = h .first;
-        trail = subst (λ (j : ℕ). All (OnTrail (s .work)) (trailOf n (s .work) j (backOf n (s .work) (s .walk .c)))) (sym k-is) (trail₁ .1);
-        closed = λ q m t. done-of q m (subst (λ (j : ℕ). anyOf (samePoint q) (trailOf n (s .work) j (backOf n (s .work) (s .walk .c))) ≡ false) k-is t);
-        holds = h .holds; least = h .least; room = let r = h .room in omega arith }
+      long = h .long;
+      past = h .past;
+      each = h .each;
+      first = h .first;
+      trail = subst (λ (j : ℕ). All (OnTrail (s .work)) (trailOf n (s .work) j (backOf n (s .work) (s .walk .c)))) (sym k-is) (trail₁ .1);
+      closed = λ q m t. done-of q m (subst (λ (j : ℕ). anyOf (samePoint q) (trailOf n (s .work) j (backOf n (s .work) (s .walk .c))) ≡ false) k-is t);
+      holds = h .holds;
+      least = h .least;
+      room = let r = h .room in omega arith;
+    }
       where
         k-is : s .walk .depth - 1 ≡ k
         k-is = omega arith
+
         trail₁ : All (OnTrail (s .work)) (trailOf n (s .work) (suc k) (s .walk .c))
         trail₁ = subst (λ (j : ℕ). All (OnTrail (s .work)) (trailOf n (s .work) j (s .walk .c))) e (h .trail)
+
         done-of : (q : Point) → New n E w₀ (s .work) seed q → anyOf (samePoint q) (trailOf n (s .work) k (backOf n (s .work) (s .walk .c))) ≡ false → Done n E (s .work) q
         done-of q m t = go (samePoint q (s .walk .c)) refl
           where
@@ -229,9 +263,14 @@ module _ (n : ℕ) (E : Set) (w₀ : List ℕ) (seed : Point) where
 
     pub stop-filled : (s : Walked) → Inv s → s .walk .depth ≡ 0 → 6 ≤ firstOpen n E (s .work) (s .walk .c) 6 0 → Filled n E w₀ (s .work) seed (s .walk .b)
     stop-filled s h e f = record {
-        long = h .long; past = h .past; each = h .each; first = h .first;
-        closed = λ q m. go q m (samePoint q (s .walk .c)) refl;
-        holds = h .holds; least = h .least }
+      long = h .long;
+      past = h .past;
+      each = h .each;
+      first = h .first;
+      closed = λ q m. go q m (samePoint q (s .walk .c)) refl;
+      holds = h .holds;
+      least = h .least;
+    }
       where
         go : (q : Point) → New n E w₀ (s .work) seed q → (x : Bool) → samePoint q (s .walk .c) ≡ x → Done n E (s .work) q
         go q m true y = subst (Done n E (s .work)) (sym (samePoint→ q (s .walk .c) y)) (shut-done (s .work) (s .walk .c) f)
@@ -239,23 +278,27 @@ module _ (n : ℕ) (E : Set) (w₀ : List ℕ) (seed : Point) where
 
     pub start-live : Cell n seed → seenB n w₀ seed ≡ false → Live (record { walk = record { c = seed; depth = 0; b = cellBox seed; on = true }; work = visitOf n E 0 seed w₀ })
     start-live cell dark = record {
-        on = λ e. record {
-            long = visit-length n E 0 seed w₀;
-            past = λ i k. visit-other n E 0 seed w₀ size (below n seed cell) i (λ e. let z = num-small n seed (below n seed cell) in let y : ⊥ = omega arith in y);
-            each = λ q b. each-on w₀ 0 seed size cell dark dark here q b (inl refl);
-            first = new;
-            trail = (record { new = new; dir = subst (λ (k : ℕ). opposite (k / 16) < 6) (sym (visit-same n E 0 seed w₀ size (below n seed cell))) (subst (λ (k : ℕ). opposite k < 6) (sym (saw-dir E 0 seed)) (opp-small 0 (omega arith))) }, tt);
-            closed = λ q m t. absurd (not-same q seed (or-no-left (samePoint q seed) false t) (only q m));
-            holds = λ q m. subst (λ (x : Point). Sub (cellBox x) (cellBox seed)) (sym (only q m)) (sub-self (cellBox seed));
-            least = λ b k. k seed new;
-            room = let e = dark-visit n E 0 seed w₀ size (below n seed cell) dark in let m = dark-most w₀ (pointCount n) in omega arith };
-        off = λ e. absurd (true≢false e);
-        long = visit-length n E 0 seed w₀ }
+      on = λ e. record {
+        long = visit-length n E 0 seed w₀;
+        past = λ i k. visit-other n E 0 seed w₀ size (below n seed cell) i (λ e. let z = num-small n seed (below n seed cell) in let y : ⊥ = omega arith in y);
+        each = λ q b. each-on w₀ 0 seed size cell dark dark here q b (inl refl);
+        first = new;
+        trail = (record { new = new; dir = subst (λ (k : ℕ). opposite (k / 16) < 6) (sym (visit-same n E 0 seed w₀ size (below n seed cell))) (subst (λ (k : ℕ). opposite k < 6) (sym (saw-dir E 0 seed)) (opp-small 0 (omega arith))) }, tt);
+        closed = λ q m t. absurd (not-same q seed (or-no-left (samePoint q seed) false t) (only q m));
+        holds = λ q m. subst (λ (x : Point). Sub (cellBox x) (cellBox seed)) (sym (only q m)) (sub-self (cellBox seed));
+        least = λ b k. k seed new;
+        room = let e = dark-visit n E 0 seed w₀ size (below n seed cell) dark in let m = dark-most w₀ (pointCount n) in omega arith;
+      };
+      off = λ e. absurd (true≢false e);
+      long = visit-length n E 0 seed w₀;
+    }
       where
         new : New n E w₀ (visitOf n E 0 seed w₀) seed seed
         new = new-here w₀ 0 seed size cell dark dark here
+
         sub-self : (b : Box) → Sub b b
         sub-self b = omega arith
+
         only : (q : Point) → New n E w₀ (visitOf n E 0 seed w₀) seed q → q ≡ seed
         only q m = go (new-was w₀ 0 seed size cell dark q (below n q (m .cell)) (inl refl) m)
           where
@@ -269,6 +312,7 @@ module _ (n : ℕ) (E : Set) (w₀ : List ℕ) (seed : Point) where
       where
         f : ℕ
         f = firstOpen n E (s .work) (s .walk .c) 6 0
+
         go₂ : (y : Bool) → eqb (s .walk .depth) 0 ≡ y → 6 ≤ f → Live (cond y (stopOf s) (popOf n s)) × (tired (cond y (stopOf s) (popOf n s)) < suc (s .walk .depth + 2 * darkOf (s .work) (pointCount n)))
         go₂ true e l = (record { on = λ k. absurd (false≢true k); off = λ k. stop-filled s h (eqb-true _ _ e) l; long = h .long }, omega arith)
         go₂ false e l =
@@ -276,6 +320,7 @@ module _ (n : ℕ) (E : Set) (w₀ : List ℕ) (seed : Point) where
             let p : 1 ≤ s .walk .depth = omega arith in
             let q : s .walk .depth ≡ suc (s .walk .depth - 1) = omega arith in
             (record { on = λ k. pop-inv s h (s .walk .depth - 1) q l; off = λ k. absurd (true≢false k); long = h .long }, omega arith)
+
         go : (x : Bool) → ltb f 6 ≡ x → Live (cond x (pushOf n E f s) (cond (eqb (s .walk .depth) 0) (stopOf s) (popOf n s))) × (tired (cond x (pushOf n E f s) (cond (eqb (s .walk .depth) 0) (stopOf s) (popOf n s))) < suc (s .walk .depth + 2 * darkOf (s .work) (pointCount n)))
         go true e =
             let l = ltb-true f 6 e in
@@ -359,7 +404,7 @@ first-end n E w c = refl
 
 -- ---- a cell's own faces
 pub own-is : (n : ℕ) (g : List ℕ) (c : Point) → Fine n g → Cell n c → (a b d : Bool) (x y z : ℕ) →
-    a ≡ oddFace (old n g) (faceOf 0 c .axis) (faceOf 0 c .at) → b ≡ oddFace (old n g) (faceOf 1 c .axis) (faceOf 1 c .at) → d ≡ oddFace (old n g) (faceOf 2 c .axis) (faceOf 2 c .at) →
+    a ≡ oddFace (layer 8 n g) (faceOf 0 c .axis) (faceOf 0 c .at) → b ≡ oddFace (layer 8 n g) (faceOf 1 c .axis) (faceOf 1 c .at) → d ≡ oddFace (layer 8 n g) (faceOf 2 c .axis) (faceOf 2 c .at) →
     x ≡ value a 1 → y ≡ value b 2 → z ≡ value d 4 → x + (y + z) ≡ byteAt (oddFace (came n g)) c
 own-is n g c h k a b d x y z ea eb ed ex ey ez =
     let fa : a ≡ oddFace (came n g) X c = ea ∙ odd-came n g h 0 c k ∙ ap (λ (e : Place). oddFace (came n g) (e .axis) (e .at)) (face-0 c) in

@@ -16,17 +16,17 @@ use Rattle.rules.specs.Cell.{oddFace}
 use Rattle.rules.specs.Rims.{joinBox}
 use Rattle.rules.proofs.RimBox.{Sub}
 use Rattle.rules.proofs.Store.{stored}
-use Rattle.lattice.specs.Cells.{faceOf, old, Cell}
+use Rattle.lattice.specs.Cells.{faceOf, layer, Cell}
 use Rattle.rules.specs.Condition.{OfGrid}
 use Rattle.walking.specs.declared.Walk.{Walk}
 
 -- the marks as they came, on inner edges
 unfoldable pub came : ℕ → List ℕ → Set
-came n g a p = edgeIn (whole n) a p && old n g a p
+came n g a p = edgeIn (whole n) a p && layer 8 n g a p
 
 -- each mark is on an inner edge
 pub record Fine (n : ℕ) (g : List ℕ) : Type 0 where
-  pub inner : (a : Axis) (p : Point) → OfGrid n p → old n g a p ≡ true → edgeIn (whole n) a p ≡ true
+  pub inner : (a : Axis) (p : Point) → OfGrid n p → layer 8 n g a p ≡ true → edgeIn (whole n) a p ≡ true
 
 -- a face of a cell is odd
 abbrev pub oddAt : Set → ℕ → Point → Bool
@@ -71,8 +71,9 @@ pub record Walked : Type 0 where
 
 abbrev pub pushOf : ℕ → Set → ℕ → Walked → Walked
 pushOf n E f s = record {
-    walk = record { c = acrossOf f (s .walk .c); depth = s .walk .depth + 1; b = joinBox (s .walk .b) (cellBox (acrossOf f (s .walk .c))); on = true };
-    work = visitOf n E f (acrossOf f (s .walk .c)) (s .work) }
+  walk = record { c = acrossOf f (s .walk .c); depth = s .walk .depth + 1; b = joinBox (s .walk .b) (cellBox (acrossOf f (s .walk .c))); on = true };
+  work = visitOf n E f (acrossOf f (s .walk .c)) (s .work);
+}
 
 abbrev pub popOf : ℕ → Walked → Walked
 popOf n s = record { walk = record { c = backOf n (s .work) (s .walk .c); depth = s .walk .depth - 1; b = s .walk .b; on = true }; work = s .work }

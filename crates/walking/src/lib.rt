@@ -90,9 +90,9 @@ pub fn own(n: usize, grid: &[u8], c: Point) -> u8
     requires { ⌜ (n ≤ 32) × (pointCount n ≤ length (now grid)) × Cell n c × Fine n (now grid) ⌝ }
     ensures { λ r. ⌜ (r ≡ byteAt (oddFace (came n (now (grid .entry)))) c) × (r < 8) ⌝ }
 {
-    let x = weight(odd(n, grid, c, 0), 1);
-    let y = weight(odd(n, grid, c, 1), 2);
-    let z = weight(odd(n, grid, c, 2), 4);
+    let x = weight(odd(n, grid, 8, c, 0), 1);
+    let y = weight(odd(n, grid, 8, c, 1), 2);
+    let z = weight(odd(n, grid, 8, c, 2), 4);
     x + (y + z)
 }
 
@@ -110,7 +110,7 @@ fn is_open(n: usize, grid: &[u8], work: &[u8], c: Point, f: usize) -> bool
     requires { ⌜ (n ≤ 32) × (pointCount n ≤ length (now grid)) × (pointCount n ≤ length (now work)) × Cell n c × Fine n (now grid) × (f < 6) ⌝ }
     ensures { λ r. ⌜ r ≡ openB n (came n (now (grid .entry))) (now (work .entry)) c f ⌝ }
 {
-    if !odd(n, grid, c, f) {
+    if !odd(n, grid, 8, c, f) {
         return false;
     }
     !seen(n, work, across(n, c, f))
@@ -169,8 +169,16 @@ fn widen(n: usize, b: Box, c: Point) -> Box
 {
     let l = b.lo;
     let h = b.hi;
-    let lo = Point { i: least(l.i, c.i), j: least(l.j, c.j), k: least(l.k, c.k) };
-    let hi = Point { i: most(h.i, c.i + 1), j: most(h.j, c.j + 1), k: most(h.k, c.k + 1) };
+    let lo = Point {
+        i: least(l.i, c.i),
+        j: least(l.j, c.j),
+        k: least(l.k, c.k),
+    };
+    let hi = Point {
+        i: most(h.i, c.i + 1),
+        j: most(h.j, c.j + 1),
+        k: most(h.k, c.k + 1),
+    };
     Box { lo: lo, hi: hi }
 }
 
@@ -178,7 +186,11 @@ fn single(n: usize, c: Point) -> Box
     requires { ⌜ (n ≤ 32) × OfGrid n c ⌝ }
     ensures { λ r. ⌜ r ≡ cellBox c ⌝ }
 {
-    let hi = Point { i: c.i + 1, j: c.j + 1, k: c.k + 1 };
+    let hi = Point {
+        i: c.i + 1,
+        j: c.j + 1,
+        k: c.k + 1,
+    };
     Box { lo: c, hi: hi }
 }
 
@@ -196,13 +208,28 @@ fn step(n: usize, grid: &[u8], work: &mut [u8], s: Walk) -> Walk
         let d = across(n, c, f);
         visit(n, grid, work, d, f);
         let wide = widen(n, b, d);
-        return Walk { c: d, depth: depth + 1, b: wide, on: true };
+        return Walk {
+            c: d,
+            depth: depth + 1,
+            b: wide,
+            on: true,
+        };
     }
     if depth == 0 {
-        return Walk { c: c, depth: 0, b: b, on: false };
+        return Walk {
+            c: c,
+            depth: 0,
+            b: b,
+            on: false,
+        };
     }
     let e = back(n, work, c);
-    Walk { c: e, depth: depth - 1, b: b, on: true }
+    Walk {
+        c: e,
+        depth: depth - 1,
+        b: b,
+        on: true,
+    }
 }
 
 // Sees every cell that odd faces join to the seed, puts their odd lower faces into the working set, and returns their box.
@@ -212,7 +239,12 @@ pub fn fill(n: usize, grid: &[u8], work: &mut [u8], seed: Point) -> Box
 {
     visit(n, grid, work, seed, 0);
     let b = single(n, seed);
-    let mut s = Walk { c: seed, depth: 0, b: b, on: true };
+    let mut s = Walk {
+        c: seed,
+        depth: 0,
+        b: b,
+        on: true,
+    };
     while s.on {
         s = step(n, grid, work, s);
     }

@@ -42,8 +42,12 @@ loop-less : tie.Need-loop-less Inv-loop μ-loop
 loop-less c = omega (arith, c .before .before .before .loop-test .taken)
 
 loop-again : tie.Need-loop-again Inv-loop μ-loop
-loop-again c = (omega (arith, c .before .before .before .loop-test .taken), paint-more low (c .before .before .before .before .loop .p) (c .before .before .before .before .before .before .before .args .grid .now) (c .before .before .before .before .loop .grid) (c .before .before .before .before .loop .inv .1), paint-more nought (c .before .before .before .before .loop .p) (c .before .before .before .before .before .before .before .args .work .now) (c .before .before .before .before .loop .work) (c .before .before .before .before .loop .inv .2)
-    , ap (λ (x : ℕ). c .before .before .before .before .loop .flips + x) (c .before .gap-of .ensures .0) ∙ gaps-more (c .before .before .before .before .loop .p) (c .before .before .before .before .loop .flips) (c .before .before .before .before .before .before .before .args .grid .now) _ (c .before .before .before .before .loop .inv .3) (paint-read low (c .before .before .before .before .loop .p) (c .before .before .before .before .before .before .before .args .grid .now) (c .before .before .before .before .loop .grid) (c .before .before .before .before .loop .inv .1)))
+loop-again c = (
+  omega (arith, c .before .before .before .loop-test .taken),
+  paint-more low (c .before .before .before .before .loop .p) (c .before .before .before .before .before .before .before .args .grid .now) (c .before .before .before .before .loop .grid) (c .before .before .before .before .loop .inv .1),
+  paint-more nought (c .before .before .before .before .loop .p) (c .before .before .before .before .before .before .before .args .work .now) (c .before .before .before .before .loop .work) (c .before .before .before .before .loop .inv .2),
+  ap (λ (x : ℕ). c .before .before .before .before .loop .flips + x) (c .before .gap-of .ensures .0) ∙ gaps-more (c .before .before .before .before .loop .p) (c .before .before .before .before .loop .flips) (c .before .before .before .before .before .before .before .args .grid .now) _ (c .before .before .before .before .loop .inv .3) (paint-read low (c .before .before .before .before .loop .p) (c .before .before .before .before .before .before .before .args .grid .now) (c .before .before .before .before .loop .grid) (c .before .before .before .before .loop .inv .1)),
+)
 
 same-length : tie.Need-same-length Inv-loop μ-loop
 same-length c = ap length (c .before .loop .inv .1) ∙ paint-length low (c .before .loop .p) (c .before .before .before .before .args .grid .now)
