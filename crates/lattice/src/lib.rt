@@ -1,4 +1,7 @@
 // The cell's table, a point's number, and the bits of a buffer.
+pub mod level;
+pub mod scan;
+
 use rules::Axis;
 use rules::Place;
 use rules::Point;

@@ -35,11 +35,13 @@ has Z b = eqb (b / 4 % 2) 1
 unfoldable pub marks : ℕ → List ℕ → Set
 marks n g a p = inner n a p && has a (getD g (pointNumber n p) 0)
 
--- no byte above 7, and no mark on an edge that isn't inner or doesn't exist
-abbrev pub goodByte : ℕ → List ℕ → Point → Bool
-goodByte n g p =
-    let b = getD g (pointNumber n p) 0 in
+-- a byte above 7, or a mark on an edge that isn't inner or doesn't exist, makes the buffer no grid
+abbrev pub byteFits : ℕ → ℕ → Point → Bool
+byteFits n b p =
     leb b 7 && ((not (has X b) || inner n X p) && ((not (has Y b) || inner n Y p) && (not (has Z b) || inner n Z p)))
+
+abbrev pub goodByte : ℕ → List ℕ → Point → Bool
+goodByte n g p = byteFits n (getD g (pointNumber n p) 0) p
 
 -- the buffer is a grid
 unfoldable pub isGrid : ℕ → List ℕ → Bool

@@ -1,0 +1,56 @@
+-- Facts over the level. Assumes nothing.
+use mathlib.Core.Path.{_≡_, sym, ap, subst, _∙_}
+use Prim.Native.Nat.{ℕ, _+_, _*_, _-_, _/_, _^_, _≤_, _<_}
+use native.Mathlib.Nat.{mul-le-mul, mul-le-mul-right, div-eq-of-eq-mul-right}
+use native.Mathlib.Numerals.{add-one}
+use native.Mathlib.Omega.{arith}
+use lib.Dec.{lit≤}
+use lib.Pow.{pow-add, pow-mono, pow-pos}
+use Rattle.lattice.specs.declared.level.Level.{Level}
+use Rattle.lattice.specs.declared.level.Level.the-variants.{Two, Three, Four, Five}
+use Rattle.rules.specs.Lattice.{pointCount}
+use Rattle.lattice.specs.Levels.{numberOf, cellsOf, sideOf}
+
+number-most : (l : Level) → numberOf l ≤ 5
+number-most Two = lit≤ tt
+number-most Three = lit≤ tt
+number-most Four = lit≤ tt
+number-most Five = lit≤ tt
+
+pub cells-most : (l : Level) → cellsOf l ≤ 32
+cells-most l = pow-mono (number-most l)
+
+pub cells-some : (l : Level) → 0 < cellsOf l
+cells-some l = pow-pos (numberOf l)
+
+pub side-some : (l : Level) → 0 < sideOf l
+side-some l = pow-pos (20 - numberOf l)
+
+-- n cells of side S make the lattice's side
+pub side-whole : (l : Level) → cellsOf l * sideOf l ≡ 2 ^ 20
+side-whole l =
+    sym (pow-add 2 (numberOf l) (20 - numberOf l)) ∙ ap (λ (k : ℕ). 2 ^ k) (rest (numberOf l) (number-most l))
+  where
+    rest : (k : ℕ) → k ≤ 5 → k + (20 - k) ≡ 20
+    rest k h = omega arith
+
+pub side-is : (l : Level) → 1048576 / cellsOf l ≡ sideOf l
+side-is l = div-eq-of-eq-mul-right (cells-some l) (sym (side-whole l))
+
+-- a point of the grid lies on the lattice
+pub place-most : (l : Level) {i : ℕ} → i ≤ cellsOf l → i * sideOf l ≤ 2 ^ 20
+place-most l {i} h = subst (λ (k : ℕ). i * sideOf l ≤ k) (side-whole l) (mul-le-mul-right (sideOf l) h)
+
+pub side-most : (l : Level) → sideOf l ≤ 2 ^ 20
+side-most l = let h : 20 - numberOf l ≤ 20 = omega arith in pow-mono h
+
+-- the count of points as code multiplies it out
+pub count-is : (n : ℕ) → (n + 1) * (n + 1) * (n + 1) ≡ pointCount n
+count-is n = simp add-one
+
+pub count-most : (n : ℕ) → n ≤ 32 → ((n + 1) * (n + 1) ≤ 1089) × ((n + 1) * (n + 1) * (n + 1) ≤ 35937)
+count-most n h =
+    let a : n + 1 ≤ 33 = omega arith in
+    let b : (n + 1) * (n + 1) ≤ 33 * 33 = mul-le-mul a a in
+    let c : (n + 1) * (n + 1) * (n + 1) ≤ 33 * 33 * 33 = mul-le-mul b a in
+    (omega arith, omega arith)

@@ -1,0 +1,122 @@
+// What every scan of the points needs: the point after a point, inner edges, "is a grid", "no face is odd".
+use crate::bit;
+use crate::level::point_count;
+use crate::odd;
+use rules::Axis;
+use rules::Point;
+ghost use mathlib.Core.Path.{_≡_};
+ghost use mathlib.Core.Bool.{not, _&&_, _||_};
+ghost use Prim.Native.Nat.{_≤_};
+ghost use lib.ListN.{length};
+ghost use Rattle.rules.specs.Lists.{between};
+ghost use Rattle.rules.specs.Lattice.{inner, pointCount};
+ghost use Rattle.rules.specs.Grid.{has, byteFits, isGrid, marks};
+ghost use Rattle.rules.specs.Condition.{OfGrid};
+ghost use Rattle.lattice.specs.Scans.{nextPoint, innerAlong};
+
+// The point after a point, by rising number.
+pub fn next_point(n: usize, p: Point) -> Point
+    requires { ⌜ (n ≤ 32) × OfGrid n p ⌝ }
+    ensures { λ r. ⌜ r ≡ nextPoint n p ⌝ }
+{
+    if p.i < n {
+        return Point {
+            i: p.i + 1,
+            j: p.j,
+            k: p.k,
+        };
+    }
+    if p.j < n {
+        return Point {
+            i: 0,
+            j: p.j + 1,
+            k: p.k,
+        };
+    }
+    Point {
+        i: 0,
+        j: 0,
+        k: p.k + 1,
+    }
+}
+
+// Whether i is one of the numbers from l on and below h.
+fn is_between(l: usize, h: usize, i: usize) -> bool
+    ensures { λ r. ⌜ r ≡ between l h i ⌝ }
+{
+    if i < l {
+        return false;
+    }
+    i < h
+}
+
+// Whether an edge with the lengthwise coordinate l and the crosswise ones u and v is inner.
+fn is_inner_along(n: usize, l: usize, u: usize, v: usize) -> bool
+    ensures { λ r. ⌜ r ≡ innerAlong n l u v ⌝ }
+{
+    if !is_between(0, n, l) {
+        return false;
+    }
+    if !is_between(1, n, u) {
+        return false;
+    }
+    is_between(1, n, v)
+}
+
+// Whether the edge along a at p is inner.
+pub fn is_inner(n: usize, a: Axis, p: Point) -> bool
+    ensures { λ r. ⌜ r ≡ inner n a p ⌝ }
+{
+    match a {
+        Axis::X => is_inner_along(n, p.i, p.j, p.k),
+        Axis::Y => is_inner_along(n, p.j, p.i, p.k),
+        Axis::Z => is_inner_along(n, p.k, p.i, p.j),
+    }
+}
+
+// Whether a byte has no mark along a, or its edge is inner.
+fn mark_fits(n: usize, b: u8, a: Axis, p: Point) -> bool
+    ensures { λ r. ⌜ r ≡ (not (has a b) || inner n a p) ⌝ }
+{
+    if !bit(b, a) {
+        return true;
+    }
+    is_inner(n, a, p)
+}
+
+// Whether a byte may stand at a point of a grid.
+pub fn byte_fits(n: usize, b: u8, p: Point) -> bool
+    ensures { λ r. ⌜ r ≡ byteFits n b p ⌝ }
+{
+    if b == 0 {
+        return true;
+    }
+    if 7 < b {
+        return false;
+    }
+    if !mark_fits(n, b, Axis::X, p) {
+        return false;
+    }
+    if !mark_fits(n, b, Axis::Y, p) {
+        return false;
+    }
+    mark_fits(n, b, Axis::Z, p)
+}
+
+// Whether the first P bytes of a buffer are a grid.
+pub fn is_grid(n: usize, grid: &[u8]) -> bool
+    requires { ⌜ (n ≤ 32) × (pointCount n ≤ length (now grid)) ⌝ }
+    ensures { λ r. ⌜ r ≡ isGrid n (now (grid .entry)) ⌝ }
+{
+    let count = point_count(n);
+    let mut q = Point { i: 0, j: 0, k: 0 };
+    let mut p: usize = 0;
+    while p < count {
+        if !byte_fits(n, grid[p], q) {
+            return false;
+        }
+        q = next_point(n, q);
+        p += 1;
+    }
+    true
+}
