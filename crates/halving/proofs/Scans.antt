@@ -28,7 +28,7 @@ use Rattle.rules.proofs.Halving.{middle-in, lower-size, upper-size, patch-in}
 use Rattle.rules.proofs.Recursion.{Agree, patch-cong}
 use Rattle.rules.proofs.Store.{stored}
 use Rattle.rules.proofs.PatchOf.{patchOf, patchOf-one, patchOf-cut}
-use Rattle.rules.specs.Condition.{OfGrid}
+use Rattle.rules.specs.Lattice.{OfGrid}
 use Rattle.lattice.specs.Cells.{turns, works, facesOf}
 use Rattle.halving.specs.Halving.{Edged, Run, ahead, along, Scan, idle, waits, pairOf, scanAll, Placed, Fits, rowOf}
 use Rattle.halving.specs.declared.Held.{Held}

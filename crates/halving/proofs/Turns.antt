@@ -22,7 +22,7 @@ use Rattle.rules.proofs.Oddness.{setOf-append, oddFace-append}
 use Rattle.rules.proofs.Cuts.{samePoint→}
 use Rattle.rules.proofs.Numbers.{number-below}
 use Rattle.rules.proofs.Store.{stored, stored-set, toggle, toggle-has}
-use Rattle.rules.specs.Condition.{OfGrid}
+use Rattle.rules.specs.Lattice.{OfGrid}
 use Rattle.lattice.specs.Cells.{turnOne, turns, facesOf, works, faceOf, indexOf}
 use Rattle.walking.proofs.Laws.{has-high, face-0, face-1, face-2, face-3, face-4, face-5}
 use Rattle.halving.specs.Halving.{Edged}

@@ -10,7 +10,7 @@ use Rattle.rules.specs.declared.Spot.{Spot}
 use Rattle.rules.specs.Lattice.{earlier, later, coord, up, pointAt}
 use Rattle.rules.specs.Patch.{path}
 use Rattle.rules.proofs.Store.{stored}
-use Rattle.rules.specs.Condition.{OfGrid}
+use Rattle.rules.specs.Lattice.{OfGrid}
 use Rattle.lattice.specs.Cells.{turns, works}
 use Rattle.halving.specs.declared.Held.{Held}
 

@@ -17,7 +17,7 @@ use Rattle.rules.specs.Lattice.{earlier, later, up, Set, pointNumber, pointCoun
 use Rattle.rules.specs.Cell.{oddFace}
 use Rattle.rules.proofs.Numbers.{number-below}
 use Rattle.lattice.specs.Cells.{faceRule, faceEdge, moved, faceOf, edgeOf, Cell}
-use Rattle.rules.specs.Condition.{OfGrid}
+use Rattle.rules.specs.Lattice.{OfGrid}
 
 module _ {A : Type 0} where
   abbrev pub tab : (ℕ → A) → ℕ → ℕ → List A

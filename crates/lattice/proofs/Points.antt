@@ -15,7 +15,7 @@ use Rattle.rules.specs.declared.Axis.the-variants.{X, Y, Z}
 use Rattle.rules.specs.declared.Point.{Point}
 use Rattle.rules.specs.Lists.{allOf, between}
 use Rattle.rules.specs.Lattice.{points, pointNumber, pointCount, inner}
-use Rattle.rules.specs.Condition.{OfGrid}
+use Rattle.rules.specs.Lattice.{OfGrid}
 use Rattle.rules.proofs.Bits.{&&-left, &&-assoc, &&-comm, &&-self, &&-again, ands}
 use Rattle.rules.proofs.Numbers.{points-at, points-length, number-below}
 use Rattle.lattice.specs.Scans.{nextPoint, innerAlong}

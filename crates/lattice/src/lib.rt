@@ -15,7 +15,7 @@ ghost use Rattle.rules.specs.Grid.{has};
 ghost use Rattle.rules.specs.Cell.{oddFace};
 ghost use Rattle.rules.proofs.Store.{toggle};
 ghost use Rattle.lattice.specs.Cells.{indexOf, faceRule, faceEdge, moved, faceOf, edgeOf, Cell, layer, turnOne};
-ghost use Rattle.rules.specs.Condition.{OfGrid};
+ghost use Rattle.rules.specs.Lattice.{OfGrid};
 
 // The cell's six faces: the three lower ones, then the three upper ones.
 const FACES: [Place; 6] = [

@@ -11,7 +11,7 @@ ghost use lib.ListN.{length};
 ghost use Rattle.rules.specs.Lists.{between};
 ghost use Rattle.rules.specs.Lattice.{inner, pointCount};
 ghost use Rattle.rules.specs.Grid.{has, byteFits, isGrid, marks};
-ghost use Rattle.rules.specs.Condition.{OfGrid};
+ghost use Rattle.rules.specs.Lattice.{OfGrid};
 ghost use Rattle.lattice.specs.Scans.{nextPoint, innerAlong};
 
 // The point after a point, by rising number.

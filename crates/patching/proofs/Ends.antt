@@ -21,7 +21,7 @@ use Rattle.rules.proofs.Numbers.{small-byte, take-upto, rising}
 use Rattle.rules.proofs.Rims.{touch}
 use Rattle.rules.proofs.Boxes.{inBox→}
 use Rattle.rules.proofs.Store.{stored}
-use Rattle.rules.specs.Condition.{OfGrid}
+use Rattle.rules.specs.Lattice.{OfGrid}
 use Rattle.lattice.specs.Cells.{layer}
 use Rattle.lattice.proofs.Laws.{num-below}
 use Rattle.walking.specs.Walks.{came, Fine, seenB}

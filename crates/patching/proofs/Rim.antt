@@ -31,7 +31,7 @@ use Rattle.rules.proofs.RimBox.{Sub, box-holds, box-least, eq6}
 use Rattle.rules.proofs.Store.{stored}
 use Rattle.rules.proofs.PatchOf.{patchOf}
 use Rattle.lattice.specs.Cells.{faceOf, indexOf, Cell}
-use Rattle.rules.specs.Condition.{OfGrid}
+use Rattle.rules.specs.Lattice.{OfGrid}
 use Rattle.walking.specs.Walks.{seenB, acrossOf, cellBox, Route, here, over, New, Filled}
 use Rattle.walking.proofs.Laws.{face-0, face-1, face-2, face-3, face-4, face-5, low, high, seen-same, below}
 use Rattle.halving.proofs.Turns.{face-low, face-high, pred-suc}

@@ -15,7 +15,7 @@ use Rattle.rules.specs.Patch.{patched, flips, patchRim}
 use Rattle.rules.specs.Rims.{rims}
 use Rattle.rules.proofs.Rims.{touch}
 use Rattle.rules.proofs.Store.{stored}
-use Rattle.rules.specs.Condition.{OfGrid}
+use Rattle.rules.specs.Lattice.{OfGrid}
 use Rattle.lattice.specs.Cells.{Cell}
 use Rattle.walking.specs.Walks.{seenB}
 use Rattle.patching.specs.declared.PatchAnswer.{PatchAnswer}

@@ -14,6 +14,7 @@ pub mod Recursion
 pub mod Chains
 pub mod Scan
 pub mod Numbers
+pub mod PointOf
 pub mod RimBox
 pub mod Fill
 pub mod FaceMarks

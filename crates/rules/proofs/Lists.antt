@@ -1,10 +1,11 @@
--- What holds of each member of a list. Assumes nothing.
-use mathlib.Core.Bool.{Bool, cond, false, true}
+-- What holds of each member of a list, and what is said of a mapped list. Assumes nothing.
+use mathlib.Core.Bool.{Bool, cond, false, false≢true, not, true, _&&_, _||_}
 use mathlib.Core.List.{List, [], map, _++_, _∷_}
-use mathlib.Core.Path.{refl, _≡_}
-use Prim.Native.Nat.{suc, zero, ℕ, _+_}
+use mathlib.Core.Logic.{_↔_}
+use mathlib.Core.Path.{ap, ap₂, refl, _∙_, _≡_}
+use Prim.Native.Nat.{suc, zero, ℕ, _+_, _<_}
 use native.Mathlib.Omega.{arith}
-use Rattle.rules.specs.Lists.{keep, All, each, upto}
+use Rattle.rules.specs.Lists.{keep, count, anyOf, allOf, All, each, upto}
 use Rattle.rules.proofs.Bits.{Bounds}
 
 -- ---- what holds of each member of a list
@@ -41,6 +42,23 @@ module _ {A : Type 0} where
   all-swap Q [] h = tt
   all-swap Q (x ∷ l) h = (λ i. h i .0, all-swap Q l (λ i. h i .1))
 
+  -- a mapped list whose members stay as they are
+  pub map-id : (f : A → A) (l : List A) → All (λ x. f x ≡ x) l → map f l ≡ l
+  map-id f [] h = refl
+  map-id f (x ∷ l) h = ap₂ _∷_ (h .0) (map-id f l (h .1))
+
+  -- every member passes exactly when none is kept that does not
+  pub none-kept : (w : A → Bool) (l : List A) → (allOf (λ x. not (w x)) l ≡ true) ↔ (keep w l ≡ [])
+  none-kept w [] = (λ e. refl, λ e. refl)
+  none-kept w (x ∷ l) = go (w x) (none-kept w l)
+    where
+      go : (c : Bool) → (allOf (λ y. not (w y)) l ≡ true) ↔ (keep w l ≡ []) → (not c && allOf (λ y. not (w y)) l ≡ true) ↔ (cond c (x ∷ keep w l) (keep w l) ≡ [])
+      go true i = (λ e. absurd (false≢true e), λ e. absurd (cons-nil e))
+        where
+          cons-nil : x ∷ keep w l ≡ [] → ⊥
+          cons-nil e = let z : _≡_ {A = ℕ} 0 1 = cc in omega arith
+      go false i = i
+
   pub keep-none : (w : A → Bool) → ((x : A) → w x ≡ false) → (l : List A) → keep w l ≡ []
   keep-none w h [] = refl
   keep-none w h (x ∷ l) = rw (h x) (keep-none w h l)
@@ -54,6 +72,44 @@ module _ {A B : Type 0} where
   all-each P g [] h = tt
   all-each P g (x ∷ l) h = all-append P (g x) (each g l) (h .0) (all-each P g l (h .1))
 
+-- ---- what is said of a mapped list
+module _ {A B : Type 0} where
+  pub allOf-map : (f : B → Bool) (g : A → B) (l : List A) → allOf f (map g l) ≡ allOf (λ x. f (g x)) l
+  allOf-map f g [] = refl
+  allOf-map f g (x ∷ l) = ap (λ (b : Bool). f (g x) && b) (allOf-map f g l)
+
+  pub anyOf-map : (f : B → Bool) (g : A → B) (l : List A) → anyOf f (map g l) ≡ anyOf (λ x. f (g x)) l
+  anyOf-map f g [] = refl
+  anyOf-map f g (x ∷ l) = ap (λ (b : Bool). f (g x) || b) (anyOf-map f g l)
+
+  pub count-map : (f : B → Bool) (g : A → B) (l : List A) → count f (map g l) ≡ count (λ x. f (g x)) l
+  count-map f g [] = refl
+  count-map f g (x ∷ l) = ap (λ (k : ℕ). cond (f (g x)) (suc k) k) (count-map f g l)
+
+  pub keep-map : (f : B → Bool) (g : A → B) (l : List A) → keep f (map g l) ≡ map g (keep (λ x. f (g x)) l)
+  keep-map f g [] = refl
+  keep-map f g (x ∷ l) = go (f (g x)) (keep-map f g l)
+    where
+      go : (c : Bool) → keep f (map g l) ≡ map g (keep (λ y. f (g y)) l) → cond c (g x ∷ keep f (map g l)) (keep f (map g l)) ≡ map g (cond c (x ∷ keep (λ y. f (g y)) l) (keep (λ y. f (g y)) l))
+      go true i = ap (λ (m : List B). g x ∷ m) i
+      go false i = i
+
+module _ {A B C : Type 0} where
+  pub each-map : (f : B → List C) (g : A → B) (l : List A) → each f (map g l) ≡ each (λ x. f (g x)) l
+  each-map f g [] = refl
+  each-map f g (x ∷ l) = ap (λ (m : List C). f (g x) ++ m) (each-map f g l)
+
+  pub map-each : (f : B → C) (g : A → List B) (l : List A) → map f (each g l) ≡ each (λ x. map f (g x)) l
+  map-each f g [] = refl
+  map-each f g (x ∷ l) = map-append (g x) (each g l) ∙ ap (λ (m : List C). map f (g x) ++ m) (map-each f g l)
+    where
+      map-append : (l m : List B) → map f (l ++ m) ≡ map f l ++ map f m
+      map-append [] m = refl
+      map-append (x ∷ l) m = ap (λ (r : List C). f x ∷ r) (map-append l m)
+
 pub all-upto : (i k : ℕ) → All (λ j. Bounds i (i + k) j) (upto i k)
 all-upto i zero = tt
 all-upto i (suc k) = (record { low = omega arith; high = omega arith }, all-weaken _ _ (λ j c. record { low = omega arith; high = omega arith }) (upto (suc i) k) (all-upto (suc i) k))
+
+pub all-below : {P : ℕ → Type 0} (k : ℕ) → ((i : ℕ) → i < k → P i) → All P (upto 0 k)
+all-below {P} k h = all-weaken _ P (λ i c. h i (omega arith)) (upto 0 k) (all-upto 0 k)

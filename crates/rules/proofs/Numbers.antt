@@ -1,6 +1,6 @@
 -- Point numbers rise; bytes and marks, both ways. Assumes nothing.
 use mathlib.Core.Bool.{Bool, false, not, true, true≢false, _&&_, _||_}
-use mathlib.Core.List.{List, [], map, _++_, _∷_}
+use mathlib.Core.List.{List, [], map, map-map, _++_, _∷_}
 use mathlib.Core.Path.{ap, ap₂, fun-ext, refl, subst, sym, _∙_, _≡_}
 use Prim.Native.Nat.{suc, zero, ℕ, _*_, _+_, _<_, _≤_}
 use native.Mathlib.Nat.{add-zero, le-of-suc-le-suc, mul-le-mul-left, mul-suc, mul-zero, not-suc-le-zero, suc-add, zero-add}
@@ -12,6 +12,7 @@ use Rattle.rules.specs.Lists.{allOf, each, upto}
 use Rattle.rules.specs.Lattice.{sameAxis, pointNumber, pointCount, points, Set, edgeIn, whole, inner, Axis, X, Y, Z, Point}
 use Rattle.rules.specs.Grid.{value, byteAt, bytes, has, marks, goodByte, isGrid}
 use Rattle.rules.proofs.Bits.{and-left, and-right, leb→, is-false}
+use Rattle.rules.proofs.Lists.{each-map, map-each}
 use Rattle.rules.proofs.Boxes.{inBox→}
 
 length-upto : (i k : ℕ) → length (upto i k) ≡ k
@@ -154,23 +155,6 @@ blocks k i zero = ap (upto (k * i)) (sym (mul-zero k))
 blocks k i (suc j) =
     ap (λ (l : List ℕ). upto (k * i) k ++ l) (blocks k (suc i) j ∙ ap (λ (n : ℕ). upto n (k * j)) (let e = mul-suc k i in let r : k * suc i ≡ k * i + k = omega arith in r))
     ∙ upto-append (k * i) k (k * j) ∙ ap (upto (k * i)) (let e = mul-suc k j in let r : k + k * j ≡ k * suc j = omega arith in r)
-
-module _ {A B C : Type 0} where
-  map-each : (f : B → C) (g : A → List B) (l : List A) → map f (each g l) ≡ each (λ x. map f (g x)) l
-  map-each f g [] = refl
-  map-each f g (x ∷ l) = map-append f (g x) (each g l) ∙ ap (λ (m : List C). map f (g x) ++ m) (map-each f g l)
-    where
-      map-append : (f : B → C) (l m : List B) → map f (l ++ m) ≡ map f l ++ map f m
-      map-append f [] m = refl
-      map-append f (x ∷ l) m = ap (λ (r : List C). f x ∷ r) (map-append f l m)
-
-  each-map : (g : B → List C) (f : A → B) (l : List A) → each g (map f l) ≡ each (λ x. g (f x)) l
-  each-map g f [] = refl
-  each-map g f (x ∷ l) = ap (λ (m : List C). g (f x) ++ m) (each-map g f l)
-
-  map-map : (g : B → C) (f : A → B) (l : List A) → map g (map f l) ≡ map (λ x. g (f x)) l
-  map-map g f [] = refl
-  map-map g f (x ∷ l) = ap (λ (m : List C). g (f x) ∷ m) (map-map g f l)
 
 abbrev numberOf : ℕ → Point → ℕ
 numberOf k p = p .i + k * (p .j + k * p .k)

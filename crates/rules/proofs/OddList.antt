@@ -1,15 +1,16 @@
 -- The odd faces as listed, no odd face, and flips as edges altered. Assumes nothing.
 use mathlib.Core.Bool.{Bool, false, true}
 use mathlib.Core.List.{List, []}
+use mathlib.Core.Logic.{_↔_}
 use mathlib.Core.Path.{ap, fun-ext, subst, sym, _∙_, _≡_}
 use Prim.Native.Nat.{ℕ}
 use Rattle.rules.specs.Lists.{_⊕_, count, All}
 use Rattle.rules.specs.Lattice.{samePlace, places, Set, isIn, setOf, edgeIn, whole, inner, Axis, Point, Place}
 use Rattle.rules.specs.Cell.{oddFace}
-use Rattle.rules.specs.Rims.{oddFaces, elem, rims}
+use Rattle.rules.specs.Rims.{oddFaces, evenFaces, elem, rims}
 use Rattle.rules.specs.Patch.{flips, patched}
 use Rattle.rules.proofs.Bits.{⊕-cancel, same-test}
-use Rattle.rules.proofs.Lists.{all-kept, keep-none}
+use Rattle.rules.proofs.Lists.{all-kept, none-kept, keep-none}
 use Rattle.rules.proofs.Cuts.{samePlace→}
 use Rattle.rules.proofs.Patched.{odd-listed}
 use Rattle.rules.proofs.Chains.{find}
@@ -35,6 +36,14 @@ module _ (n : ℕ) (E : Set) (inner : (a : Axis) (p : Point) → E a p ≡ true 
   pub none-odd← : ((a : Axis) (p : Point) → oddFace E a p ≡ false) → oddFaces n E ≡ []
   unfolding oddFaces
   none-odd← h = keep-none (isIn (oddFace E)) (λ f. h (f .axis) (f .at)) (places n)
+
+  -- no face of the grid is odd exactly when none is listed, and exactly when no face at all is
+  pub even-none : (evenFaces n E ≡ true) ↔ (oddFaces n E ≡ [])
+  unfolding evenFaces oddFaces
+  even-none = none-kept (isIn (oddFace E)) (places n)
+
+  pub even-all : (evenFaces n E ≡ true) ↔ ((a : Axis) (p : Point) → oddFace E a p ≡ false)
+  even-all = (λ e. none-odd→ (even-none .0 e), λ h. even-none .1 (none-odd← h))
 
 -- the flips are the edges whose mark differs
 pub flips-differ : (n : ℕ) (E : Set) (l : List Place) → count (λ e. isIn E e ⊕ isIn (patched n E) e) l ≡ count (isIn (setOf (flips n E))) l

@@ -5,10 +5,10 @@ use mathlib.Core.Path.{ap, ap₂, sym, _∙_, _≡_}
 use Prim.Native.Nat.{suc, ℕ, _<_}
 use native.Mathlib.Omega.{arith}
 use Rattle.rules.specs.Lists.{_⊕_, parity, parityTo}
-use Rattle.rules.specs.Lattice.{up, Set, isIn, Axis, X, Y, Z, Point, Place}
+use Rattle.rules.specs.Lattice.{OfGrid, up, Set, isIn, Axis, X, Y, Z, Point, Place}
 use Rattle.rules.specs.Cell.{oddFace}
 use Rattle.rules.specs.Signs.{sign}
-use Rattle.rules.specs.Condition.{OfGrid, Route, stop, upward, downward}
+use Rattle.rules.specs.Condition.{Route, stop, upward, downward}
 use Rattle.rules.proofs.Bits.{⊕-self, ⊕-cancel, xors}
 use Rattle.rules.proofs.Sums.{parityTo-plus, parityTo-cong, parityTo-steps, parityTo-cong<}
 use Rattle.rules.proofs.Oddness.{zero-sum}

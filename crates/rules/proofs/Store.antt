@@ -8,9 +8,8 @@ use native.Mathlib.Omega.{arith}
 use lib.ListN.{getD, length, set}
 use lib.Seq.{getD-set-other, getD-set-same}
 use Rattle.rules.specs.Lists.{_⊕_, allOf, All, upto}
-use Rattle.rules.specs.Lattice.{sameAxis, samePoint, pointNumber, pointCount, points, Set, Axis, X, Y, Z, Point}
+use Rattle.rules.specs.Lattice.{OfGrid, sameAxis, samePoint, pointNumber, pointCount, points, Set, Axis, X, Y, Z, Point}
 use Rattle.rules.specs.Grid.{weight, has}
-use Rattle.rules.specs.Condition.{OfGrid}
 use Rattle.rules.proofs.Bits.{⊕-false, &&-false, &&-true, and-left, and-right}
 use Rattle.rules.proofs.Cuts.{samePoint→}
 use Rattle.rules.proofs.Chains.{same-point}

@@ -2,18 +2,12 @@
 use mathlib.Core.Path.{_≡_}
 use mathlib.Core.Bool.{Bool, true, false}
 use mathlib.Core.List.{List, [], _∷_}
-use Prim.Native.Nat.{ℕ, _≤_}
+use Prim.Native.Nat.{ℕ}
 use Rattle.rules.specs.Lists.{_⊕_, parity, anyOf}
-use Rattle.rules.specs.Lattice.{Axis, Point, Edge, up, Set, isIn, edgeIn}
+use Rattle.rules.specs.Lattice.{Axis, Point, Edge, OfGrid, up, Set, isIn, edgeIn}
 use Rattle.rules.specs.Cell.{oddFace}
 use Rattle.rules.specs.Rims.{boxOf, rims}
 use Rattle.rules.specs.Signs.{sign}
-
--- a point of the grid
-pub record OfGrid (n : ℕ) (p : Point) : Type 0 where
-  pub i : p .i ≤ n
-  pub j : p .j ≤ n
-  pub k : p .k ≤ n
 
 -- a route from point to point along edges of the grid, up or down each, with the list of the edges met
 pub data Route (n : ℕ) : Point → Point → List Edge → Type 0 where

@@ -1,7 +1,7 @@
 -- Points, edges, faces and cells of the grid of n cells a side, their numbers, and boxes of cells. Assumes nothing.
 use mathlib.Core.Bool.{Bool, true, false, not, _&&_}
 use mathlib.Core.List.{List, [], _∷_, map}
-use Prim.Native.Nat.{ℕ, suc, pred, _+_, _*_}
+use Prim.Native.Nat.{ℕ, suc, pred, _+_, _*_, _/_, _%_, _≤_}
 use lib.Dec.{eqb}
 pub use Rattle.rules.specs.declared.Axis.{Axis}
 pub use Rattle.rules.specs.declared.Axis.the-variants.{X, Y, Z}
@@ -87,6 +87,16 @@ cellNumber n p = p .i + n * (p .j + n * p .k)
 abbrev pub pointCount : ℕ → ℕ
 pointCount n = suc n * suc n * suc n
 
+-- the point of a number
+abbrev pub pointOf : ℕ → ℕ → Point
+pointOf n p = record { i = p % suc n; j = p / suc n % suc n; k = p / suc n / suc n }
+
+-- a point of the grid: its coordinates run from 0 to n
+pub record OfGrid (n : ℕ) (p : Point) : Type 0 where
+  pub i : p .i ≤ n
+  pub j : p .j ≤ n
+  pub k : p .k ≤ n
+
 -- the points with coordinates below k, by rising number
 abbrev pub points : ℕ → List Point
 points k = each (λ z. each (λ y. map (λ x. record { i = x; j = y; k = z }) (upto 0 k)) (upto 0 k)) (upto 0 k)
@@ -104,9 +114,13 @@ Face = Place
 abbrev pub samePlace : Place → Place → Bool
 samePlace e f = sameAxis (e .axis) (f .axis) && samePoint (e .at) (f .at)
 
--- the edges, or the faces, at points with coordinates below k: by rising point number, x before y before z at one point
+-- the three edges, or faces, at one point: x before y before z
+abbrev pub placesAt : Point → List Place
+placesAt p = record { axis = X; at = p } ∷ (record { axis = Y; at = p } ∷ (record { axis = Z; at = p } ∷ []))
+
+-- the edges, or the faces, at points with coordinates below k, by rising point number
 abbrev pub places : ℕ → List Place
-places k = each (λ p. record { axis = X; at = p } ∷ (record { axis = Y; at = p } ∷ (record { axis = Z; at = p } ∷ []))) (points k)
+places k = each placesAt (points k)
 
 -- a set of edges, or of faces
 abbrev pub Set : Type 0

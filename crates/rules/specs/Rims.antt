@@ -3,13 +3,17 @@ use mathlib.Core.Path.{_≡_}
 use mathlib.Core.Bool.{Bool, true, not, _||_}
 use mathlib.Core.List.{List, [], _∷_}
 use Prim.Native.Nat.{ℕ, min, max}
-use Rattle.rules.specs.Lists.{keep, anyOf, each}
+use Rattle.rules.specs.Lists.{keep, anyOf, allOf, each}
 use Rattle.rules.specs.Lattice.{X, Y, Z, Face, Box, up, down, samePlace, places, isIn, Set, whole}
 use Rattle.rules.specs.Cell.{oddFace, ofCell}
 
 -- the odd faces of the grid, by rising point number
 unfoldable pub oddFaces : ℕ → Set → List Face
 oddFaces n E = keep (isIn (oddFace E)) (places n)
+
+-- no face of the grid is odd
+unfoldable pub evenFaces : ℕ → Set → Bool
+evenFaces n E = allOf (λ f. not (isIn (oddFace E) f)) (places n)
 
 -- neighbours in a chain are faces of one cell: of the one above f, or of the one below it
 abbrev pub neighbours : Face → Face → Bool

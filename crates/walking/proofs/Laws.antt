@@ -24,7 +24,7 @@ use Rattle.rules.proofs.Patched.{odd-in}
 use Rattle.rules.proofs.Numbers.{number-below, has-bit, three-of}
 use Rattle.rules.proofs.Store.{number-inj}
 use Rattle.lattice.specs.Cells.{faceRule, faceOf, edgeOf, layer, Cell}
-use Rattle.rules.specs.Condition.{OfGrid}
+use Rattle.rules.specs.Lattice.{OfGrid}
 use Rattle.lattice.proofs.Laws.{odd-four, edge-below, face-small}
 use Rattle.walking.specs.Walks.{came, Fine, oddAt, seenB, acrossOf, opposite, sawOf, visitOf, openB, firstOpen}
 

@@ -28,7 +28,7 @@ use Rattle.rules.proofs.Chains.{same-point, or-no-left, or-no-right}
 use Rattle.rules.proofs.Store.{number-inj}
 use Rattle.rules.proofs.RimBox.{Sub}
 use Rattle.lattice.specs.Cells.{faceOf, layer, Cell}
-use Rattle.rules.specs.Condition.{OfGrid}
+use Rattle.rules.specs.Lattice.{OfGrid}
 use Rattle.walking.specs.Walks.{came, Fine, oddAt, seenB, acrossOf, opposite, backOf, sawOf, visitOf, openB, firstOpen, cellBox, Walked, pushOf, popOf, stopOf, stepOf, Route, here, over, New, Done, Filled}
 use Rattle.walking.specs.declared.Walk.{Walk}
 use Rattle.walking.proofs.Laws.{face-0, face-1, face-2, came-inner, odd-came, pred-le, face-below, Crossed, crossed, below, num-small, apart, seen-same, saw-has, saw-dir, visit-same, visit-other, visit-lit, visit-grows, darkOf, dark-visit, dark-most, first-is, first-none}

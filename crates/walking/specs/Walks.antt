@@ -17,7 +17,7 @@ use Rattle.rules.specs.Rims.{joinBox}
 use Rattle.rules.proofs.RimBox.{Sub}
 use Rattle.rules.proofs.Store.{stored}
 use Rattle.lattice.specs.Cells.{faceOf, layer, Cell}
-use Rattle.rules.specs.Condition.{OfGrid}
+use Rattle.rules.specs.Lattice.{OfGrid}
 use Rattle.walking.specs.declared.Walk.{Walk}
 
 -- the marks as they came, on inner edges

@@ -14,7 +14,7 @@ ghost use Rattle.rules.specs.Lattice.{pointNumber, down, pointCount};
 ghost use Rattle.rules.specs.Grid.{byteAt};
 ghost use Rattle.rules.specs.Cell.{oddFace};
 ghost use Rattle.rules.specs.Rims.{joinBox};
-ghost use Rattle.rules.specs.Condition.{OfGrid};
+ghost use Rattle.rules.specs.Lattice.{OfGrid};
 ghost use Rattle.lattice.specs.Cells.{Cell};
 ghost use Rattle.walking.specs.Walks.{came, Fine, seenB, acrossOf, opposite, backOf, visitOf, firstOpen, openB, cellBox, Walked, stepOf, Filled};
 
