@@ -1,0 +1,5 @@
+pub mod Bounds
+pub mod Sizes
+pub mod Units
+pub mod Listed
+mod Plain

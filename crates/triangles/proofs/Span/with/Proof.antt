@@ -1,0 +1,23 @@
+use Rattle.triangles.proofs.Plain.{plain}
+use borrow.Author.Needs.{needs}
+use Rattle.triangles.proofs.Span.with.Statement.{statement}
+use Rattle.triangles.proofs.Span.with.Tie as tie
+
+lesser-requires : tie.Need-lesser-requires
+lesser-requires c κs = search needs
+
+greater-requires : tie.Need-greater-requires
+greater-requires c κs = search needs
+
+returns : tie.Need-returns
+returns c =
+    let s = c .before .before .before .before in
+    let l : plain (s .args .self .low) = search needs in
+    let h : plain (s .args .self .high) = search needs in
+    let p : plain (s .args .p) = search needs in
+    let a : plain (c .before .before .lesser .result) = search needs in
+    let b : plain (c .greater .result) = search needs in
+    cc
+
+pub with-spec : {M : Type 1} → statement M
+with-spec = tie.close (tie.spec lesser-requires greater-requires returns)

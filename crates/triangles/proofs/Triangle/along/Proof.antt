@@ -1,0 +1,44 @@
+-- `Triangle::along` meets its contract. Assumes nothing.
+use Rattle.triangles.proofs.Units.{triangle-along}
+use Rattle.triangles.proofs.Plain.{plain}
+use borrow.Author.Needs.{needs}
+use Rattle.triangles.proofs.Triangle.along.Statement.{statement}
+use Rattle.triangles.proofs.Triangle.along.Tie as tie
+
+along-requires : tie.Need-along-requires
+along-requires c κs = search needs
+
+along-requires-2 : tie.Need-along-requires-2
+along-requires-2 c κs = search needs
+
+along-requires-3 : tie.Need-along-requires-3
+along-requires-3 c κs = search needs
+
+at-requires : tie.Need-at-requires
+at-requires c κs = search needs
+
+with-requires : tie.Need-with-requires
+with-requires c κs = search needs
+
+with-requires-2 : tie.Need-with-requires-2
+with-requires-2 c κs = search needs
+
+returns : tie.Need-returns
+returns c =
+    let s = c .before .before .before .before .before .before in
+    let p : plain (c .before .before .before .before .before .along .result) = search needs in
+    let q : plain (c .before .before .before .before .along2 .result) = search needs in
+    let r : plain (c .before .before .before .along3 .result) = search needs in
+    rw (triangle-along (s .args .d) (s .pre)) (cc)
+
+pub along-spec : {M : Type 1} → statement M
+along-spec =
+    tie.close
+    (tie.spec
+    along-requires
+    along-requires-2
+    along-requires-3
+    at-requires
+    with-requires
+    with-requires-2
+    returns)

@@ -1,0 +1,24 @@
+-- `Triangle::normal` meets its contract. Assumes nothing.
+use Rattle.triangles.specs.Axes.{normal}
+use Rattle.triangles.proofs.Sizes.{minus-size}
+use borrow.Author.Needs.{needs}
+use Rattle.triangles.proofs.Triangle.normal.Statement.{statement}
+use Rattle.triangles.proofs.Triangle.normal.Tie as tie
+
+minus-requires : tie.Need-minus-requires
+minus-requires c κs = search needs
+
+minus-requires-2 : tie.Need-minus-requires-2
+minus-requires-2 c κs = search needs
+
+cross-requires : tie.Need-cross-requires
+cross-requires c κs =
+    let h = c .before .before .pre in
+    (rw (c .before .minus .ensures) (minus-size (h .b-in) (h .a-in)), rw (c .minus2 .ensures) (minus-size (h .c-in) (h .a-in)))
+
+returns : tie.Need-returns
+unfolding normal
+returns c = cc
+
+pub normal-spec : {M : Type 1} → statement M
+normal-spec = tie.close (tie.spec minus-requires minus-requires-2 cross-requires returns)

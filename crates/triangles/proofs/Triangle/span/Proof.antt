@@ -1,0 +1,44 @@
+-- `Triangle::span` meets its contract. Assumes nothing.
+use Rattle.triangles.specs.Meets.{triangleSpan}
+use Rattle.triangles.proofs.Plain.{plain}
+use borrow.Author.Needs.{needs}
+use Rattle.triangles.proofs.Triangle.span.Statement.{statement}
+use Rattle.triangles.proofs.Triangle.span.Tie as tie
+
+dot-requires : tie.Need-dot-requires
+dot-requires c κs = search needs
+
+dot-requires-2 : tie.Need-dot-requires-2
+dot-requires-2 c κs = search needs
+
+dot-requires-3 : tie.Need-dot-requires-3
+dot-requires-3 c κs = search needs
+
+at-requires : tie.Need-at-requires
+at-requires c κs = search needs
+
+with-requires : tie.Need-with-requires
+with-requires c κs = search needs
+
+with-requires-2 : tie.Need-with-requires-2
+with-requires-2 c κs = search needs
+
+returns : tie.Need-returns
+unfolding triangleSpan
+returns c =
+    let x : plain (c .before .before .before .before .before .dot .result) = search needs in
+    let y : plain (c .before .before .before .before .dot2 .result) = search needs in
+    let z : plain (c .before .before .before .dot3 .result) = search needs in
+    cc
+
+pub span-spec : {M : Type 1} → statement M
+span-spec =
+    tie.close
+    (tie.spec
+    dot-requires
+    dot-requires-2
+    dot-requires-3
+    at-requires
+    with-requires
+    with-requires-2
+    returns)

@@ -1,0 +1,21 @@
+-- `separates` meets its contract. Assumes nothing.
+use Rattle.triangles.specs.Meets.{separates}
+use borrow.Author.Needs.{needs}
+use Rattle.triangles.proofs.separates.Statement.{statement}
+use Rattle.triangles.proofs.separates.Tie as tie
+
+span-requires : tie.Need-span-requires
+span-requires c κs = search needs
+
+span-requires-2 : tie.Need-span-requires-2
+span-requires-2 c κs = search needs
+
+apart-requires : tie.Need-apart-requires
+apart-requires c κs = search needs
+
+returns : tie.Need-returns
+unfolding separates
+returns c = cc
+
+pub separates-spec : {M : Type 1} → statement M
+separates-spec = tie.close (tie.spec span-requires span-requires-2 apart-requires returns)

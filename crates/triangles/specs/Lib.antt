@@ -1,0 +1,4 @@
+pub mod Vectors
+pub mod Spans
+pub mod Axes
+pub mod Meets
