@@ -2,4 +2,8 @@ pub mod Bounds
 pub mod Sizes
 pub mod Units
 pub mod Listed
+pub mod Order
+pub mod Touching
+pub mod Exactly
+pub mod Outside
 mod Plain

@@ -1,7 +1,7 @@
 -- Spans of whole numbers, compared and never subtracted. Assumes nothing.
 use mathlib.Core.Bool.{Bool, cond, _||_}
 use lib.IntN.{ℤ}
-use lib.Signed.{ltZ}
+use lib.Signed.{ltZ, _≤ℤ_}
 use Rattle.triangles.specs.declared.Span.{Span}
 
 -- The lesser of two numbers.
@@ -27,3 +27,8 @@ before s u = ltZ (s .high) (u .low)
 -- One of the two ends strictly before the other begins.
 unfoldable pub apart : Span → Span → Bool
 apart s u = before s u || before u s
+
+-- A number of the span, its two ends among them.
+pub record Holds (s : Span) (p : ℤ) : Type 0 where
+  pub from-low : s .low ≤ℤ p
+  pub to-high : p ≤ℤ s .high
