@@ -6,4 +6,7 @@ pub mod Order
 pub mod Touching
 pub mod Exactly
 pub mod Outside
+pub mod Algebra
+pub mod Weights
+pub mod SharedPoint
 mod Plain

@@ -22,7 +22,7 @@ le-false {a} {b} h = go (ltZ a b) refl
     go false e = refl
 
 -- what is not less is at most
-not-lt : {a b : ℤ} → (b <ℤ a → ⊥) → a ≤ℤ b
+pub not-lt : {a b : ℤ} → (b <ℤ a → ⊥) → a ≤ℤ b
 not-lt {a} {b} f = ltZ-no (not-T (ltZ b a) (λ t. f (ltZ-yes t)))
 
 pub false-le : (a b : ℤ) → ltZ a b ≡ false → b ≤ℤ a
