@@ -51,12 +51,6 @@ faceOf f c = moved c (faceRule f)
 unfoldable pub edgeOf : ℕ → ℕ → Point → Place
 edgeOf f s c = moved c (faceEdge (faceRule f) s)
 
--- coordinates that are at most n
-pub record OfGrid (n : ℕ) (p : Point) : Type 0 where
-  pub i : p .i ≤ n
-  pub j : p .j ≤ n
-  pub k : p .k ≤ n
-
 -- a cell of the grid
 pub record Cell (n : ℕ) (p : Point) : Type 0 where
   pub i : p .i < n
