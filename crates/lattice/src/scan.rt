@@ -5,14 +5,16 @@ use crate::odd;
 use rules::Axis;
 use rules::Point;
 ghost use mathlib.Core.Path.{_≡_};
-ghost use mathlib.Core.Bool.{not, _&&_, _||_};
+ghost use mathlib.Core.Bool.{true, not, _||_};
 ghost use Prim.Native.Nat.{_≤_};
 ghost use lib.ListN.{length};
 ghost use Rattle.rules.specs.Lists.{between};
 ghost use Rattle.rules.specs.Lattice.{inner, pointCount};
 ghost use Rattle.rules.specs.Grid.{has, byteFits, isGrid, marks};
 ghost use Rattle.rules.specs.Lattice.{OfGrid};
-ghost use Rattle.lattice.specs.Scans.{nextPoint, innerAlong};
+ghost use Rattle.rules.specs.Rims.{evenFaces};
+ghost use Rattle.lattice.specs.Cells.{Cell};
+ghost use Rattle.lattice.specs.Scans.{nextPoint, innerAlong, lowerEven};
 
 // The point after a point, by rising number.
 pub fn next_point(n: usize, p: Point) -> Point
@@ -117,6 +119,39 @@ pub fn is_grid(n: usize, grid: &[u8]) -> bool
         }
         q = next_point(n, q);
         p += 1;
+    }
+    true
+}
+
+// Whether none of a cell's three lower faces is odd.
+fn lower_even(n: usize, grid: &[u8], c: Point) -> bool
+    requires { ⌜ (n ≤ 32) × (pointCount n ≤ length (now grid)) × (isGrid n (now grid) ≡ true) × Cell n c ⌝ }
+    ensures { λ r. ⌜ r ≡ lowerEven (marks n (now (grid .entry))) c ⌝ }
+{
+    if odd(n, grid, 1, c, 0) {
+        return false;
+    }
+    if odd(n, grid, 1, c, 1) {
+        return false;
+    }
+    !odd(n, grid, 1, c, 2)
+}
+
+// Whether no face of a grid is odd. Each face that can be is a lower face of one cell.
+pub fn all_even(n: usize, grid: &[u8]) -> bool
+    requires { ⌜ (1 ≤ n) × (n ≤ 32) × (pointCount n ≤ length (now grid)) × (isGrid n (now grid) ≡ true) ⌝ }
+    ensures { λ r. ⌜ r ≡ evenFaces n (marks n (now (grid .entry))) ⌝ }
+{
+    let last = n - 1;
+    let count = point_count(last);
+    let mut c = Point { i: 0, j: 0, k: 0 };
+    let mut k: usize = 0;
+    while k < count {
+        if !lower_even(n, grid, c) {
+            return false;
+        }
+        c = next_point(last, c);
+        k += 1;
     }
     true
 }
