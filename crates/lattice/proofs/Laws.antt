@@ -1,19 +1,20 @@
--- Tables, moved edges, and turns. Assumes nothing.
+-- Tables, moved edgeTable, and turns. Assumes nothing.
 use mathlib.Core.Path.{_≡_, refl, sym, ap, ap₂, _∙_, subst}
-use mathlib.Core.Bool.{Bool, true}
+use mathlib.Core.Bool.{Bool, true, false}
 use mathlib.Core.List.{List, [], _∷_}
 use Prim.Native.Nat.{ℕ, zero, suc, _+_, _*_, _/_, _%_, _≤_, _<_}
 use native.Mathlib.Nat.{add-zero, zero-add, add-suc, suc-add, le-of-suc-le-suc, not-suc-le-zero, mul-le-mul}
 use native.Mathlib.Omega.{arith}
-use lib.Dec.{ltb}
-use borrow.Author.Tests.{ltb-true}
+use lib.Dec.{ltb, eqb}
+use borrow.Author.Tests.{ltb-true, eqb-true, eqb-false}
 use lib.ListN.{getD}
-use Rattle.rules.specs.Lists.{_⊕_}
+use Rattle.rules.specs.Lists.{_⊕_, allOf, count, upto}
 use Rattle.rules.specs.declared.Axis.{Axis}
 use Rattle.rules.specs.declared.Axis.the-variants.{X, Y, Z}
 use Rattle.rules.specs.declared.Point.{Point}
 use Rattle.rules.specs.declared.Place.{Place}
-use Rattle.rules.specs.Lattice.{earlier, later, up, Set, pointNumber, pointCount}
+use Rattle.rules.specs.Grid.{has, weight}
+use Rattle.rules.specs.Lattice.{earlier, later, coord, up, Set, pointNumber, pointCount}
 use Rattle.rules.specs.Cell.{oddFace}
 use Rattle.rules.proofs.Numbers.{number-below}
 use Rattle.lattice.specs.Cells.{faceRule, faceEdge, moved, faceOf, edgeOf, Cell}
@@ -65,35 +66,27 @@ small-face (suc (suc (suc (suc (suc f))))) = omega arith
 pub face-small : (f : ℕ) (e : Place) → e ≡ faceRule f → OfGrid 1 (e .at)
 face-small f e q = subst (λ (x : Place). OfGrid 1 (x .at)) (sym q) (small-face f)
 
+-- a face of the cell at (0,0,0) has its lowest corner at 0 on the two axes that it lies along
+flat : (f : ℕ) → (coord (earlier (faceRule f .axis)) (faceRule f .at) ≡ 0) × (coord (later (faceRule f .axis)) (faceRule f .at) ≡ 0)
+unfolding faceRule
+flat zero = (refl, refl)
+flat (suc zero) = (refl, refl)
+flat (suc (suc zero)) = (refl, refl)
+flat (suc (suc (suc zero))) = (refl, refl)
+flat (suc (suc (suc (suc zero)))) = (refl, refl)
+flat (suc (suc (suc (suc (suc f))))) = (refl, refl)
+
+up-small : (a : Axis) (p : Point) → OfGrid 1 p → coord a p ≡ 0 → OfGrid 1 (up a p)
+up-small X p h e = record { i = omega arith; j = h .j; k = h .k }
+up-small Y p h e = record { i = h .i; j = omega arith; k = h .k }
+up-small Z p h e = record { i = h .i; j = h .j; k = omega arith }
+
 small-edge : (f s : ℕ) → OfGrid 1 (faceEdge (faceRule f) s .at)
-unfolding faceRule faceEdge
-small-edge f s = go f s
-  where
-    go : (f s : ℕ) → OfGrid 1 (faceEdge (faceRule f) s .at)
-    go zero zero = omega arith
-    go zero (suc zero) = omega arith
-    go zero (suc (suc zero)) = omega arith
-    go zero (suc (suc (suc s))) = omega arith
-    go (suc zero) zero = omega arith
-    go (suc zero) (suc zero) = omega arith
-    go (suc zero) (suc (suc zero)) = omega arith
-    go (suc zero) (suc (suc (suc s))) = omega arith
-    go (suc (suc zero)) zero = omega arith
-    go (suc (suc zero)) (suc zero) = omega arith
-    go (suc (suc zero)) (suc (suc zero)) = omega arith
-    go (suc (suc zero)) (suc (suc (suc s))) = omega arith
-    go (suc (suc (suc zero))) zero = omega arith
-    go (suc (suc (suc zero))) (suc zero) = omega arith
-    go (suc (suc (suc zero))) (suc (suc zero)) = omega arith
-    go (suc (suc (suc zero))) (suc (suc (suc s))) = omega arith
-    go (suc (suc (suc (suc zero)))) zero = omega arith
-    go (suc (suc (suc (suc zero)))) (suc zero) = omega arith
-    go (suc (suc (suc (suc zero)))) (suc (suc zero)) = omega arith
-    go (suc (suc (suc (suc zero)))) (suc (suc (suc s))) = omega arith
-    go (suc (suc (suc (suc (suc f))))) zero = omega arith
-    go (suc (suc (suc (suc (suc f))))) (suc zero) = omega arith
-    go (suc (suc (suc (suc (suc f))))) (suc (suc zero)) = omega arith
-    go (suc (suc (suc (suc (suc f))))) (suc (suc (suc s))) = omega arith
+unfolding faceEdge
+small-edge f zero = small-face f
+small-edge f (suc zero) = up-small (later (faceRule f .axis)) (faceRule f .at) (small-face f) (flat f .1)
+small-edge f (suc (suc zero)) = small-face f
+small-edge f (suc (suc (suc s))) = up-small (earlier (faceRule f .axis)) (faceRule f .at) (small-face f) (flat f .0)
 
 pub edge-small : (f s : ℕ) (e : Place) → e ≡ faceEdge (faceRule f) s → OfGrid 1 (e .at)
 edge-small f s e q = subst (λ (x : Place). OfGrid 1 (x .at)) (sym q) (small-edge f s)
@@ -116,26 +109,41 @@ pub num-below : (n : ℕ) (p : Point) → OfGrid n p → pointNumber n p < point
 num-below n p b = number-below (suc n) (p .i) (p .j) (p .k) (omega arith) (omega arith) (omega arith)
 
 -- ---- the tables as the code has them
-abbrev pub faceEdges : List ℕ
-faceEdges = (4 ∷ (6 ∷ (8 ∷ (10 ∷ (0 ∷ (2 ∷ (8 ∷ (9 ∷ (0 ∷ (1 ∷ (4 ∷ (5 ∷ (5 ∷ (7 ∷ (9 ∷ (11 ∷ (1 ∷ (3 ∷ (10 ∷ (11 ∷ (2 ∷ (3 ∷ (6 ∷ (7 ∷ []))))))))))))))))))))))))
+abbrev pub faceEdgeTable : List ℕ
+faceEdgeTable = (4 ∷ (6 ∷ (8 ∷ (10 ∷ (0 ∷ (2 ∷ (8 ∷ (9 ∷ (0 ∷ (1 ∷ (4 ∷ (5 ∷ (5 ∷ (7 ∷ (9 ∷ (11 ∷ (1 ∷ (3 ∷ (10 ∷ (11 ∷ (2 ∷ (3 ∷ (6 ∷ (7 ∷ []))))))))))))))))))))))))
 
-abbrev pub edges : List Place
-edges = (record { axis = X; at = record { i = 0; j = 0; k = 0 } } ∷ (record { axis = X; at = record { i = 0; j = 1; k = 0 } } ∷ (record { axis = X; at = record { i = 0; j = 0; k = 1 } } ∷ (record { axis = X; at = record { i = 0; j = 1; k = 1 } } ∷ (record { axis = Y; at = record { i = 0; j = 0; k = 0 } } ∷ (record { axis = Y; at = record { i = 1; j = 0; k = 0 } } ∷ (record { axis = Y; at = record { i = 0; j = 0; k = 1 } } ∷ (record { axis = Y; at = record { i = 1; j = 0; k = 1 } } ∷ (record { axis = Z; at = record { i = 0; j = 0; k = 0 } } ∷ (record { axis = Z; at = record { i = 1; j = 0; k = 0 } } ∷ (record { axis = Z; at = record { i = 0; j = 1; k = 0 } } ∷ (record { axis = Z; at = record { i = 1; j = 1; k = 0 } } ∷ []))))))))))))
+abbrev pub edgeTable : List Place
+edgeTable = (record { axis = X; at = record { i = 0; j = 0; k = 0 } } ∷ (record { axis = X; at = record { i = 0; j = 1; k = 0 } } ∷ (record { axis = X; at = record { i = 0; j = 0; k = 1 } } ∷ (record { axis = X; at = record { i = 0; j = 1; k = 1 } } ∷ (record { axis = Y; at = record { i = 0; j = 0; k = 0 } } ∷ (record { axis = Y; at = record { i = 1; j = 0; k = 0 } } ∷ (record { axis = Y; at = record { i = 0; j = 0; k = 1 } } ∷ (record { axis = Y; at = record { i = 1; j = 0; k = 1 } } ∷ (record { axis = Z; at = record { i = 0; j = 0; k = 0 } } ∷ (record { axis = Z; at = record { i = 1; j = 0; k = 0 } } ∷ (record { axis = Z; at = record { i = 0; j = 1; k = 0 } } ∷ (record { axis = Z; at = record { i = 1; j = 1; k = 0 } } ∷ []))))))))))))
 
 abbrev pub none : Place
 none = record { axis = X; at = record { i = 0; j = 0; k = 0 } }
 
-pub table-small : (k : ℕ) → k < 24 → getD faceEdges k 0 < 12
-table-small k h = ltb-true _ _ (rules (λ i. ltb (getD faceEdges i 0) 12) (λ i. true) true 24 k refl h)
+pub table-small : (k : ℕ) → k < 24 → getD faceEdgeTable k 0 < 12
+table-small k h = ltb-true _ _ (rules (λ i. ltb (getD faceEdgeTable i 0) 12) (λ i. true) true 24 k refl h)
 
 -- the rule of the table, over all its entries
-pub table-rule : (f s : ℕ) → f < 6 → s < 4 → getD edges (getD faceEdges (f * 4 + s) 0) none ≡ faceEdge (faceRule f) s
+pub table-rule : (f s : ℕ) → f < 6 → s < 4 → getD edgeTable (getD faceEdgeTable (f * 4 + s) 0) none ≡ faceEdge (faceRule f) s
 unfolding faceRule faceEdge
 table-rule f s hf hs =
     let a : (f * 4 + s) / 4 ≡ f = omega arith in
     let b : (f * 4 + s) % 4 ≡ s = omega arith in
-    rules (λ k. getD edges (getD faceEdges k 0) none) (λ k. faceEdge (faceRule (k / 4)) (k % 4)) none 24 (f * 4 + s) refl (omega arith)
+    rules (λ k. getD edgeTable (getD faceEdgeTable k 0) none) (λ k. faceEdge (faceRule (k / 4)) (k % 4)) none 24 (f * 4 + s) refl (omega arith)
     ∙ ap₂ (λ (i j : ℕ). faceEdge (faceRule i) j) a b
+
+-- each of the twelve edges lies in exactly two faces
+pub in-two-faces : allOf (λ e. eqb (count (eqb e) faceEdgeTable) 2) (upto 0 12) ≡ true
+in-two-faces = refl
+
+-- ---- a bit turned
+pub has-weight : (a : Axis) (b : ℕ) → has a b ≡ true → weight a ≤ b
+has-weight X b e = omega (arith, eqb-true (b % 2) 1 e)
+has-weight Y b e = omega (arith, eqb-true (b / 2 % 2) 1 e)
+has-weight Z b e = omega (arith, eqb-true (b / 4 % 2) 1 e)
+
+pub room-for : (a : Axis) (b : ℕ) → has a b ≡ false → b < 256 → b + weight a < 256
+room-for X b e h = let n : b % 2 ≡ 1 → ⊥ = eqb-false (b % 2) 1 e in omega arith
+room-for Y b e h = let n : b / 2 % 2 ≡ 1 → ⊥ = eqb-false (b / 2 % 2) 1 e in omega arith
+room-for Z b e h = let n : b / 4 % 2 ≡ 1 → ⊥ = eqb-false (b / 4 % 2) 1 e in omega arith
 
 pub odd-turn : (E : Set) (f : ℕ) (c : Point) (e₀ e₁ e₂ e₃ : Place) (p q r s x y z : Bool) → e₀ ≡ edgeOf f 0 c → e₁ ≡ edgeOf f 1 c → e₂ ≡ edgeOf f 2 c → e₃ ≡ edgeOf f 3 c →
     p ≡ E (e₀ .axis) (e₀ .at) → q ≡ E (e₁ .axis) (e₁ .at) → r ≡ E (e₂ .axis) (e₂ .at) → s ≡ E (e₃ .axis) (e₃ .at) → x ≡ p ⊕ q → y ≡ r ⊕ s → z ≡ x ⊕ y →

@@ -11,7 +11,7 @@ ghost use lib.ListN.{length, getD};
 ghost use Rattle.rules.specs.Lists.{_⊕_};
 ghost use Rattle.rules.specs.declared.Axis.the-variants.{X, Y, Z};
 ghost use Rattle.rules.specs.Lattice.{earlier, later, pointNumber, pointCount};
-ghost use Rattle.rules.specs.Grid.{has};
+ghost use Rattle.rules.specs.Grid.{has, weight};
 ghost use Rattle.rules.specs.Cell.{oddFace};
 ghost use Rattle.rules.proofs.Store.{toggle};
 ghost use Rattle.lattice.specs.Cells.{indexOf, faceRule, faceEdge, moved, faceOf, edgeOf, Cell, layer, turnOne};
@@ -174,41 +174,26 @@ pub fn bit(b: u8, a: Axis) -> bool
     }
 }
 
-fn turn_x(b: u8) -> u8
-    ensures { λ r. ⌜ r ≡ toggle X b ⌝ }
+// The value of an axis in a byte: 1 for x, 2 for y, 4 for z.
+pub fn weight_of(a: Axis) -> u8
+    ensures { λ r. ⌜ r ≡ weight a ⌝ }
 {
-    if b % 2 == 1 {
-        return b - 1;
+    match a {
+        Axis::X => 1,
+        Axis::Y => 2,
+        Axis::Z => 4,
     }
-    b + 1
 }
 
-fn turn_y(b: u8) -> u8
-    ensures { λ r. ⌜ r ≡ toggle Y b ⌝ }
-{
-    if b / 2 % 2 == 1 {
-        return b - 2;
-    }
-    b + 2
-}
-
-fn turn_z(b: u8) -> u8
-    ensures { λ r. ⌜ r ≡ toggle Z b ⌝ }
-{
-    if b / 4 % 2 == 1 {
-        return b - 4;
-    }
-    b + 4
-}
-
+// A byte with the member of an axis turned.
 fn turned(b: u8, a: Axis) -> u8
     ensures { λ r. ⌜ r ≡ toggle a b ⌝ }
 {
-    match a {
-        Axis::X => turn_x(b),
-        Axis::Y => turn_y(b),
-        Axis::Z => turn_z(b),
+    let w = weight_of(a);
+    if bit(b, a) {
+        return b - w;
     }
+    b + w
 }
 
 // Turns one member of the set that a buffer's lowest three bits hold.

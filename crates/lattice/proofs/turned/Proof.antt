@@ -1,44 +1,33 @@
-use Rattle.lattice.proofs.turned.Tie as tie
+use mathlib.Core.Path.{sym, ap, _∙_}
+use native.Mathlib.Omega.{arith}
 use borrow.Author.Needs.{needs}
+use Rattle.rules.specs.Grid.{has, weight}
+use Rattle.lattice.proofs.Laws.{has-weight, room-for}
 use Rattle.lattice.proofs.turned.Statement.{statement}
+use Rattle.lattice.proofs.turned.Tie as tie
 
-enum-told : tie.Need-enum-told
-enum-told c = search needs
+weight-of-requires : tie.Need-weight-of-requires
+weight-of-requires c κs = search needs
 
-turn-x-requires : tie.Need-turn-x-requires
-turn-x-requires c κs = search needs
+bit-requires : tie.Need-bit-requires
+bit-requires c κs = search needs
 
-enum-told-2 : tie.Need-enum-told-2
-enum-told-2 c = search needs
-
-turn-y-requires : tie.Need-turn-y-requires
-turn-y-requires c κs = search needs
-
-enum-told-3 : tie.Need-enum-told-3
-enum-told-3 c = search needs
-
-turn-z-requires : tie.Need-turn-z-requires
-turn-z-requires c κs = search needs
+sub-result : tie.Need-sub-result
+sub-result c =
+    let h = has-weight (c .before .before .before .args .a) (c .before .before .before .args .b) (sym (c .before .bit .ensures) ∙ c .if1 .taken) in
+    omega (arith, h, c .before .before .weight-of .ensures)
 
 returns : tie.Need-returns
-returns c = rw (c .before .enum-told .given .1) (c .turn-x .ensures)
+returns c = rw (sym (c .before .bit .ensures) ∙ c .if1 .taken, c .before .before .weight-of .ensures)
+
+add-result : tie.Need-add-result
+add-result c =
+    let s = c .before .before .before in
+    let h = room-for (s .args .a) (s .args .b) (sym (c .before .bit .ensures) ∙ c .if1 .left) (s .fits .b .fits) in
+    omega (arith, h, c .before .before .weight-of .ensures)
 
 returns-2 : tie.Need-returns-2
-returns-2 c = rw (c .before .enum-told2 .given .1) (c .turn-y .ensures)
-
-returns-3 : tie.Need-returns-3
-returns-3 c = rw (c .before .enum-told3 .given .1) (c .turn-z .ensures)
+returns-2 c = rw (sym (c .before .bit .ensures) ∙ c .if1 .left, c .before .before .weight-of .ensures)
 
 pub turned-spec : {M : Type 1} → statement M
-turned-spec =
-    tie.close
-    (tie.spec
-    enum-told
-    turn-x-requires
-    enum-told-2
-    turn-y-requires
-    enum-told-3
-    turn-z-requires
-    returns
-    returns-2
-    returns-3)
+turned-spec = tie.close (tie.spec weight-of-requires bit-requires sub-result returns add-result returns-2)
