@@ -1,5 +1,5 @@
 -- `crossed_clear` meets its contract: what is left to ask is whether an axis from number k on separates. Assumes nothing.
-use mathlib.Core.Path.{_≡_, refl, sym, _∙_}
+use mathlib.Core.Path.{_≡_, refl, sym, ap, _∙_}
 use mathlib.Core.Bool.{true, false}
 use Prim.Native.Nat.{_≤_, _<_, _-_}
 use native.Mathlib.Numerals.{add-one}
@@ -33,7 +33,7 @@ separates-requires c κs =
 returns : tie.Need-returns Inv-loop μ-loop
 returns c =
     let l = c .before .before .before .before in
-    let h : separates (getD (crossed (l .before .args .t)) (l .loop .k) nought) (l .before .args .t) (l .before .args .e) ≡ true = cc in
+    let h = ap (λ v. separates v (l .before .args .t) (l .before .args .e)) (sym (c .before .before .crossed .ensures)) ∙ sym (c .before .separates .ensures) ∙ c .if1 .taken in
     let n : l .loop .k < 9 = omega arith in
     sym (none-stops _ _ _ _ (nine _ n) h) ∙ l .loop .inv .1
 
@@ -46,7 +46,7 @@ loop-less c = omega arith
 loop-again : tie.Need-loop-again Inv-loop μ-loop
 loop-again c =
     let l = c .before .before .before .before in
-    let h : separates (getD (crossed (l .before .args .t)) (l .loop .k) nought) (l .before .args .t) (l .before .args .e) ≡ false = cc in
+    let h = ap (λ v. separates v (l .before .args .t) (l .before .args .e)) (sym (c .before .before .crossed .ensures)) ∙ sym (c .before .separates .ensures) ∙ c .if1 .left in
     let n : l .loop .k < 9 = omega arith in
     (omega arith, rw add-one (sym (none-goes-on _ _ _ _ (nine _ n) h) ∙ l .loop .inv .1))
 

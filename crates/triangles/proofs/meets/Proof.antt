@@ -1,9 +1,7 @@
 -- `meets` meets its contract. Assumes nothing.
-use mathlib.Core.Path.{_≡_, sym, _∙_}
-use mathlib.Core.Bool.{true, false}
+use mathlib.Core.Path.{sym, ap, _∙_}
 use borrow.Author.Needs.{needs}
 use borrow.Author.Tests.{not-true, not-false}
-use Rattle.triangles.specs.Axes.{normal}
 use Rattle.triangles.specs.Meets.{separates}
 use Rattle.triangles.proofs.Sizes.{normal-size}
 use Rattle.triangles.proofs.Listed.{met-parts}
@@ -26,7 +24,8 @@ separates-requires c κs =
 
 returns-2 : tie.Need-returns-2
 returns-2 c =
-    let n : separates (normal (c .before .before .before .before .before .args .t)) (c .before .before .before .before .before .args .t) (c .before .before .before .before .before .args .e) ≡ true = cc in
+    let s = c .before .before .before .before .before in
+    let n = ap (λ v. separates v (s .args .t) (s .args .e)) (sym (c .before .before .normal .ensures)) ∙ sym (c .before .separates .ensures) ∙ c .if2 .taken in
     simp (met-parts, sym (c .before .before .before .before .units-clear .ensures) ∙ not-false _ (c .before .before .before .if1 .left), n)
 
 crossed-clear-requires : tie.Need-crossed-clear-requires
@@ -34,7 +33,8 @@ crossed-clear-requires c κs = search needs
 
 returns-3 : tie.Need-returns-3
 returns-3 c =
-    let n : separates (normal (c .before .before .before .before .before .before .args .t)) (c .before .before .before .before .before .before .args .t) (c .before .before .before .before .before .before .args .e) ≡ false = cc in
+    let s = c .before .before .before .before .before .before in
+    let n = ap (λ v. separates v (s .args .t) (s .args .e)) (sym (c .before .before .before .normal .ensures)) ∙ sym (c .before .before .separates .ensures) ∙ c .before .if2 .left in
     simp (met-parts, sym (c .before .before .before .before .before .units-clear .ensures) ∙ not-false _ (c .before .before .before .before .if1 .left), n) (c .crossed-clear .ensures)
 
 pub meets-spec : {M : Type 1} → statement M

@@ -1,4 +1,6 @@
 -- `separates` meets its contract. Assumes nothing.
+use mathlib.Core.Path.{_∙_}
+use Rattle.triangles.specs.Spans.{apart}
 use Rattle.triangles.specs.Meets.{separates}
 use borrow.Author.Needs.{needs}
 use Rattle.triangles.proofs.separates.Statement.{statement}
@@ -15,7 +17,7 @@ apart-requires c κs = search needs
 
 returns : tie.Need-returns
 unfolding separates
-returns c = cc
+returns c = c .apart .ensures ∙ (λ i. apart (c .before .before .span .ensures i) (c .before .span2 .ensures i))
 
 pub separates-spec : {M : Type 1} → statement M
 separates-spec = tie.close (tie.spec span-requires span-requires-2 apart-requires returns)

@@ -1,7 +1,6 @@
 -- `Span::apart` meets its contract. Assumes nothing.
-use mathlib.Core.Path.{_≡_}
-use mathlib.Core.Bool.{true, false}
-use Rattle.triangles.specs.Spans.{apart, before}
+use mathlib.Core.Path.{sym, _∙_}
+use Rattle.triangles.specs.Spans.{apart}
 use borrow.Author.Needs.{needs}
 use Rattle.triangles.proofs.Span.apart.Statement.{statement}
 use Rattle.triangles.proofs.Span.apart.Tie as tie
@@ -12,8 +11,7 @@ before-requires c κs = search needs
 returns : tie.Need-returns
 unfolding apart
 returns c =
-    let h : before (c .before .before .args .self) (c .before .before .args .o) ≡ true = cc in
-    simp h
+    simp (sym (c .before .before2 .ensures) ∙ c .if1 .taken)
 
 before-requires-2 : tie.Need-before-requires-2
 before-requires-2 c κs = search needs
@@ -21,8 +19,7 @@ before-requires-2 c κs = search needs
 returns-2 : tie.Need-returns-2
 unfolding apart
 returns-2 c =
-    let h : before (c .before .before .before .args .self) (c .before .before .before .args .o) ≡ false = cc in
-    simp h (cc)
+    simp (sym (c .before .before .before2 .ensures) ∙ c .before .if1 .left) (c .before3 .ensures)
 
 pub apart-spec : {M : Type 1} → statement M
 apart-spec = tie.close (tie.spec before-requires returns before-requires-2 returns-2)

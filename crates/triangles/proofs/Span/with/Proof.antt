@@ -12,11 +12,11 @@ greater-requires c κs = search needs
 returns : tie.Need-returns
 returns c =
     let s = c .before .before .before .before in
-    let l : plain (s .args .self .low) = search needs in
-    let h : plain (s .args .self .high) = search needs in
-    let p : plain (s .args .p) = search needs in
-    let a : plain (c .before .before .lesser .result) = search needs in
-    let b : plain (c .greater .result) = search needs in
+    let l = plain (s .args .self .low) (c .before .before .before .struct-told .given .0 .1) in
+    let h = plain (s .args .self .high) (c .before .before .before .struct-told .given .1 .0 .1) in
+    let p = plain (s .args .p) (s .fits .p .sfits) in
+    let a = plain (c .before .before .lesser .result) (c .before .before .lesser .ok) in
+    let b = plain (c .greater .result) (c .greater .ok) in
     cc
 
 pub with-spec : {M : Type 1} → statement M

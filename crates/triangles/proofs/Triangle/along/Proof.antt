@@ -1,6 +1,7 @@
 -- `Triangle::along` meets its contract. Assumes nothing.
 use Rattle.triangles.proofs.Units.{triangle-along}
-use Rattle.triangles.proofs.Plain.{plain}
+use mathlib.Core.Path.{_∙_}
+use Rattle.triangles.proofs.Plain.{plain, three-span}
 use borrow.Author.Needs.{needs}
 use Rattle.triangles.proofs.Triangle.along.Statement.{statement}
 use Rattle.triangles.proofs.Triangle.along.Tie as tie
@@ -26,10 +27,10 @@ with-requires-2 c κs = search needs
 returns : tie.Need-returns
 returns c =
     let s = c .before .before .before .before .before .before in
-    let p : plain (c .before .before .before .before .before .along .result) = search needs in
-    let q : plain (c .before .before .before .before .along2 .result) = search needs in
-    let r : plain (c .before .before .before .along3 .result) = search needs in
-    rw (triangle-along (s .args .d) (s .pre)) (cc)
+    let p = plain (c .before .before .before .before .before .along .result) (c .before .before .before .before .before .along .ok) in
+    let q = plain (c .before .before .before .before .along2 .result) (c .before .before .before .before .along2 .ok) in
+    let r = plain (c .before .before .before .along3 .result) (c .before .before .before .along3 .ok) in
+    rw (triangle-along (s .args .d) (s .pre)) (three-span (c .before .before .at .ensures) (c .before .with .ensures) (c .with2 .ensures) (p ∙ c .before .before .before .before .before .along .ensures) (q ∙ c .before .before .before .before .along2 .ensures) (r ∙ c .before .before .before .along3 .ensures))
 
 pub along-spec : {M : Type 1} → statement M
 along-spec =

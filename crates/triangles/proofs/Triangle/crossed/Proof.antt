@@ -1,4 +1,6 @@
 -- `Triangle::crossed` meets its contract. Assumes nothing.
+use mathlib.Core.Path.{sym, _∙_}
+use Rattle.triangles.specs.Vectors.{cross}
 use Rattle.triangles.proofs.Sizes.{unit-size, side-size}
 use Rattle.triangles.proofs.Listed.{crossed-at}
 use borrow.Author.Needs.{needs}
@@ -17,7 +19,7 @@ cross-requires c κs = (rw (c .before .unit .ensures) (unit-size _), rw (c .side
 returns : tie.Need-returns
 returns c =
     let s = c .before .before .before in
-    rw (crossed-at (s .args .self) (s .args .k) (s .pre .1)) (cc)
+    c .cross .ensures ∙ (λ i. cross (c .before .before .unit .ensures i) (c .before .side .ensures i)) ∙ sym (crossed-at (s .args .self) (s .args .k) (s .pre .1))
 
 pub crossed-spec : {M : Type 1} → statement M
 crossed-spec = tie.close (tie.spec unit-requires side-requires cross-requires returns)

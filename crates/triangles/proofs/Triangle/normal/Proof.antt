@@ -1,4 +1,6 @@
 -- `Triangle::normal` meets its contract. Assumes nothing.
+use mathlib.Core.Path.{_∙_}
+use Rattle.triangles.specs.Vectors.{cross}
 use Rattle.triangles.specs.Axes.{normal}
 use Rattle.triangles.proofs.Sizes.{minus-size}
 use borrow.Author.Needs.{needs}
@@ -18,7 +20,7 @@ cross-requires c κs =
 
 returns : tie.Need-returns
 unfolding normal
-returns c = cc
+returns c = c .cross .ensures ∙ (λ i. cross (c .before .before .minus .ensures i) (c .before .minus2 .ensures i))
 
 pub normal-spec : {M : Type 1} → statement M
 normal-spec = tie.close (tie.spec minus-requires minus-requires-2 cross-requires returns)

@@ -1,6 +1,7 @@
 -- `Triangle::span` meets its contract. Assumes nothing.
 use Rattle.triangles.specs.Meets.{triangleSpan}
-use Rattle.triangles.proofs.Plain.{plain}
+use mathlib.Core.Path.{_∙_}
+use Rattle.triangles.proofs.Plain.{plain, three-span}
 use borrow.Author.Needs.{needs}
 use Rattle.triangles.proofs.Triangle.span.Statement.{statement}
 use Rattle.triangles.proofs.Triangle.span.Tie as tie
@@ -26,10 +27,10 @@ with-requires-2 c κs = search needs
 returns : tie.Need-returns
 unfolding triangleSpan
 returns c =
-    let x : plain (c .before .before .before .before .before .dot .result) = search needs in
-    let y : plain (c .before .before .before .before .dot2 .result) = search needs in
-    let z : plain (c .before .before .before .dot3 .result) = search needs in
-    cc
+    let x = plain (c .before .before .before .before .before .dot .result) (c .before .before .before .before .before .dot .ok) in
+    let y = plain (c .before .before .before .before .dot2 .result) (c .before .before .before .before .dot2 .ok) in
+    let z = plain (c .before .before .before .dot3 .result) (c .before .before .before .dot3 .ok) in
+    three-span (c .before .before .at .ensures) (c .before .with .ensures) (c .with2 .ensures) (x ∙ c .before .before .before .before .before .dot .ensures) (y ∙ c .before .before .before .before .dot2 .ensures) (z ∙ c .before .before .before .dot3 .ensures)
 
 pub span-spec : {M : Type 1} → statement M
 span-spec =
