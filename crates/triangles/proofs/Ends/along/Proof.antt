@@ -1,7 +1,7 @@
 -- `Ends::along` meets its contract. Assumes nothing.
 use Rattle.triangles.proofs.Units.{edge-along}
 use mathlib.Core.Path.{_∙_}
-use Rattle.triangles.proofs.Plain.{plain, two-span}
+use Rattle.triangles.proofs.Held.{plain, two-span}
 use borrow.Author.Needs.{needs}
 use Rattle.triangles.proofs.Ends.along.Statement.{statement}
 use Rattle.triangles.proofs.Ends.along.Tie as tie

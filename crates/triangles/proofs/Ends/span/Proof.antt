@@ -1,7 +1,7 @@
 -- `Ends::span` meets its contract. Assumes nothing.
 use Rattle.triangles.specs.Meets.{edgeSpan}
 use mathlib.Core.Path.{_∙_}
-use Rattle.triangles.proofs.Plain.{plain, two-span}
+use Rattle.triangles.proofs.Held.{plain, two-span}
 use borrow.Author.Needs.{needs}
 use Rattle.triangles.proofs.Ends.span.Statement.{statement}
 use Rattle.triangles.proofs.Ends.span.Tie as tie

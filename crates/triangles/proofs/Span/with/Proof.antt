@@ -1,4 +1,4 @@
-use Rattle.triangles.proofs.Plain.{plain}
+use Rattle.triangles.proofs.Held.{plain}
 use borrow.Author.Needs.{needs}
 use Rattle.triangles.proofs.Span.with.Statement.{statement}
 use Rattle.triangles.proofs.Span.with.Tie as tie

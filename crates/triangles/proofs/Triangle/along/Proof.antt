@@ -1,7 +1,7 @@
 -- `Triangle::along` meets its contract. Assumes nothing.
 use Rattle.triangles.proofs.Units.{triangle-along}
 use mathlib.Core.Path.{_∙_}
-use Rattle.triangles.proofs.Plain.{plain, three-span}
+use Rattle.triangles.proofs.Held.{plain, three-span}
 use borrow.Author.Needs.{needs}
 use Rattle.triangles.proofs.Triangle.along.Statement.{statement}
 use Rattle.triangles.proofs.Triangle.along.Tie as tie

@@ -1,7 +1,7 @@
 -- `Triangle::span` meets its contract. Assumes nothing.
 use Rattle.triangles.specs.Meets.{triangleSpan}
 use mathlib.Core.Path.{_∙_}
-use Rattle.triangles.proofs.Plain.{plain, three-span}
+use Rattle.triangles.proofs.Held.{plain, three-span}
 use borrow.Author.Needs.{needs}
 use Rattle.triangles.proofs.Triangle.span.Statement.{statement}
 use Rattle.triangles.proofs.Triangle.span.Tie as tie

@@ -1,84 +1,69 @@
--- `Vector::cross` meets its contract: each product and each difference is small enough. Assumes nothing.
-use borrow.Author.Needs.{needs}
-use lib.IntN.{ℤ, _*ℤ_}
+-- `Vector::cross` meets its contract: each component is a difference of two products that fit. Assumes nothing.
+use mathlib.Core.Path.{_≡_}
+use lib.IntN.{ℤ, _-ℤ_, _*ℤ_}
 use mir.Syntax.{w64}
 use mir.Val.{SFits}
-use Rattle.triangles.specs.Vectors.{cross, Each}
-use Rattle.triangles.proofs.Bounds.{mul-size, sub-size, size-fits}
+use Rattle.triangles.specs.Vectors.{Size, latticeMost, cross}
+use Rattle.triangles.proofs.Held.{held, fits, stored, local, near-product, near-difference}
 use Rattle.triangles.proofs.Vector.cross.Statement.{statement}
 use Rattle.triangles.proofs.Vector.cross.Tie as tie
 
--- every number on the way fits
-record Fit (c : tie.Start) : Type 0 where
-  yz : SFits w64 (c .args .self .y *ℤ c .args .o .z)
-  zy : SFits w64 (c .args .self .z *ℤ c .args .o .y)
-  zx : SFits w64 (c .args .self .z *ℤ c .args .o .x)
-  xz : SFits w64 (c .args .self .x *ℤ c .args .o .z)
-  xy : SFits w64 (c .args .self .x *ℤ c .args .o .y)
-  yx : SFits w64 (c .args .self .y *ℤ c .args .o .x)
-  all : Each (SFits w64) (cross (c .args .self) (c .args .o))
+-- p * q - r * s on the machine
+record Component (p q r s : ℤ) : Type 0 where
+  first : SFits w64 (held p *ℤ held q)
+  second : SFits w64 (held r *ℤ held s)
+  both : SFits w64 (held (held p *ℤ held q) -ℤ held (held r *ℤ held s))
+  is : held (held (held p *ℤ held q) -ℤ held (held r *ℤ held s)) ≡ p *ℤ q -ℤ r *ℤ s
 
-fit : (c : tie.Start) → Fit c
-unfolding cross
-fit c =
-    let a = c .pre .0 in
-    let b = c .pre .1 in
-    let yz = mul-size (a .on-y) (b .on-z) in
-    let zy = mul-size (a .on-z) (b .on-y) in
-    let zx = mul-size (a .on-z) (b .on-x) in
-    let xz = mul-size (a .on-x) (b .on-z) in
-    let xy = mul-size (a .on-x) (b .on-y) in
-    let yx = mul-size (a .on-y) (b .on-x) in
-    record {
-      yz = size-fits yz tt;
-      zy = size-fits zy tt;
-      zx = size-fits zx tt;
-      xz = size-fits xz tt;
-      xy = size-fits xy tt;
-      yx = size-fits yx tt;
-      all = record { on-x = size-fits (sub-size yz zy) tt; on-y = size-fits (sub-size zx xz) tt; on-z = size-fits (sub-size xy yx) tt };
-    }
+component : {p q r s : ℤ} → Size latticeMost p → Size latticeMost q → Size latticeMost r → Size latticeMost s → Component p q r s
+component p q r s =
+    let f = near-product (local p tt) (local q tt) in
+    let g = near-product (local r tt) (local s tt) in
+    let d = near-difference (stored f tt) (stored g tt) in
+    record { first = fits f tt; second = fits g tt; both = fits d tt; is = stored d tt .is }
+
+module _ (c : tie.Start) where
+  on-x : Component (c .args .self .y) (c .args .o .z) (c .args .self .z) (c .args .o .y)
+  on-x = component (c .pre .0 .on-y) (c .pre .1 .on-z) (c .pre .0 .on-z) (c .pre .1 .on-y)
+
+  on-y : Component (c .args .self .z) (c .args .o .x) (c .args .self .x) (c .args .o .z)
+  on-y = component (c .pre .0 .on-z) (c .pre .1 .on-x) (c .pre .0 .on-x) (c .pre .1 .on-z)
+
+  on-z : Component (c .args .self .x) (c .args .o .y) (c .args .self .y) (c .args .o .x)
+  on-z = component (c .pre .0 .on-x) (c .pre .1 .on-y) (c .pre .0 .on-y) (c .pre .1 .on-x)
 
 mul-t3 : tie.Need-mul-t3
-unfolding cross
-mul-t3 c = let h = fit (c .before .before .before .before) in search needs
+mul-t3 c = on-x (c .before .before .before .before) .first
 
 mul-t4 : tie.Need-mul-t4
-unfolding cross
-mul-t4 c = let h = fit (c .before .before .before .before .before .before .before .before) in search needs
+mul-t4 c = on-x (c .before .before .before .before .before .before .before .before) .second
 
 sub-t5 : tie.Need-sub-t5
-unfolding cross
-sub-t5 c = let h = fit (c .before .before .before .before .before .before .before .before) in search needs
+sub-t5 c = on-x (c .before .before .before .before .before .before .before .before) .both
 
 mul-t6 : tie.Need-mul-t6
-unfolding cross
-mul-t6 c = let h = fit (c .before .before .before .before .before .before .before .before .before .before .before .before) in search needs
+mul-t6 c = on-y (c .before .before .before .before .before .before .before .before .before .before .before .before) .first
 
 mul-t7 : tie.Need-mul-t7
-unfolding cross
-mul-t7 c = let h = fit (c .before .before .before .before .before .before .before .before .before .before .before .before .before .before .before .before) in search needs
+mul-t7 c = on-y (c .before .before .before .before .before .before .before .before .before .before .before .before .before .before .before .before) .second
 
 sub-t8 : tie.Need-sub-t8
-unfolding cross
-sub-t8 c = let h = fit (c .before .before .before .before .before .before .before .before .before .before .before .before .before .before .before .before) in search needs
+sub-t8 c = on-y (c .before .before .before .before .before .before .before .before .before .before .before .before .before .before .before .before) .both
 
 mul-t9 : tie.Need-mul-t9
-unfolding cross
-mul-t9 c = let h = fit (c .before .before .before .before .before .before .before .before .before .before .before .before .before .before .before .before .before .before .before .before) in search needs
+mul-t9 c = on-z (c .before .before .before .before .before .before .before .before .before .before .before .before .before .before .before .before .before .before .before .before) .first
 
 mul-t10 : tie.Need-mul-t10
-unfolding cross
-mul-t10 c = let h = fit (c .before .before .before .before .before .before .before .before .before .before .before .before .before .before .before .before .before .before .before .before .before .before .before .before) in search needs
+mul-t10 c = on-z (c .before .before .before .before .before .before .before .before .before .before .before .before .before .before .before .before .before .before .before .before .before .before .before .before) .second
 
 sub-t11 : tie.Need-sub-t11
-unfolding cross
-sub-t11 c = let h = fit (c .before .before .before .before .before .before .before .before .before .before .before .before .before .before .before .before .before .before .before .before .before .before .before .before) in search needs
+sub-t11 c = on-z (c .before .before .before .before .before .before .before .before .before .before .before .before .before .before .before .before .before .before .before .before .before .before .before .before) .both
 
 returns : tie.Need-returns
 unfolding cross
-returns c = let h = fit (c .before .before .before .before .before .before .before .before .before .before .before .before .before .before .before .before .before .before .before .before .before .before .before .before) in search needs
+returns c =
+    let s = c .before .before .before .before .before .before .before .before .before .before .before .before .before .before .before .before .before .before .before .before .before .before .before .before in
+    λ i. record { x = on-x s .is i; y = on-y s .is i; z = on-z s .is i }
 
 pub cross-spec : {M : Type 1} → statement M
-cross-spec =
-    tie.close (tie.spec mul-t3 mul-t4 sub-t5 mul-t6 mul-t7 sub-t8 mul-t9 mul-t10 sub-t11 returns)
+cross-spec = tie.close (tie.spec mul-t3 mul-t4 sub-t5 mul-t6 mul-t7 sub-t8 mul-t9 mul-t10 sub-t11 returns)
