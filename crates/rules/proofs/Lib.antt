@@ -4,6 +4,7 @@ pub mod Lists
 pub mod Oddness
 pub mod Paths
 pub mod Boxes
+pub mod Cells
 pub mod Cuts
 pub mod Halves
 pub mod Halving
@@ -21,5 +22,6 @@ pub mod FaceMarks
 pub mod PatchOf
 pub mod Store
 pub mod OddList
+pub mod Consistent
 pub mod Condition
 pub mod Examples

@@ -130,6 +130,11 @@ three-of X E p = refl
 three-of Y E p = refl
 three-of Z E p = refl
 
+-- only inner edges are marked
+pub marks-inner : (n : ℕ) (g : List ℕ) (a : Axis) (p : Point) → marks n g a p ≡ true → inner n a p ≡ true
+unfolding marks
+marks-inner n g a p e = and-left (inner n a p) (has a (getD g (pointNumber n p) 0)) e
+
 -- what is written is read back
 pub marks-bytes : (n : ℕ) (E : Set) → ((a : Axis) (p : Point) → E a p ≡ true → edgeIn (whole n) a p ≡ true) → (a : Axis) (p : Point) → marks n (bytes n E) a p ≡ E a p
 unfolding marks

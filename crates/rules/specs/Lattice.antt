@@ -111,6 +111,10 @@ Edge = Place
 abbrev pub Face : Type 0
 Face = Place
 
+-- a face of the grid: its corners are points of the grid
+abbrev pub FaceOfGrid : ℕ → Axis → Point → Type 0
+FaceOfGrid n a p = OfGrid n (up (earlier a) (up (later a) p))
+
 abbrev pub samePlace : Place → Place → Bool
 samePlace e f = sameAxis (e .axis) (f .axis) && samePoint (e .at) (f .at)
 
@@ -149,6 +153,10 @@ abbrev pub inBox : Box → Bool → Bool → Bool → Point → Bool
 inBox b s t r p =
     between (raise s (b .lo .i)) (b .hi .i) (p .i)
     && (between (raise t (b .lo .j)) (b .hi .j) (p .j) && between (raise r (b .lo .k)) (b .hi .k) (p .k))
+
+-- the cell lies in the box
+abbrev pub cellIn : Box → Point → Bool
+cellIn b c = inBox b false false false c
 
 -- the face's two cells lie in the box
 abbrev pub faceIn : Box → Set
