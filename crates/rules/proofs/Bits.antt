@@ -1,5 +1,6 @@
 -- Laws of odd and even, of tests, and of numbers between bounds. Assumes nothing.
-use mathlib.Core.Bool.{Bool, false, false≢true, true, _&&_}
+use mathlib.Core.Bool.{Bool, false, false≢true, true, true≢false, _&&_}
+use mathlib.Core.Logic.{_↔_, _≢_}
 use mathlib.Core.Path.{refl, subst, sym, _≡_}
 use Prim.Native.Nat.{suc, ℕ, _<_, _≤_}
 use native.Mathlib.Omega.{arith}
@@ -145,6 +146,13 @@ three← l h i l₂ h₂ i₂ l₃ h₃ i₃ c =
 
 pub eqb→ : (m n : ℕ) → eqb m n ≡ true → m ≡ n
 eqb→ m n e = eqb→eq m n (eq→T (eqb m n) e)
+
+-- one of the two and not both: they differ
+pub differ : (a b : Bool) → (a ⊕ b ≡ true) ↔ (a ≢ b)
+differ true true = (λ e. absurd (false≢true e), λ d. absurd (d refl))
+differ true false = (λ e. true≢false, λ d. refl)
+differ false true = (λ e. false≢true, λ d. refl)
+differ false false = (λ e. absurd (false≢true e), λ d. absurd (d refl))
 
 pub zeros : (a b c d : Bool) → a ≡ false → b ≡ false → c ≡ false → d ≡ false → (a ⊕ b) ⊕ (c ⊕ d) ≡ false
 zeros a b c d p q r s = rw (p, q, r, s)

@@ -67,13 +67,13 @@ edge-cells b a p =
     let d = edge-coord a p in
     let d₂ = edge-coord a (down (later a) p) in (
       λ e. let k = edge→ b a p e in
-      record {
-        apart = omega arith;
-        first = cell← b a (down (earlier a) (down (later a) p)) (omega arith);
-        second = cell← b a (down (later a) p) (omega arith);
-        third = cell← b a (down (earlier a) p) (omega arith);
-        fourth = cell← b a p (omega arith);
-      },
+          record {
+            apart = omega arith;
+            first = cell← b a (down (earlier a) (down (later a) p)) (omega arith);
+            second = cell← b a (down (later a) p) (omega arith);
+            third = cell← b a (down (earlier a) p) (omega arith);
+            fourth = cell← b a p (omega arith);
+          },
       λ c. let l = cell→ b a (down (earlier a) (down (later a) p)) (c .first) in let h = cell→ b a p (c .fourth) in let z = c .apart in edge← b a p (omega arith),
     )
 

@@ -10,7 +10,7 @@ use Rattle.rules.specs.Lattice.{sameAxis, up, down, samePoint, samePlace
 use Rattle.rules.specs.Cell.{ofCell}
 use Rattle.rules.specs.Rims.{neighbours, elem, Chain, joins, rimsOf, stay, link}
 use Rattle.rules.proofs.Bits.{eqb-yes, both}
-use Rattle.rules.proofs.Lists.{all-weaken, all-keep, all-kept, all-pair}
+use Rattle.rules.proofs.Lists.{all-every, all-weaken, all-keep, all-kept, all-pair}
 use Rattle.rules.proofs.Cuts.{samePlace→}
 use Rattle.rules.proofs.Rims.{or-true, touch, neighbours-cell, any-append, apart}
 use Rattle.rules.proofs.Patched.{rims-all}
@@ -98,13 +98,16 @@ neighbours-sym f g e = let c = neighbours-cells f g e in neighbours-cell (c .0) 
 
 -- ---- membership
 module _ {A : Type 0} where
-  pub any-mono : (g h : A → Bool) → ((x : A) → g x ≡ true → h x ≡ true) → (l : List A) → anyOf g l ≡ true → anyOf h l ≡ true
-  any-mono g h f [] e = e
-  any-mono g h f (x ∷ l) e = go (or-cases (g x) (anyOf g l) e) (any-mono g h f l)
+  pub any-where : (g h : A → Bool) (l : List A) → All (λ x. g x ≡ true → h x ≡ true) l → anyOf g l ≡ true → anyOf h l ≡ true
+  any-where g h [] f e = e
+  any-where g h (x ∷ l) f e = go (or-cases (g x) (anyOf g l) e) (any-where g h l (f .1))
     where
       go : (g x ≡ true) ⊎ (anyOf g l ≡ true) → (anyOf g l ≡ true → anyOf h l ≡ true) → h x || anyOf h l ≡ true
-      go (inl q) k = or-left-true (h x) (anyOf h l) (f x q)
+      go (inl q) k = or-left-true (h x) (anyOf h l) (f .0 q)
       go (inr q) k = or-true (h x) (anyOf h l) (k q)
+
+  pub any-mono : (g h : A → Bool) → ((x : A) → g x ≡ true → h x ≡ true) → (l : List A) → anyOf g l ≡ true → anyOf h l ≡ true
+  any-mono g h f l = any-where g h l (all-every f l)
 
   count-mono : (g h : A → Bool) → ((x : A) → g x ≡ true → h x ≡ true) → (l : List A) → count g l ≤ count h l
   count-mono g h f [] = omega arith
@@ -210,11 +213,7 @@ rim-closed l g h e k =
 -- ---- chains of faces of a list
 -- (C1) a chain that begins in a rim ends in it
 pub chain-in : (l : List Place) (f g : Place) → Chain l f g → All (λ r. elem f r ≡ true → elem g r ≡ true) (rimsOf l)
-chain-in l f g stay = any-all (rimsOf l)
-  where
-    any-all : (rs : List (List Place)) → All (λ r. elem f r ≡ true → elem f r ≡ true) rs
-    any-all [] = tt
-    any-all (r ∷ rs) = (λ e. e, any-all rs)
+chain-in l f g stay = all-every (λ r e. e) (rimsOf l)
 chain-in l f g (link {g = h} e k w) = all-pair _ _ _ (λ r p q x. q (p x)) (rimsOf l) (rim-closed l f h e k) (chain-in l h g w)
 
 pub members : (r : List Place) → All (λ g. elem g r ≡ true) r

@@ -62,7 +62,7 @@ module _ (n : ℕ) (E : Set) (inside : (a : Axis) (p : Point) → E a p ≡ true
   pub signs-exist-inner : ((s : Point → Bool) × Consistent n E s) ↔ (evenFaces n E ≡ true)
   signs-exist-inner = (
     λ c. even-all n E inside .1 (λ a p. is-false (oddFace E a p) (λ e.
-    true≢false (sym e ∙ consistent-even n E (c .0) (c .1) a p (face-corner n a p (odd-in n E inside a p e))))),
+        true≢false (sym e ∙ consistent-even n E (c .0) (c .1) a p (face-corner n a p (odd-in n E inside a p e))))),
     λ e. (sign E, sign-consistent n E (λ a p h. even-all n E inside .0 e a p)),
   )
 

@@ -22,6 +22,8 @@ pub mod FaceMarks
 pub mod PatchOf
 pub mod Store
 pub mod OddList
+pub mod GridRims
 pub mod Consistent
 pub mod Condition
+pub mod Again
 pub mod Examples

@@ -6,13 +6,17 @@ use mathlib.Core.Path.{ap, ap₂, refl, _∙_, _≡_}
 use Prim.Native.Nat.{suc, zero, ℕ, _+_, _<_}
 use native.Mathlib.Omega.{arith}
 use Rattle.rules.specs.Lists.{keep, count, anyOf, allOf, All, each, upto}
-use Rattle.rules.proofs.Bits.{Bounds}
+use Rattle.rules.proofs.Bits.{Bounds, and-left, and-right, both}
 
 -- ---- what holds of each member of a list
 module _ {A : Type 0} where
   pub all-append : (P : A → Type 0) (l m : List A) → All P l → All P m → All P (l ++ m)
   all-append P [] m h k = k
   all-append P (x ∷ l) m h k = (h .0, all-append P l m (h .1) k)
+
+  pub all-every : {P : A → Type 0} → ((x : A) → P x) → (l : List A) → All P l
+  all-every f [] = tt
+  all-every f (x ∷ l) = (f x, all-every f l)
 
   pub all-weaken : (P Q : A → Type 0) → ((x : A) → P x → Q x) → (l : List A) → All P l → All Q l
   all-weaken P Q f [] h = tt
@@ -58,6 +62,19 @@ module _ {A : Type 0} where
           cons-nil : x ∷ keep w l ≡ [] → ⊥
           cons-nil e = let z : _≡_ {A = ℕ} 0 1 = cc in omega arith
       go false i = i
+
+  -- every member passes: the test, and the fact
+  pub allOf→ : (w : A → Bool) (l : List A) → allOf w l ≡ true → All (λ x. w x ≡ true) l
+  allOf→ w [] e = tt
+  allOf→ w (x ∷ l) e = (and-left (w x) (allOf w l) e, allOf→ w l (and-right (w x) (allOf w l) e))
+
+  pub allOf← : (w : A → Bool) (l : List A) → All (λ x. w x ≡ true) l → allOf w l ≡ true
+  allOf← w [] h = refl
+  allOf← w (x ∷ l) h = both (w x) (allOf w l) (h .0) (allOf← w l (h .1))
+
+  pub count-none : (w : A → Bool) → ((x : A) → w x ≡ false) → (l : List A) → count w l ≡ 0
+  count-none w h [] = refl
+  count-none w h (x ∷ l) = rw (h x) (count-none w h l)
 
   pub keep-none : (w : A → Bool) → ((x : A) → w x ≡ false) → (l : List A) → keep w l ≡ []
   keep-none w h [] = refl

@@ -13,7 +13,7 @@ use Rattle.rules.specs.Rims.{oddFaces, joins, rimsOf, rims, ownBox, join
 use Rattle.rules.specs.Patch.{size, patchRim, flips, patched}
 use Rattle.rules.proofs.Bits.{⊕-false, ⊕-self, &&-false, &&-left, ands, leb-yes, and-left}
 use Rattle.rules.proofs.Sums.{parity-keep, parity-map, parity-each, parityTo-cong, parity-upto, parityTo-one}
-use Rattle.rules.proofs.Lists.{all-weaken, all-keep, all-kept, all-pair, all-swap, keep-none, all-each}
+use Rattle.rules.proofs.Lists.{all-every, all-weaken, all-keep, all-kept, all-pair, all-swap, keep-none, all-each}
 use Rattle.rules.proofs.Oddness.{oddFace-symdiff, oddFace-append, cell-even}
 use Rattle.rules.proofs.Boxes.{within, inBox→, inBox←, faceIn→, faceIn←, face→, face←}
 use Rattle.rules.proofs.Cuts.{EdgeIn, setOf-all, setOf-in, oddFace-set}
@@ -151,10 +151,6 @@ any-of-parity f g (r ∷ rs) h e = go (f r) refl e (any-of-parity f g rs (h .1))
     go true q i k = ap (λ (x : Bool). x || anyOf g rs) (h .0 q)
     go false q i k = rw (k i) (or-yes (g r))
 
-all-any : (A : Type 0) (P : A → Type 0) → ((x : A) → P x) → (l : List A) → All P l
-all-any A P f [] = tt
-all-any A P f (x ∷ l) = (f x, all-any A P f l)
-
 -- a box that reaches no further than n
 abbrev Under : ℕ → Box → Type 0
 Under n b = (b .hi .i ≤ n) × (b .hi .j ≤ n) × (b .hi .k ≤ n)
@@ -197,40 +193,46 @@ module _ (n : ℕ) (E : Set) (inner : (a : Axis) (p : Point) → E a p ≡ true 
   odd-inner =
       all-weaken _ _ (λ f e. let k = face→ (whole n) (f .axis) (f .at) (odd-in (f .axis) (f .at) e) in omega arith) (oddFaces n E) (all-kept (isIn (oddFace E)) (places n))
 
-  -- (3a) after patching every face is even
+  -- the odd faces of a rim's patch are exactly the rim
+  pub rims-ends : All (λ r. (a : Axis) (p : Point) → oddFace (setOf (patchRim r)) a p ≡ setOf r a p) (rims n E)
+  unfolding rims
+  rims-ends =
+      all-pair _ _ _ (λ r h e a p. rim-ends r h e a p) (rims n E)
+      (rims-all Inner (oddFaces n E) odd-inner)
+      (all-swap (λ q r. oddCell (setOf r) q ≡ false) (rims n E)
+      (rims-even (oddFaces n E) (λ q. ap (λ (F : Set). oddCell F q) (fun-ext (λ d. fun-ext (λ s. odd-listed d s))) ∙ cell-even E q)))
+
+  -- after patching every face is even
   pub patched-even : (a : Axis) (p : Point) → oddFace (patched n E) a p ≡ false
   unfolding patched flips rims
   patched-even a p =
       oddFace-symdiff E (setOf (flips n E)) a p
       ∙ ap (λ (x : Bool). oddFace E a p ⊕ x)
       (oddFace-each patchRim (rims n E) a p
-      ∙ parity-same (λ r. oddFace (setOf (patchRim r)) a p) (λ r. setOf r a p) (rims n E) rim-each
+      ∙ parity-same (λ r. oddFace (setOf (patchRim r)) a p) (λ r. setOf r a p) (rims n E) (all-weaken _ _ (λ r h. h a p) (rims n E) rims-ends)
       ∙ parity-rims (λ e. samePlace e (record { axis = a; at = p })) (oddFaces n E)
       ∙ odd-listed a p)
       ∙ ⊕-self (oddFace E a p)
-    where
-      rim-each : All (λ r. oddFace (setOf (patchRim r)) a p ≡ setOf r a p) (rims n E)
-      rim-each =
-          all-pair _ _ _ (λ r h e. rim-ends r h e a p) (rims n E)
-          (rims-all Inner (oddFaces n E) odd-inner)
-          (all-swap (λ q r. oddCell (setOf r) q ≡ false) (rims n E)
-          (rims-even (oddFaces n E) (λ q. ap (λ (F : Set). oddCell F q) (fun-ext (λ d. fun-ext (λ s. odd-listed d s))) ∙ cell-even E q)))
 
-  -- patching again alters nothing
+  -- where every face is even there is no rim, nothing is flipped, and the marks stay
+  pub even-rims : (F : Set) → ((a : Axis) (p : Point) → oddFace F a p ≡ false) → rims n F ≡ []
+  unfolding rims oddFaces
+  even-rims F h = ap rimsOf (keep-none (isIn (oddFace F)) (λ e. h (e .axis) (e .at)) (places n))
+
   pub even-flips : (F : Set) → ((a : Axis) (p : Point) → oddFace F a p ≡ false) → flips n F ≡ []
-  unfolding flips rims oddFaces
-  even-flips F h = ap (λ (l : List Place). each patchRim (rimsOf l)) (keep-none (isIn (oddFace F)) (λ e. h (e .axis) (e .at)) (places n))
+  unfolding flips
+  even-flips F h = ap (each patchRim) (even-rims F h)
 
-  pub patched-again : (a : Axis) (p : Point) → patched n (patched n E) a p ≡ patched n E a p
+  pub even-still : (F : Set) → ((a : Axis) (p : Point) → oddFace F a p ≡ false) → patched n F ≡ F
   unfolding patched
-  patched-again a p = ap (λ (l : List Place). patched n E a p ⊕ setOf l a p) (even-flips (patched n E) patched-even) ∙ ⊕-false (patched n E a p)
+  even-still F h = fun-ext (λ a. fun-ext (λ p. ap (λ (l : List Place). F a p ⊕ setOf l a p) (even-flips F h) ∙ ⊕-false (F a p)))
 
-  -- (3c) an edge whose mark is altered has its four cells in the box of one rim
+  -- an edge whose mark is altered has its four cells in the box of one rim
   pub altered-in : (a : Axis) (p : Point) → setOf (flips n E) a p ≡ true → anyOf (λ r. edgeIn (boxOf r) a p) (rims n E) ≡ true
   unfolding flips patchRim
   altered-in a p e =
       any-of-parity (λ r. setOf (patchRim r) a p) (λ r. edgeIn (boxOf r) a p) (rims n E)
-      (all-any (List Place) _ (λ r h. setOf-in (boxOf r) (patchRim r) (patch-in (size (boxOf r)) (boxOf r) (setOf r)) a p h) (rims n E))
+      (all-every (λ r h. setOf-in (boxOf r) (patchRim r) (patch-in (size (boxOf r)) (boxOf r) (setOf r)) a p h) (rims n E))
       (sym (parity-each (λ f. samePlace f (record { axis = a; at = p })) patchRim (rims n E)) ∙ e)
 
   odd-low : All (Low n) (oddFaces n E)

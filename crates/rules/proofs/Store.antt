@@ -11,6 +11,7 @@ use Rattle.rules.specs.Lists.{_⊕_, allOf, All, upto}
 use Rattle.rules.specs.Lattice.{OfGrid, sameAxis, samePoint, pointNumber, pointCount, points, Set, Axis, X, Y, Z, Point}
 use Rattle.rules.specs.Grid.{weight, has}
 use Rattle.rules.proofs.Bits.{⊕-false, &&-false, &&-true, and-left, and-right}
+use Rattle.rules.proofs.Lists.{allOf→}
 use Rattle.rules.proofs.Cuts.{samePoint→}
 use Rattle.rules.proofs.Chains.{same-point}
 use Rattle.rules.proofs.Numbers.{points-at, number-below}
@@ -49,11 +50,6 @@ turned a c b = Bool·beq (has c (toggle a b)) (has c b ⊕ sameAxis a c)
 
 tested : allOf (λ b. allOf (λ a. allOf (λ c. turned a c b) axes) axes) (upto 0 256) ≡ true
 tested = refl
-
-module _ {A : Type 0} where
-  allOf→ : (w : A → Bool) (l : List A) → allOf w l ≡ true → All (λ x. w x ≡ true) l
-  allOf→ w [] e = tt
-  allOf→ w (x ∷ l) e = (and-left (w x) (allOf w l) e, allOf→ w l (and-right (w x) (allOf w l) e))
 
 at-upto : (P : ℕ → Type 0) (i k j : ℕ) → All P (upto i k) → i ≤ j → j < i + k → P j
 at-upto P i zero j h l u = absurd (omega arith)

@@ -1,13 +1,13 @@
 -- Parity over lists and over ranges of numbers. Assumes nothing.
-use mathlib.Core.Bool.{Bool, cond, false, true, _&&_}
+use mathlib.Core.Bool.{Bool, cond, false, not, true, _&&_}
 use mathlib.Core.List.{List, [], map, _++_, _∷_}
 use mathlib.Core.Path.{ap, ap₂, fun-ext, refl, sym, _∙_, _≡_}
-use Prim.Native.Nat.{suc, zero, ℕ, _+_, _-_, _<_, _≤_}
+use Prim.Native.Nat.{suc, zero, ℕ, _+_, _-_, _%_, _<_, _≤_}
 use native.Mathlib.Decide.{decLe, ℕ-discrete}
 use native.Mathlib.Nat.{add-suc, add-zero, suc-add}
 use native.Mathlib.Omega.{arith}
 use lib.Dec.{eqb, leb, ltb}
-use Rattle.rules.specs.Lists.{_⊕_, parity, keep, each, upto, parityTo}
+use Rattle.rules.specs.Lists.{_⊕_, parity, count, keep, each, upto, parityTo}
 use Rattle.rules.proofs.Bits.{⊕-false, ⊕-self, ⊕-assoc, xors, leb-yes, leb-no, eqb-yes, eqb-no}
 
 -- ---- sums over lists
@@ -31,6 +31,19 @@ module _ {A : Type 0} where
   pub parity-zero : (f : A → Bool) → ((x : A) → f x ≡ false) → (l : List A) → parity f l ≡ false
   parity-zero f h [] = refl
   parity-zero f h (x ∷ l) = rw (h x, parity-zero f h l)
+
+  -- odd is odd: the parity is that of the count
+  pub parity-count : (f : A → Bool) (l : List A) → parity f l ≡ eqb (count f l % 2) 1
+  parity-count f [] = refl
+  parity-count f (x ∷ l) = ap (λ (b : Bool). f x ⊕ b) (parity-count f l) ∙ go (f x) (count f l)
+    where
+      go : (c : Bool) (k : ℕ) → c ⊕ eqb (k % 2) 1 ≡ eqb (cond c (suc k) k % 2) 1
+      go false k = refl
+      go true k = turn (ℕ-discrete (k % 2) 1)
+        where
+          turn : Dec (k % 2 ≡ 1) → not (eqb (k % 2) 1) ≡ eqb (suc k % 2) 1
+          turn (yes e) = rw (eqb-yes (k % 2) 1 e, eqb-no (suc k % 2) 1 (λ h. omega arith))
+          turn (no n) = rw (eqb-no (k % 2) 1 n, eqb-yes (suc k % 2) 1 (omega arith))
 
 module _ {A B : Type 0} where
   pub parity-map : (f : B → Bool) (g : A → B) (l : List A) → parity f (map g l) ≡ parity (λ x. f (g x)) l

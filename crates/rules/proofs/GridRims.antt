@@ -1,0 +1,79 @@
+-- The rims of a grid: which faces they have, that chains make them, and that a rim's box is the smallest. Assumes nothing.
+use mathlib.Core.Bool.{false, not, true, _&&_}
+use mathlib.Core.List.{List, [], _∷_}
+use mathlib.Core.Logic.{_↔_}
+use mathlib.Core.Path.{_∙_, _≡_}
+use Prim.Native.Nat.{ℕ}
+use Rattle.rules.specs.Lists.{count, anyOf, All}
+use Rattle.rules.specs.Lattice.{Set, isIn, inner, samePlace, whole, places, down, Axis, Point, Box, Face}
+use Rattle.rules.specs.Cell.{oddFace}
+use Rattle.rules.specs.Rims.{oddFaces, elem, Chain, joins, rimsOf, rims, ownBox, boxOf}
+use Rattle.rules.proofs.Bits.{and-left, and-right, both}
+use Rattle.rules.proofs.Lists.{all-weaken, all-pair, all-keep, all-kept}
+use Rattle.rules.proofs.Boxes.{inBox→}
+use Rattle.rules.proofs.Cells.{BothCells, face-cells}
+use Rattle.rules.proofs.Patched.{Inner, FaceOf, rims-all, box-all, odd-in, odd-inner}
+use Rattle.rules.proofs.Chains.{find, any-where, any-rims, one-rim, chain-in, rim-chain}
+use Rattle.rules.proofs.RimBox.{Sub, box-least}
+use Rattle.rules.proofs.OddList.{elem-odd}
+
+-- ---- a rim's box
+-- the box holds both cells of each face of the rim, and lies in any box that does
+pub record Smallest (r : List Face) (b : Box) : Type 0 where
+  pub holds : All (λ f. BothCells b (f .axis) (f .at)) r
+  pub least : (c : Box) → All (λ f. BothCells c (f .axis) (f .at)) r → Sub b c
+
+own-least : (c : Box) (f : Face) → BothCells c (f .axis) (f .at) → Sub (ownBox f) c
+own-least c f k =
+    let l = inBox→ c false false false (down (f .axis) (f .at)) (k .below) in
+    let h = inBox→ c false false false (f .at) (k .above) in
+    record { lx = l .0 .low; ly = l .1 .low; lz = l .2 .low; hx = h .0 .high; hy = h .1 .high; hz = h .2 .high }
+
+-- a list that has a member
+abbrev Some : List Face → Type 0
+Some [] = ⊥
+Some (f ∷ l) = Unit {0}
+
+rims-some : (l : List Face) → All Some (rimsOf l)
+rims-some [] = tt
+rims-some (f ∷ l) = (tt, all-keep Some (λ r. not (joins f r)) (rimsOf l) (rims-some l))
+
+smallest : (r : List Face) → Some r → All Inner r → Smallest r (boxOf r)
+smallest [] s h = absurd s
+smallest (f ∷ l) s h = record {
+  holds = all-weaken (FaceOf (boxOf (f ∷ l))) _ (λ g e. face-cells (boxOf (f ∷ l)) (g .axis) (g .at) .0 e) (f ∷ l) (box-all (f ∷ l) h);
+  least = λ c k. box-least f l c (all-weaken _ _ (own-least c) (f ∷ l) k);
+}
+
+-- ---- the rims of marks on inner edges
+module _ (n : ℕ) (E : Set) (inside : (a : Axis) (p : Point) → E a p ≡ true → inner n a p ≡ true) where
+  -- an odd face has two cells, both in the grid
+  pub odd-cells : (a : Axis) (p : Point) → oddFace E a p ≡ true → BothCells (whole n) a p
+  odd-cells a p e = face-cells (whole n) a p .0 (odd-in n E inside a p e)
+
+  -- only odd faces are in rims
+  pub rim-odd : All (All (λ f. isIn (oddFace E) f ≡ true)) (rims n E)
+  unfolding rims oddFaces
+  rim-odd = rims-all (λ f. isIn (oddFace E) f ≡ true) (oddFaces n E) (all-kept (isIn (oddFace E)) (places n))
+
+  -- each odd face is in exactly one rim
+  pub odd-one-rim : (f : Face) → isIn (oddFace E) f ≡ true → count (elem f) (rims n E) ≡ 1
+  unfolding rims
+  odd-one-rim f o = one-rim (oddFaces n E) f (elem-odd n E inside f ∙ o)
+
+  -- two odd faces are in one rim exactly when a chain of odd faces joins them
+  pub same-rim : (f g : Face) → isIn (oddFace E) f ≡ true → isIn (oddFace E) g ≡ true →
+      (anyOf (λ r. elem f r && elem g r) (rims n E) ≡ true) ↔ Chain (oddFaces n E) f g
+  unfolding rims
+  same-rim f g o o₂ = (
+    λ e. let r = find (λ r. elem f r && elem g r) _ (rims n E) (rim-chain (oddFaces n E) f) e in
+        r .2 (and-left (elem f (r .0)) (elem g (r .0)) (r .1)) g (and-right (elem f (r .0)) (elem g (r .0)) (r .1)),
+    λ c. any-where (elem f) (λ r. elem f r && elem g r) (rims n E)
+        (all-weaken _ _ (λ r i e. both (elem f r) (elem g r) e (i e)) (rims n E) (chain-in (oddFaces n E) f g c))
+        (any-rims (samePlace f) (oddFaces n E) ∙ (elem-odd n E inside f ∙ o)),
+  )
+
+  -- a rim's box is the smallest that holds both cells of each of its faces
+  pub rim-box : All (λ r. Smallest r (boxOf r)) (rims n E)
+  unfolding rims
+  rim-box = all-pair _ _ _ smallest (rims n E) (rims-some (oddFaces n E)) (rims-all Inner (oddFaces n E) (odd-inner n E inside))
