@@ -2,9 +2,9 @@
 use mathlib.Core.Bool.{false, not, true}
 use mathlib.Core.Logic.{_↔_}
 use mathlib.Core.Path.{refl, _≡_}
-use Prim.Native.Nat.{pred, suc, ℕ, _<_}
+use Prim.Native.Nat.{pred, ℕ, _<_}
 use native.Mathlib.Omega.{arith}
-use Rattle.rules.specs.Lattice.{earlier, later, coord, up, down, cellIn, faceIn, edgeIn, sameAxis, whole, inner, Axis, X, Y, Z, Point, Box}
+use Rattle.rules.specs.Lattice.{earlier, later, coord, down, cellIn, faceIn, edgeIn, sameAxis, whole, inner, Axis, X, Y, Z, Point, Box}
 use Rattle.rules.proofs.Boxes.{inBox→, inBox←, In, face→, face←, frame→, frame←}
 
 -- the coordinates of the cell below

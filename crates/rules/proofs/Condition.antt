@@ -3,7 +3,6 @@ use mathlib.Core.Path.{_≡_, fun-ext, subst, sym, _∙_}
 use mathlib.Core.Bool.{true}
 use mathlib.Core.List.{List}
 use Prim.Native.Nat.{ℕ}
-use Rattle.rules.specs.Lists.{_⊕_}
 use Rattle.rules.specs.Lattice.{Axis, Point, Set, inner, setOf}
 use Rattle.rules.specs.Grid.{bytes, marks, isGrid}
 use Rattle.rules.specs.Patch.{flips, patched}

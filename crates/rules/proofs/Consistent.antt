@@ -6,7 +6,7 @@ use mathlib.Core.Path.{ap, ap₂, refl, subst, sym, _∙_, _≡_}
 use Prim.Native.Nat.{suc, zero, ℕ, _<_}
 use native.Mathlib.Omega.{arith}
 use Rattle.rules.specs.Lists.{_⊕_}
-use Rattle.rules.specs.Lattice.{OfGrid, FaceOfGrid, earlier, later, coord, pointAt, up, Set, whole, inner, edgeIn, faceIn, Axis, X, Y, Z, Point}
+use Rattle.rules.specs.Lattice.{OfGrid, FaceOfGrid, earlier, later, coord, pointAt, up, Set, whole, inner, faceIn, Axis, X, Y, Z, Point}
 use Rattle.rules.specs.Cell.{oddFace}
 use Rattle.rules.specs.Grid.{marks, isGrid}
 use Rattle.rules.specs.Rims.{evenFaces}

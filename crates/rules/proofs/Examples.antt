@@ -1,7 +1,7 @@
 -- Examples 1 to 7 of the rules, and four more that pin the tie between sides, the rounding of the cut, the pairing and the path's
 -- order: one table and one claim, proved by computing the definitions. Assumes nothing.
 use mathlib.Core.Path.{_≡_, refl}
-use mathlib.Core.Bool.{Bool, true, false, _&&_, Bool·beq}
+use mathlib.Core.Bool.{Bool, true, _&&_, Bool·beq}
 use mathlib.Core.List.{List, [], _∷_}
 use Prim.Native.Nat.{ℕ}
 use lib.Dec.{eqb}

@@ -18,6 +18,7 @@ pub mod Numbers
 pub mod PointOf
 pub mod RimBox
 pub mod Fill
+pub mod Order
 pub mod FaceMarks
 pub mod PatchOf
 pub mod Store

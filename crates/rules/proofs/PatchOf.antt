@@ -9,7 +9,7 @@ use Rattle.rules.specs.Cell.{oddFace}
 use Rattle.rules.specs.Patch.{oneCell, longest, middle, lower, upper, cut, patch, size}
 use Rattle.rules.proofs.Halving.{lower-size, upper-size, one-cell←, side-size, middle-in, patch-one, patch-cut}
 use Rattle.rules.proofs.Recursion.{patch-cong}
-use Rattle.rules.proofs.Fill.{upper-after}
+use Rattle.rules.proofs.Order.{upper-after}
 
 -- ---- the patch of a box with no fuel in sight, as code recurses
 unfoldable pub patchOf : Box → Set → List Place

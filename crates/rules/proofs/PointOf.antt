@@ -1,7 +1,7 @@
 -- Points by number: the point of a number, and what is said of all points as said of all numbers. Assumes nothing.
 use mathlib.Core.List.{List, map, map-map}
-use mathlib.Core.Path.{ap, fun-ext, refl, sym, _∙_, _≡_}
-use Prim.Native.Nat.{suc, zero, ℕ, _*_, _+_, _/_, _%_, _<_, _≤_}
+use mathlib.Core.Path.{ap, sym, _∙_, _≡_}
+use Prim.Native.Nat.{suc, ℕ, _*_, _+_, _/_, _%_, _<_}
 use native.Mathlib.Nat.{add-mul-div-left, add-mul-mod-self-left, div-eq-of-lt, div-lt-iff-lt-mul, mod-add-div, mod-eq-of-lt, mod-lt}
 use native.Mathlib.Omega.{arith}
 use Rattle.rules.specs.Lists.{All, each, upto}

@@ -1,16 +1,14 @@
--- What a scan over all faces has found so far, a rim as a set of faces, and patches in any order. Assumes nothing.
+-- What a scan over all faces has found so far, and a rim as a set of faces. Assumes nothing.
 use mathlib.Core.Bool.{Bool, cond, false, not, true, true≢false, _&&_, _||_}
 use mathlib.Core.List.{List, [], _∷_}
 use mathlib.Core.Path.{ap, refl, sym, _∙_, _≡_}
-use Prim.Native.Nat.{suc, ℕ, _+_}
+use Prim.Native.Nat.{suc, _+_}
 use native.Mathlib.Omega.{arith}
 use lib.ListN.{length}
 use Rattle.rules.specs.Lists.{_⊕_, parity, count, keep, anyOf, All, each}
-use Rattle.rules.specs.Lattice.{samePlace, Set, setOf, symdiff, Axis, Point, Place}
-use Rattle.rules.specs.Rims.{elem, joins, joined, rimsOf, rims}
-use Rattle.rules.specs.Patch.{patchRim, flips, patched}
-use Rattle.rules.proofs.Bits.{⊕-false, ⊕-assoc, ⊕-left, &&-false, is-false, same-test}
-use Rattle.rules.proofs.Sums.{parity-each}
+use Rattle.rules.specs.Lattice.{samePlace, setOf, Place}
+use Rattle.rules.specs.Rims.{elem, joins, joined, rimsOf}
+use Rattle.rules.proofs.Bits.{⊕-false, &&-false, is-false, same-test}
 use Rattle.rules.proofs.Lists.{all-weaken, all-keep}
 use Rattle.rules.proofs.Cuts.{setOf-all}
 use Rattle.rules.proofs.Rims.{parity-rims, or-true}
@@ -105,31 +103,3 @@ set-rims l h f = go (elem f l) refl
     go : (c : Bool) → elem f l ≡ c → All (λ r. setOf r (f .axis) (f .at) ≡ elem f r) (rimsOf l)
     go true e = one-of (λ r. setOf r (f .axis) (f .at)) (elem f) (setOf-elem f) (rimsOf l) (one-rim l f e) (parity-rims (λ g. samePlace g f) l ∙ h f ∙ e)
     go false e = one-of-none (λ r. setOf r (f .axis) (f .at)) (elem f) (setOf-elem f) (rimsOf l) (any-rims (samePlace f) l ∙ e)
-
--- ---- patches in any order (M-111)
-pub data Perm : List (List Place) → List (List Place) → Type 0 where
-  none : Perm [] []
-  keepHead : {r : List Place} {s t : List (List Place)} → Perm s t → Perm (r ∷ s) (r ∷ t)
-  swap : {r q : List Place} {s : List (List Place)} → Perm (r ∷ (q ∷ s)) (q ∷ (r ∷ s))
-  chain : {s t u : List (List Place)} → Perm s t → Perm t u → Perm s u
-
-pub parity-perm : (g : List Place → Bool) (s t : List (List Place)) → Perm s t → parity g s ≡ parity g t
-parity-perm g s t none = refl
-parity-perm g s t (keepHead {r = r} {s = s₁} {t = t₁} p) = ap (λ (b : Bool). g r ⊕ b) (parity-perm g s₁ t₁ p)
-parity-perm g s t (swap {r = r} {q = q} {s = u}) = ⊕-left (g r) (g q) (parity g u)
-parity-perm g s t (chain {t = m} p q) = parity-perm g s m p ∙ parity-perm g m t q
-
--- one rim after the other
-abbrev pub oneByOne : Set → List (List Place) → Set
-oneByOne E [] = E
-oneByOne E (r ∷ rs) = oneByOne (symdiff E (setOf (patchRim r))) rs
-
-pub by-one : (E : Set) (rs : List (List Place)) (a : Axis) (p : Point) → oneByOne E rs a p ≡ E a p ⊕ parity (λ r. setOf (patchRim r) a p) rs
-by-one E [] a p = sym (⊕-false (E a p))
-by-one E (r ∷ rs) a p = by-one (symdiff E (setOf (patchRim r))) rs a p ∙ ⊕-assoc (E a p) (setOf (patchRim r) a p) (parity (λ s. setOf (patchRim s) a p) rs)
-
-pub any-order : (n : ℕ) (E : Set) (rs : List (List Place)) → Perm rs (rims n E) → (a : Axis) (p : Point) → oneByOne E rs a p ≡ patched n E a p
-unfolding patched flips
-any-order n E rs h a p =
-    by-one E rs a p
-    ∙ ap (λ (b : Bool). E a p ⊕ b) (parity-perm (λ r. setOf (patchRim r) a p) rs (rims n E) h ∙ sym (parity-each (λ e. samePlace e (record { axis = a; at = p })) patchRim (rims n E)))

@@ -10,7 +10,7 @@ use Rattle.rules.specs.Cell.{oddFace}
 use Rattle.rules.specs.Signs.{sign, Consistent}
 use Rattle.rules.specs.Condition.{Route, stop, upward, downward}
 use Rattle.rules.proofs.Bits.{⊕-self, ⊕-cancel, xors}
-use Rattle.rules.proofs.Sums.{parityTo-plus, parityTo-cong, parityTo-steps, parityTo-cong<}
+use Rattle.rules.proofs.Sums.{parityTo-plus, parityTo-steps, parityTo-cong<}
 use Rattle.rules.proofs.Oddness.{zero-sum}
 
 -- two rows of edges, and the rungs between them

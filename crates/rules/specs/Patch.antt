@@ -4,7 +4,7 @@ use mathlib.Core.List.{List, [], _∷_, _++_, map}
 use Prim.Native.Nat.{ℕ, zero, suc, _+_, _-_, _/_, min, max}
 use lib.Dec.{leb}
 use Rattle.rules.specs.Lists.{keep, each, upto, count}
-use Rattle.rules.specs.Lattice.{Axis, X, Y, Z, Place, Edge, Face, Box, Spot, earlier, later, coord, pointAt, withCoord, Set, isIn, setOf, symdiff, places}
+use Rattle.rules.specs.Lattice.{Axis, X, Y, Z, Edge, Face, Box, Spot, earlier, later, coord, pointAt, withCoord, Set, isIn, setOf, symdiff, places}
 use Rattle.rules.specs.Cell.{oddFace}
 use Rattle.rules.specs.Rims.{boxOf, rims}
 
