@@ -41,6 +41,10 @@ faceEdge f (suc zero) = record { axis = earlier (f .axis); at = up (later (f .ax
 faceEdge f (suc (suc zero)) = record { axis = later (f .axis); at = f .at }
 faceEdge f (suc (suc (suc s))) = record { axis = later (f .axis); at = up (earlier (f .axis)) (f .at) }
 
+-- the edge along a at its lowest corner
+abbrev pub cornerRule : Axis → Place
+cornerRule a = record { axis = a; at = at 0 0 0 }
+
 -- the face or edge e of the cell at (0,0,0), moved to the cell c
 abbrev pub moved : Point → Place → Place
 moved c e = record { axis = e .axis; at = at (c .i + e .at .i) (c .j + e .at .j) (c .k + e .at .k) }
@@ -50,6 +54,10 @@ faceOf f c = moved c (faceRule f)
 
 unfoldable pub edgeOf : ℕ → ℕ → Point → Place
 edgeOf f s c = moved c (faceEdge (faceRule f) s)
+
+-- edge x(i,j,k) is the edge along x at the lowest corner of the cell (i,j,k); y and z likewise
+abbrev pub cornerEdge : Axis → Point → Place
+cornerEdge a c = record { axis = a; at = c }
 
 -- a cell of the grid
 pub record Cell (n : ℕ) (p : Point) : Type 0 where

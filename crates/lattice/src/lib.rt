@@ -14,7 +14,7 @@ ghost use Rattle.rules.specs.Lattice.{earlier, later, pointNumber, pointCount};
 ghost use Rattle.rules.specs.Grid.{has, weight};
 ghost use Rattle.rules.specs.Cell.{oddFace};
 ghost use Rattle.rules.proofs.Store.{toggle};
-ghost use Rattle.lattice.specs.Cells.{indexOf, faceRule, faceEdge, moved, faceOf, edgeOf, Cell, layer, turnOne};
+ghost use Rattle.lattice.specs.Cells.{indexOf, faceRule, faceEdge, cornerRule, moved, faceOf, edgeOf, cornerEdge, Cell, layer, turnOne};
 ghost use Rattle.rules.specs.Lattice.{OfGrid};
 
 // The cell's six faces: the three lower ones, then the three upper ones.
@@ -270,6 +270,21 @@ pub fn edge(n: usize, c: Point, f: usize, s: usize) -> Place
     ensures { λ r. ⌜ r ≡ edgeOf f s c ⌝ }
 {
     move_to(n, c, edge_rule(f, s))
+}
+
+fn corner_rule(a: Axis) -> Place
+    ensures { λ r. ⌜ r ≡ cornerRule a ⌝ }
+{
+    let k = index(a);
+    EDGES[4 * k]
+}
+
+// The edge along a at the lowest corner of the cell c. Every inner edge is such an edge of exactly one cell.
+pub fn corner_edge(n: usize, c: Point, a: Axis) -> Place
+    requires { ⌜ (n ≤ 32) × OfGrid n c ⌝ }
+    ensures { λ r. ⌜ r ≡ cornerEdge a c ⌝ }
+{
+    move_to(n, c, corner_rule(a))
 }
 
 fn differ(a: bool, b: bool) -> bool
