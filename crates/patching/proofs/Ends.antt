@@ -1,12 +1,13 @@
 -- How Patch begins: the state before the first rim. Assumes nothing.
 use mathlib.Core.Path.{_≡_, refl, sym, ap, ap₂, _∙_, subst, fun-ext}
 use mathlib.Core.Bool.{Bool, true, false, _&&_}
-use mathlib.Core.List.{List, [], _∷_, map, map-map}
-use Prim.Native.Nat.{ℕ, suc, _+_, _*_, _/_, _%_, _≤_}
+use mathlib.Core.List.{List, [], _∷_, _++_, map, map-map}
+use Prim.Native.Nat.{ℕ, suc, _+_, _-_, _*_, _/_, _%_, _≤_}
 use native.Mathlib.Omega.{arith}
 use native.Mathlib.Nat.{mul-le-mul}
 use native.Mathlib.Numerals.{add-one}
-use lib.ListN.{length, getD, take}
+use lib.ListN.{length, getD, take, drop, take-append-drop, length-drop, replicate, length-replicate, getD-replicate}
+use lib.Seq.{ext-getD, getD-take, getD-drop, length-take-le}
 use Rattle.rules.specs.Lists.{_⊕_, anyOf, parity, each, upto, All, count}
 use Rattle.rules.proofs.Bits.{⊕-false, and-right, both, same-test, Bounds}
 use Rattle.rules.proofs.Lists.{all-weaken, all-map, all-each, all-upto}
@@ -16,7 +17,7 @@ use Rattle.rules.specs.declared.Point.{Point}
 use Rattle.rules.specs.Lattice.{Set, pointNumber, edgeIn, whole, setOf, points, pointCount}
 use Rattle.rules.specs.Grid.{has, marks, byteAt, value, bytes}
 use Rattle.rules.specs.Rims.{rims}
-use Rattle.rules.specs.Patch.{patchRim, patched, flips}
+use Rattle.rules.specs.Patch.{patchRim, patched, flips, flipCount}
 use Rattle.rules.proofs.Numbers.{small-byte, take-upto, rising}
 use Rattle.rules.proofs.Rims.{touch}
 use Rattle.rules.proofs.Boxes.{inBox→}
@@ -26,9 +27,10 @@ use Rattle.lattice.specs.Cells.{layer}
 use Rattle.lattice.proofs.Laws.{num-below}
 use Rattle.walking.specs.Walks.{came, Fine, seenB}
 use Rattle.walking.proofs.Laws.{has-high, below}
-use Rattle.patching.specs.Paint.{paint, nine, low, nought}
+use Rattle.patching.specs.Paint.{paint, nine, low, nought, gaps}
 use Rattle.patching.proofs.PaintLaws.{paint-at, paint-past, paint-length}
-use Rattle.patching.specs.Call.{none, Between, Finished, Good, PatchedWell}
+use Rattle.patching.proofs.Flips.{gaps-count}
+use Rattle.patching.specs.Call.{counted, done, none, Between, Finished, Good}
 
 module _ {R : Type 0} where
   zero-sum : (y : R → Bool) (rs : List R) → parity (λ r. false && y r) rs ≡ false
@@ -118,6 +120,13 @@ byte-is F p b h =
     let q : (a : Axis) → has a (b % 8) ≡ F a p = λ a. sym (ap (has a) (let e : b ≡ b % 8 + 8 * (b / 8) = omega arith in e) ∙ has-high a (b % 8) (b / 8)) ∙ h a in
     sym (small-byte (b % 8) (omega arith)) ∙ ap₂ (λ (x : Bool) (k : ℕ). value x 1 + k) (q X) (ap₂ (λ (x y : Bool). value x 2 + value y 4) (q Y) (q Z))
 
+-- a buffer whose first k bytes are known and whose others are as they were
+front : (k : ℕ) (s t h : List ℕ) → take k s ≡ h → length s ≡ length t → ((i : ℕ) → k ≤ i → getD s i 0 ≡ getD t i 0) → s ≡ h ++ drop k t
+front k s t h e l p =
+    sym (take-append-drop k s)
+    ∙ ap₂ (λ (x y : List ℕ). x ++ y) e
+    (ext-getD 0 (drop k s) (drop k t) (length-drop k s ∙ ap (λ (j : ℕ). j - k) l ∙ sym (length-drop k t)) (λ i m. getD-drop k s i 0 ∙ p (k + i) (omega arith) ∙ sym (getD-drop k t i 0)))
+
 module _ (n : ℕ) (g w : List ℕ) (lg : pointCount n ≤ length g) (lw : pointCount n ≤ length w) (h : Good n g) (g₃ w₃ : List ℕ) (r : ℕ)
     (D : Finished n (came n (paint nine (pointCount n) g)) (paint nine (pointCount n) g) (paint nought (pointCount n) w) g₃ w₃ r) where
   mark-is : (a : Axis) (p : Point) → OfGrid n p → stored n g₃ a p ≡ patched n (marks n g) a p
@@ -141,13 +150,29 @@ module _ (n : ℕ) (g w : List ℕ) (lg : pointCount n ≤ length g) (lw : point
   pub rims-are : r ≡ length (rims n (marks n g))
   rims-are = D .counted ∙ ap (λ (E : Set). length (rims n E)) (came-start n g w lg lw h)
 
-  pub all-well : (g₄ w₄ : List ℕ) → g₄ ≡ paint low (pointCount n) g₃ → w₄ ≡ paint nought (pointCount n) w₃ → PatchedWell n g w g₄ w₄ r
-  all-well g₄ w₄ eg ew = record {
-    rims-is = rims-are;
-    bytes-is = ap (take (pointCount n)) eg ∙ bytes-are;
-    grid-past = λ i l. ap (λ (s : List ℕ). getD s i 0) eg ∙ paint-past low (pointCount n) g₃ i l ∙ D .g-past i l ∙ paint-past nine (pointCount n) g i l;
-    work-zero = λ i l. let e = D .w-long ∙ paint-length nought (pointCount n) w in ap (λ (s : List ℕ). getD s i 0) ew ∙ paint-at nought (pointCount n) w₃ i l (omega arith);
-    work-past = λ i l. ap (λ (s : List ℕ). getD s i 0) ew ∙ paint-past nought (pointCount n) w₃ i l ∙ D .w-past i l ∙ paint-past nought (pointCount n) w i l;
+  pub flips-are : gaps (pointCount n) g₃ ≡ flipCount n (marks n g)
+  unfolding flipCount
+  flips-are = gaps-count n (marks n g) (patched n (marks n g)) g₃
+      (all-weaken (OfGrid n) _ (λ p b a. (mark-is a p b, ap (has a) (D .came-in (pointNumber n p)) ∙ old-is n g w lg lw h a p b ∙ sym (marks-has n g h a p b))) (points (suc n)) (points-below n))
+
+  zeros-are : take (pointCount n) (paint nought (pointCount n) w₃) ≡ replicate (pointCount n) 0
+  zeros-are =
+      let e = D .w-long ∙ paint-length nought (pointCount n) w in
+      let e₂ = paint-length nought (pointCount n) w₃ in
+      let e₃ : length (take (pointCount n) (paint nought (pointCount n) w₃)) ≡ pointCount n = length-take-le (pointCount n) (paint nought (pointCount n) w₃) (omega arith) in
+      ext-getD 0 _ _ (e₃ ∙ sym (length-replicate (pointCount n) 0))
+      (λ i l. getD-take (pointCount n) (paint nought (pointCount n) w₃) i 0 (omega arith) ∙ paint-at nought (pointCount n) w₃ i (omega arith) (omega arith) ∙ sym (getD-replicate (pointCount n) i 0 0 (omega arith)))
+
+  pub all-well : counted r (gaps (pointCount n) g₃) (paint low (pointCount n) g₃) (paint nought (pointCount n) w₃) ≡ done n g w
+  unfolding done
+  all-well = λ i. record {
+    number = 0;
+    rims = rims-are i;
+    flips = flips-are i;
+    grid = front (pointCount n) (paint low (pointCount n) g₃) g _ bytes-are (paint-length low (pointCount n) g₃ ∙ D .g-long ∙ paint-length nine (pointCount n) g)
+        (λ j l. paint-past low (pointCount n) g₃ j l ∙ D .g-past j l ∙ paint-past nine (pointCount n) g j l) i;
+    work = front (pointCount n) (paint nought (pointCount n) w₃) w _ zeros-are (paint-length nought (pointCount n) w₃ ∙ D .w-long ∙ paint-length nought (pointCount n) w)
+        (λ j l. paint-past nought (pointCount n) w₃ j l ∙ D .w-past j l ∙ paint-past nought (pointCount n) w j l) i;
   }
 
 pub total-is : (n : ℕ) → (n + 1) * (n + 1) * (n + 1) ≡ pointCount n
@@ -166,10 +191,11 @@ module _ (n : ℕ) (g w : List ℕ) (lg : pointCount n ≤ length g) (lw : point
   starts g₁ e = subst (Fine n) (sym (e ∙ ap (λ (j : ℕ). paint nine j g) ek)) (fine-start n g w lg lw h)
 
   pub ends-well : (g₁ w₁ : List ℕ) → g₁ ≡ paint nine k g → w₁ ≡ paint nought k w → (g₃ w₃ : List ℕ) (r : ℕ) → (Between n (came n g₁) none g₁ w₁ g₁ w₁ 0 → Finished n (came n g₁) g₁ w₁ g₃ w₃ r) →
-      (g₄ w₄ : List ℕ) → g₄ ≡ paint low k g₃ → w₄ ≡ paint nought k w₃ → PatchedWell n g w g₄ w₄ r
-  ends-well g₁ w₁ eg ew g₃ w₃ r f g₄ w₄ fg fw =
+      (g₄ w₄ : List ℕ) (f : ℕ) → f ≡ gaps k g₃ → g₄ ≡ paint low k g₃ → w₄ ≡ paint nought k w₃ → counted r f g₄ w₄ ≡ done n g w
+  ends-well g₁ w₁ eg ew g₃ w₃ r F g₄ w₄ f ef fg fw =
       let eg′ : g₁ ≡ paint nine (pointCount n) g = eg ∙ ap (λ (j : ℕ). paint nine j g) ek in
       let ew′ : w₁ ≡ paint nought (pointCount n) w = ew ∙ ap (λ (j : ℕ). paint nought j w) ek in
-      let F = subst (λ (x : List ℕ). Between n (came n (paint nine (pointCount n) g)) none (paint nine (pointCount n) g) x (paint nine (pointCount n) g) x 0 → Finished n (came n (paint nine (pointCount n) g)) (paint nine (pointCount n) g) x g₃ w₃ r) ew′
-      (subst (λ (x : List ℕ). Between n (came n x) none x w₁ x w₁ 0 → Finished n (came n x) x w₁ g₃ w₃ r) eg′ f) in
-      all-well n g w lg lw h g₃ w₃ r (F (start n g w lg lw h)) g₄ w₄ (fg ∙ ap (λ (j : ℕ). paint low j g₃) ek) (fw ∙ ap (λ (j : ℕ). paint nought j w₃) ek)
+      let G = subst (λ (x : List ℕ). Between n (came n (paint nine (pointCount n) g)) none (paint nine (pointCount n) g) x (paint nine (pointCount n) g) x 0 → Finished n (came n (paint nine (pointCount n) g)) (paint nine (pointCount n) g) x g₃ w₃ r) ew′
+      (subst (λ (x : List ℕ). Between n (came n x) none x w₁ x w₁ 0 → Finished n (came n x) x w₁ g₃ w₃ r) eg′ F) in
+      (λ i. counted r ((ef ∙ ap (λ (j : ℕ). gaps j g₃) ek) i) ((fg ∙ ap (λ (j : ℕ). paint low j g₃) ek) i) ((fw ∙ ap (λ (j : ℕ). paint nought j w₃) ek) i))
+      ∙ all-well n g w lg lw h g₃ w₃ r (G (start n g w lg lw h))

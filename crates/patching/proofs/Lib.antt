@@ -1,4 +1,5 @@
 pub mod PaintLaws
+pub mod Flips
 pub mod Rim
 pub mod Next
 pub mod Cover

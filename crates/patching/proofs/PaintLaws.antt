@@ -1,7 +1,12 @@
 -- Laws of paint. Assumes nothing.
 use mathlib.Core.Path.{_≡_, refl, sym, ap, ap₂, _∙_}
 use mathlib.Core.List.{List}
-use Prim.Native.Nat.{ℕ, zero, suc, _+_, _*_, _≤_, _<_}
+use mathlib.Core.Bool.{Bool, true, false}
+use Prim.Native.Nat.{ℕ, zero, suc, _+_, _*_, _/_, _%_, _≤_, _<_}
+use lib.Dec.{eqb}
+use Rattle.rules.specs.Lists.{_⊕_}
+use Rattle.rules.specs.declared.Axis.the-variants.{X, Y, Z}
+use Rattle.rules.specs.Grid.{has, value}
 use native.Mathlib.Omega.{arith}
 use native.Mathlib.Numerals.{add-one}
 use native.Mathlib.Decide.{ℕ-discrete}
@@ -38,8 +43,26 @@ paint-more f k s t e = ap (λ (u : List ℕ). set u k (f (getD u k 0))) e ∙ ap
 pub paint-read : (f : ℕ → ℕ) (k : ℕ) (s t : List ℕ) → t ≡ paint f k s → getD t k 0 ≡ getD s k 0
 paint-read f k s t e = ap (λ (u : List ℕ). getD u k 0) e ∙ paint-past f k s k (omega arith)
 
+bit-most : (x : Bool) → value x 1 ≤ 1
+bit-most true = omega arith
+bit-most false = omega arith
+
 pub gap-most : (b : ℕ) → gap b ≤ 3
-gap-most b = omega arith
+gap-most b =
+    let x = bit-most (has X b ⊕ has X (b / 8)) in
+    let y = bit-most (has Y b ⊕ has Y (b / 8)) in
+    let z = bit-most (has Z b ⊕ has Z (b / 8)) in
+    omega arith
+
+-- two bits differ
+pub bit-gap : (x y : ℕ) → x < 2 → y < 2 → (x + y) % 2 ≡ value (eqb x 1 ⊕ eqb y 1) 1
+bit-gap zero zero h k = refl
+bit-gap zero (suc zero) h k = refl
+bit-gap (suc zero) zero h k = refl
+bit-gap (suc zero) (suc zero) h k = refl
+bit-gap zero (suc (suc y)) h k = absurd (omega arith)
+bit-gap (suc zero) (suc (suc y)) h k = absurd (omega arith)
+bit-gap (suc (suc x)) y h k = absurd (omega arith)
 
 pub gaps-most : (k : ℕ) (s : List ℕ) → gaps k s ≤ 3 * k
 unfolding gaps

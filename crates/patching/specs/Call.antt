@@ -4,14 +4,14 @@ use mathlib.Core.Bool.{Bool, true, false, _&&_, cond}
 use mathlib.Core.List.{List, [], _∷_, _++_}
 use Prim.Native.Nat.{ℕ, zero, suc, _/_, _%_, _≤_, _<_}
 use lib.Dec.{ltb}
-use lib.ListN.{length, getD, take, drop}
+use lib.ListN.{length, getD, drop, replicate}
 use Rattle.rules.specs.Lists.{_⊕_, parity, anyOf, count}
 use Rattle.rules.specs.declared.Axis.{Axis}
 use Rattle.rules.specs.declared.Point.{Point}
 use Rattle.rules.specs.declared.Place.{Place}
 use Rattle.rules.specs.Lattice.{Set, pointNumber, places, isIn, setOf, samePoint, edgeIn, whole, pointCount}
 use Rattle.rules.specs.Grid.{marks, bytes, isGrid, has}
-use Rattle.rules.specs.Patch.{patched, flips, patchRim}
+use Rattle.rules.specs.Patch.{patched, flips, flipCount, patchRim}
 use Rattle.rules.specs.Rims.{rims}
 use Rattle.rules.proofs.Rims.{touch}
 use Rattle.rules.proofs.Store.{stored}
@@ -35,24 +35,16 @@ told BadLevel g w = record { number = 1; rims = 0; flips = 0; grid = g; work = w
 told ShortBuffer g w = record { number = 2; rims = 0; flips = 0; grid = g; work = w }
 told NoGrid g w = record { number = 5; rims = 0; flips = 0; grid = g; work = w }
 
-abbrev pub zeros : ℕ → List ℕ
-zeros zero = []
-zeros (suc k) = 0 ∷ zeros k
+-- done, with two counts
+abbrev pub counted : ℕ → ℕ → List ℕ → List ℕ → Outcome
+counted r f g w = record { number = 0; rims = r; flips = f; grid = g; work = w }
 
+-- the grid is patched, the first P work bytes are 0 afterwards, bytes from P on are not changed
 unfoldable pub done : ℕ → List ℕ → List ℕ → Outcome
-done n g w = record {
-  number = 0;
-  rims = length (rims n (marks n g));
-  flips = count (isIn (setOf (flips n (marks n g)))) (places (suc n));
-  grid = bytes n (patched n (marks n g)) ++ drop (pointCount n) g;
-  work = zeros (pointCount n) ++ drop (pointCount n) w;
-}
-
-unfoldable pub patchAt : ℕ → List ℕ → List ℕ → Outcome
-patchAt n g w =
-    cond (ltb (length g) (pointCount n)) (told ShortBuffer g w)
-    (cond (ltb (length w) (pointCount n)) (told ShortBuffer g w)
-    (cond (isGrid n g) (done n g w) (told NoGrid g w)))
+done n g w =
+    let P = pointCount n in
+    let E = marks n g in
+    counted (length (rims n E)) (flipCount n E) (bytes n (patched n E) ++ drop P g) (replicate P 0 ++ drop P w)
 
 -- the cells scanned so far that a rim has a lower face of
 abbrev pub owns : Point → List Place → Bool
@@ -98,11 +90,3 @@ none r = false
 pub record Good (n : ℕ) (g : List ℕ) : Type 0 where
   pub small : (p : Point) → OfGrid n p → getD g (pointNumber n p) 0 ≤ 7
   pub inner : (a : Axis) (p : Point) → OfGrid n p → has a (getD g (pointNumber n p) 0) ≡ true → edgeIn (whole n) a p ≡ true
-
--- what the call leaves behind in the buffers g and w, and the rims that it counts
-pub record PatchedWell (n : ℕ) (g w g₂ w₂ : List ℕ) (r : ℕ) : Type 0 where
-  pub rims-is : r ≡ length (rims n (marks n g))
-  pub bytes-is : take (pointCount n) g₂ ≡ bytes n (patched n (marks n g))
-  pub grid-past : (i : ℕ) → pointCount n ≤ i → getD g₂ i 0 ≡ getD g i 0
-  pub work-zero : (i : ℕ) → i < pointCount n → getD w₂ i 0 ≡ 0
-  pub work-past : (i : ℕ) → pointCount n ≤ i → getD w₂ i 0 ≡ getD w i 0

@@ -2,18 +2,19 @@
 use mathlib.Core.List.{List}
 use Prim.Native.Nat.{ℕ, zero, suc, _+_, _*_, _/_, _%_}
 use lib.ListN.{getD, set}
+use Rattle.rules.specs.Lists.{_⊕_}
+use Rattle.rules.specs.declared.Axis.the-variants.{X, Y, Z}
+use Rattle.rules.specs.Grid.{has, value}
 
 unfoldable pub paint : (ℕ → ℕ) → ℕ → List ℕ → List ℕ
 paint f zero s = s
 paint f (suc k) s = set (paint f k s) k (f (getD s k 0))
 
--- how many of the three marks differ between the low bits and the bits from 8 on
-abbrev pub bitGap : ℕ → ℕ → ℕ
-bitGap a b = (a + b) % 2
-
+-- how many of the three marks differ between the lowest three bits and the three from 8 on
 abbrev pub gap : ℕ → ℕ
-gap b = bitGap (b % 2) (b / 8 % 2) + (bitGap (b / 2 % 2) (b / 16 % 2) + bitGap (b / 4 % 2) (b / 32 % 2))
+gap b = value (has X b ⊕ has X (b / 8)) 1 + (value (has Y b ⊕ has Y (b / 8)) 1 + value (has Z b ⊕ has Z (b / 8)) 1)
 
+-- over the first k bytes
 unfoldable pub gaps : ℕ → List ℕ → ℕ
 gaps zero s = 0
 gaps (suc k) s = gaps k s + gap (getD s k 0)

@@ -13,7 +13,7 @@ ghost use Rattle.rules.specs.declared.Place.{Place};
 ghost use Rattle.rules.specs.Rims.{rims};
 ghost use Rattle.lattice.specs.Cells.{Cell};
 ghost use Rattle.walking.specs.Walks.{came, Fine};
-ghost use Rattle.patching.specs.Call.{owns, none, cellOf, Between, Finished, Good, PatchedWell};
+ghost use Rattle.patching.specs.Call.{owns, none, cellOf, Between, Finished, Good, counted, done};
 ghost use Rattle.rules.specs.Lattice.{pointCount};
 ghost use Rattle.patching.specs.Paint.{paint, gap, gaps, nine, low, nought};
 
@@ -89,7 +89,7 @@ fn total_of(n: usize) -> usize
 // Patches a grid of n cells a side.
 pub fn patch_grid(n: usize, grid: &mut [u8], work: &mut [u8]) -> Counts
     requires { ⌜ (1 ≤ n) × (n ≤ 32) × (pointCount n ≤ length (now grid)) × (pointCount n ≤ length (now work)) × Good n (now grid) × ((i : ℕ) → i < pointCount n → getD (now grid) i 0 ≤ 7) ⌝ }
-    ensures { λ r. ⌜ PatchedWell n (now (grid .entry)) (now (work .entry)) (now (grid .exit)) (now (work .exit)) (r .rims) ⌝ }
+    ensures { λ r. ⌜ counted (r .rims) (r .flips) (now (grid .exit)) (now (work .exit)) ≡ done n (now (grid .entry)) (now (work .entry)) ⌝ }
 {
     let count = total_of(n);
     prepare(count, grid, work);
@@ -118,9 +118,10 @@ pub fn prepare(count: usize, grid: &mut [u8], work: &mut [u8])
 fn gap_of(b: u8) -> usize
     ensures { λ r. ⌜ (r ≡ gap b) × (r ≤ 3) ⌝ }
 {
-    let x = (b % 2 + b / 8 % 2) % 2;
-    let y = (b / 2 % 2 + b / 16 % 2) % 2;
-    let z = (b / 4 % 2 + b / 32 % 2) % 2;
+    let came = b / 8;
+    let x = (b % 2 + came % 2) % 2;
+    let y = (b / 2 % 2 + came / 2 % 2) % 2;
+    let z = (b / 4 % 2 + came / 4 % 2) % 2;
     (x + (y + z)) as usize
 }
 

@@ -24,7 +24,12 @@ same-length-2 : tie.Need-same-length-2
 same-length-2 c = search needs
 
 returns : tie.Need-returns
-returns c = ends-well (c .before .before .before .before .before .before .before .before .before .before .before .before .before .before .before .before .before .before .before .before .before .before .before .before .args .n) (c .before .before .before .before .before .before .before .before .before .before .before .before .before .before .before .before .before .before .before .before .before .before .before .before .args .grid .now) (c .before .before .before .before .before .before .before .before .before .before .before .before .before .before .before .before .before .before .before .before .before .before .before .before .args .work .now) (c .before .before .before .before .before .before .before .before .before .before .before .before .before .before .before .before .before .before .before .before .before .before .before .before .pre .2) (c .before .before .before .before .before .before .before .before .before .before .before .before .before .before .before .before .before .before .before .before .before .before .before .before .pre .3) (c .before .before .before .before .before .before .before .before .before .before .before .before .before .before .before .before .before .before .before .before .before .before .before .before .pre .4) _ (c .before .before .before .before .before .before .before .before .before .before .before .before .before .before .before .before .before .before .before .before .before .total-of .ensures .0) _ _ (c .before .before .before .before .before .before .before .before .before .before .before .before .before .before .before .before .before .before .prepare .ensures .0) (c .before .before .before .before .before .before .before .before .before .before .before .before .before .before .before .before .before .before .prepare .ensures .1) _ _ _ (c .before .before .before .before .before .before .before .before .before .before .before .all-rims .ensures) _ _ (c .before .before .before .before .finish .ensures .1) (c .before .before .before .before .finish .ensures .2)
+returns c =
+    let s = c .before .before .before .before .before .before .before .before .before .before .before .before .before .before .before .before .before .before .before .before .before .before .before .before in
+    let n = s .args .n in
+    let p = c .before .before .before .before .before .before .before .before .before .before .before .before .before .before .before .before .before .before .prepare .ensures in
+    let f = c .before .before .before .before .finish .ensures in
+    ends-well n (s .args .grid .now) (s .args .work .now) (s .pre .2) (s .pre .3) (s .pre .4) _ (c .before .before .before .before .before .before .before .before .before .before .before .before .before .before .before .before .before .before .before .before .before .total-of .ensures .0) _ _ (p .0) (p .1) _ _ _ (c .before .before .before .before .before .before .before .before .before .before .before .all-rims .ensures) _ _ _ (f .0) (f .1) (f .2)
 
 pub patch-grid-spec : {M : Type 1} → statement M
 patch-grid-spec =
