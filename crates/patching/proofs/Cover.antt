@@ -28,7 +28,7 @@ use Rattle.rules.proofs.Store.{stored}
 use Rattle.lattice.specs.Cells.{Cell}
 use Rattle.walking.specs.Walks.{came, Fine}
 use Rattle.walking.proofs.Laws.{pointAt-eq}
-use Rattle.patching.specs.Call.{owns, hits, none, cellOf, cellsBelow, Between, Finished}
+use Rattle.patching.specs.Between.{owns, hits, none, cellOf, cellsBelow, Between, Finished}
 use Rattle.patching.proofs.Rim.{face-cells}
 use Rattle.patching.proofs.Next.{Moves}
 

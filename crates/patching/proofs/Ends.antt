@@ -15,7 +15,7 @@ use Rattle.rules.specs.declared.Axis.{Axis}
 use Rattle.rules.specs.declared.Axis.the-variants.{X, Y, Z}
 use Rattle.rules.specs.declared.Point.{Point}
 use Rattle.rules.specs.Lattice.{Set, pointNumber, edgeIn, whole, setOf, points, pointCount}
-use Rattle.rules.specs.Grid.{has, marks, byteAt, value, bytes}
+use Rattle.rules.specs.Grid.{has, marks, byteAt, value, bytes, isGrid}
 use Rattle.rules.specs.Rims.{rims}
 use Rattle.rules.specs.Patch.{patchRim, patched, flips, flipCount}
 use Rattle.rules.proofs.Numbers.{small-byte, take-upto, rising}
@@ -30,7 +30,9 @@ use Rattle.walking.proofs.Laws.{has-high, below}
 use Rattle.patching.specs.Paint.{paint, nine, low, nought, gaps}
 use Rattle.patching.proofs.PaintLaws.{paint-at, paint-past, paint-length}
 use Rattle.patching.proofs.Flips.{gaps-count}
-use Rattle.patching.specs.Call.{counted, done, none, Between, Finished, Good}
+use Rattle.patching.proofs.GridBytes.{grid-has, grid-small, marks-inner}
+use Rattle.patching.specs.Call.{counted, patchDone}
+use Rattle.patching.specs.Between.{none, Between, Finished}
 
 module _ {R : Type 0} where
   zero-sum : (y : R → Bool) (rs : List R) → parity (λ r. false && y r) rs ≡ false
@@ -45,16 +47,12 @@ module _ {R : Type 0} where
   zero-count [] = refl
   zero-count (r ∷ rs) = zero-count rs
 
-marks-has : (n : ℕ) (g : List ℕ) → Good n g → (a : Axis) (p : Point) → OfGrid n p → marks n g a p ≡ has a (getD g (pointNumber n p) 0)
-unfolding marks
-marks-has n g h a p b = same-test (edgeIn (whole n) a p && has a (getD g (pointNumber n p) 0)) (has a (getD g (pointNumber n p) 0)) (λ e. and-right (edgeIn (whole n) a p) _ e) (λ e. both _ _ (h .inner a p b e) e)
-
 edge-below : (n : ℕ) (a : Axis) (p : Point) → edgeIn (whole n) a p ≡ true → OfGrid n p
 edge-below n X p e = let i = inBox→ (whole n) false true true p e in omega arith
 edge-below n Y p e = let i = inBox→ (whole n) true false true p e in omega arith
 edge-below n Z p e = let i = inBox→ (whole n) true true false p e in omega arith
 
-module _ (n : ℕ) (g w : List ℕ) (lg : pointCount n ≤ length g) (lw : pointCount n ≤ length w) (h : Good n g) where
+module _ (n : ℕ) (g w : List ℕ) (lg : pointCount n ≤ length g) (lw : pointCount n ≤ length w) (h : isGrid n g ≡ true) where
   g′ : List ℕ
   g′ = paint nine (pointCount n) g
 
@@ -66,11 +64,11 @@ module _ (n : ℕ) (g w : List ℕ) (lg : pointCount n ≤ length g) (lw : point
 
   old-is : (a : Axis) (p : Point) → OfGrid n p → layer 8 n (paint nine (pointCount n) g) a p ≡ has a (getD g (pointNumber n p) 0)
   old-is a p b =
-      let s = h .small p b in
+      let s = grid-small n g lg h (pointNumber n p) (num-below n p b) in
       ap (λ (k : ℕ). has a (k / 8)) (at-g p b) ∙ ap (has a) (let e : getD g (pointNumber n p) 0 * 9 / 8 ≡ getD g (pointNumber n p) 0 = omega arith in e)
 
   pub fine-start : Fine n (paint nine (pointCount n) g)
-  fine-start = record { inner = λ a p b e. h .inner a p b (sym (old-is a p b) ∙ e) }
+  fine-start = record { inner = λ a p b e. marks-inner n g a p (sym (grid-has n g lg h a p b) ∙ sym (old-is a p b) ∙ e) }
 
   -- the marks that came are those of the buffer
   pub came-start : came n (paint nine (pointCount n) g) ≡ marks n g
@@ -127,14 +125,11 @@ front k s t h e l p =
     ∙ ap₂ (λ (x y : List ℕ). x ++ y) e
     (ext-getD 0 (drop k s) (drop k t) (length-drop k s ∙ ap (λ (j : ℕ). j - k) l ∙ sym (length-drop k t)) (λ i m. getD-drop k s i 0 ∙ p (k + i) (omega arith) ∙ sym (getD-drop k t i 0)))
 
-module _ (n : ℕ) (g w : List ℕ) (lg : pointCount n ≤ length g) (lw : pointCount n ≤ length w) (h : Good n g) (g₃ w₃ : List ℕ) (r : ℕ)
+module _ (n : ℕ) (g w : List ℕ) (lg : pointCount n ≤ length g) (lw : pointCount n ≤ length w) (h : isGrid n g ≡ true) (g₃ w₃ : List ℕ) (r : ℕ)
     (D : Finished n (came n (paint nine (pointCount n) g)) (paint nine (pointCount n) g) (paint nought (pointCount n) w) g₃ w₃ r) where
   mark-is : (a : Axis) (p : Point) → OfGrid n p → stored n g₃ a p ≡ patched n (marks n g) a p
   unfolding patched
-  mark-is a p b = D .marks-now a p b ∙ ap₂ (λ (x : Bool) (E : Set). x ⊕ setOf (flips n E) a p) (stored-start n g w lg lw h a p b ∙ sym (mark-has a p b)) (came-start n g w lg lw h)
-    where
-      mark-has : (a : Axis) (p : Point) → OfGrid n p → marks n g a p ≡ has a (getD g (pointNumber n p) 0)
-      mark-has a p b = marks-has n g h a p b
+  mark-is a p b = D .marks-now a p b ∙ ap₂ (λ (x : Bool) (E : Set). x ⊕ setOf (flips n E) a p) (stored-start n g w lg lw h a p b ∙ grid-has n g lg h a p b) (came-start n g w lg lw h)
 
   pub bytes-are : take (pointCount n) (paint low (pointCount n) g₃) ≡ bytes n (patched n (marks n g))
   unfolding bytes
@@ -153,7 +148,7 @@ module _ (n : ℕ) (g w : List ℕ) (lg : pointCount n ≤ length g) (lw : point
   pub flips-are : gaps (pointCount n) g₃ ≡ flipCount n (marks n g)
   unfolding flipCount
   flips-are = gaps-count n (marks n g) (patched n (marks n g)) g₃
-      (all-weaken (OfGrid n) _ (λ p b a. (mark-is a p b, ap (has a) (D .came-in (pointNumber n p)) ∙ old-is n g w lg lw h a p b ∙ sym (marks-has n g h a p b))) (points (suc n)) (points-below n))
+      (all-weaken (OfGrid n) _ (λ p b a. (mark-is a p b, ap (has a) (D .came-in (pointNumber n p)) ∙ old-is n g w lg lw h a p b ∙ grid-has n g lg h a p b)) (points (suc n)) (points-below n))
 
   zeros-are : take (pointCount n) (paint nought (pointCount n) w₃) ≡ replicate (pointCount n) 0
   zeros-are =
@@ -163,8 +158,8 @@ module _ (n : ℕ) (g w : List ℕ) (lg : pointCount n ≤ length g) (lw : point
       ext-getD 0 _ _ (e₃ ∙ sym (length-replicate (pointCount n) 0))
       (λ i l. getD-take (pointCount n) (paint nought (pointCount n) w₃) i 0 (omega arith) ∙ paint-at nought (pointCount n) w₃ i (omega arith) (omega arith) ∙ sym (getD-replicate (pointCount n) i 0 0 (omega arith)))
 
-  pub all-well : counted r (gaps (pointCount n) g₃) (paint low (pointCount n) g₃) (paint nought (pointCount n) w₃) ≡ done n g w
-  unfolding done
+  pub all-well : counted r (gaps (pointCount n) g₃) (paint low (pointCount n) g₃) (paint nought (pointCount n) w₃) ≡ patchDone n g w
+  unfolding patchDone
   all-well = λ i. record {
     number = 0;
     rims = rims-are i;
@@ -175,23 +170,13 @@ module _ (n : ℕ) (g w : List ℕ) (lg : pointCount n ≤ length g) (lw : point
         (λ j l. paint-past nought (pointCount n) w₃ j l ∙ D .w-past j l ∙ paint-past nought (pointCount n) w j l) i;
   }
 
-pub total-is : (n : ℕ) → (n + 1) * (n + 1) * (n + 1) ≡ pointCount n
-total-is n = simp add-one
-
-pub total-most : (n : ℕ) → n ≤ 32 → ((n + 1) * (n + 1) ≤ 1089) × ((n + 1) * (n + 1) * (n + 1) ≤ 35937)
-total-most n h =
-    let a : n + 1 ≤ 33 = omega arith in
-    let b : (n + 1) * (n + 1) ≤ 33 * 33 = mul-le-mul a a in
-    let c : (n + 1) * (n + 1) * (n + 1) ≤ 33 * 33 * 33 = mul-le-mul b a in
-    (omega arith, omega arith)
-
 -- ---- the three parts one after the other
-module _ (n : ℕ) (g w : List ℕ) (lg : pointCount n ≤ length g) (lw : pointCount n ≤ length w) (h : Good n g) (k : ℕ) (ek : k ≡ pointCount n) where
+module _ (n : ℕ) (g w : List ℕ) (lg : pointCount n ≤ length g) (lw : pointCount n ≤ length w) (h : isGrid n g ≡ true) (k : ℕ) (ek : k ≡ pointCount n) where
   pub starts : (g₁ : List ℕ) → g₁ ≡ paint nine k g → Fine n g₁
   starts g₁ e = subst (Fine n) (sym (e ∙ ap (λ (j : ℕ). paint nine j g) ek)) (fine-start n g w lg lw h)
 
   pub ends-well : (g₁ w₁ : List ℕ) → g₁ ≡ paint nine k g → w₁ ≡ paint nought k w → (g₃ w₃ : List ℕ) (r : ℕ) → (Between n (came n g₁) none g₁ w₁ g₁ w₁ 0 → Finished n (came n g₁) g₁ w₁ g₃ w₃ r) →
-      (g₄ w₄ : List ℕ) (f : ℕ) → f ≡ gaps k g₃ → g₄ ≡ paint low k g₃ → w₄ ≡ paint nought k w₃ → counted r f g₄ w₄ ≡ done n g w
+      (g₄ w₄ : List ℕ) (f : ℕ) → f ≡ gaps k g₃ → g₄ ≡ paint low k g₃ → w₄ ≡ paint nought k w₃ → counted r f g₄ w₄ ≡ patchDone n g w
   ends-well g₁ w₁ eg ew g₃ w₃ r F g₄ w₄ f ef fg fw =
       let eg′ : g₁ ≡ paint nine (pointCount n) g = eg ∙ ap (λ (j : ℕ). paint nine j g) ek in
       let ew′ : w₁ ≡ paint nought (pointCount n) w = ew ∙ ap (λ (j : ℕ). paint nought j w) ek in

@@ -33,7 +33,7 @@ use Rattle.walking.proofs.Laws.{seen-same, below, has-byte, came-inner}
 use Rattle.halving.proofs.Turns.{turns-length, turns-high, turns-past, stored-turns, stored-works, low-edges, low-faces}
 use Rattle.halving.proofs.Scans.{patch-edged}
 use Rattle.halving.specs.Halving.{Fits, Edged}
-use Rattle.patching.specs.Call.{owns, Between}
+use Rattle.patching.specs.Between.{owns, Between}
 use Rattle.patching.proofs.Rim.{newB, S, fits, Result, results, stored-is, face-cells, fits-of, cell-whole}
 
 module _ {R : Type 0} where

@@ -1,26 +1,20 @@
--- The call Patch: what it answers and leaves in its buffers. Assumes nothing.
-use mathlib.Core.Path.{_≡_}
-use mathlib.Core.Bool.{Bool, true, false, _&&_, cond}
-use mathlib.Core.List.{List, [], _∷_, _++_}
-use Prim.Native.Nat.{ℕ, zero, suc, _/_, _%_, _≤_, _<_}
+-- The call patch: the number, the two counts and every byte of both buffers, for all inputs. Assumes nothing.
+use mathlib.Core.Bool.{not, cond}
+use mathlib.Core.List.{List, _++_}
+use Prim.Native.Nat.{ℕ}
 use lib.Dec.{ltb}
-use lib.ListN.{length, getD, drop, replicate}
-use Rattle.rules.specs.Lists.{_⊕_, parity, anyOf, count}
-use Rattle.rules.specs.declared.Axis.{Axis}
-use Rattle.rules.specs.declared.Point.{Point}
-use Rattle.rules.specs.declared.Place.{Place}
-use Rattle.rules.specs.Lattice.{Set, pointNumber, places, isIn, setOf, samePoint, edgeIn, whole, pointCount}
-use Rattle.rules.specs.Grid.{marks, bytes, isGrid, has}
-use Rattle.rules.specs.Patch.{patched, flips, flipCount, patchRim}
+use lib.ListN.{length, drop, replicate}
+use Rattle.rules.specs.Lattice.{pointCount}
+use Rattle.rules.specs.Grid.{marks, bytes, isGrid}
 use Rattle.rules.specs.Rims.{rims}
-use Rattle.rules.proofs.Rims.{touch}
-use Rattle.rules.proofs.Store.{stored}
-use Rattle.rules.specs.Lattice.{OfGrid}
-use Rattle.lattice.specs.Cells.{Cell}
-use Rattle.walking.specs.Walks.{seenB}
+use Rattle.rules.specs.Patch.{patched, flipCount}
+use Rattle.lattice.specs.declared.level.LevelRead.{LevelRead}
+use Rattle.lattice.specs.declared.level.LevelRead.the-variants.{Known, Unknown}
+use Rattle.lattice.specs.Levels.{levelOf, cellsOf}
 use Rattle.patching.specs.declared.PatchAnswer.{PatchAnswer}
 use Rattle.patching.specs.declared.PatchAnswer.the-variants.{Done, ShortBuffer, NoGrid, BadLevel}
 
+-- the number of the answer, the number of rims and of flips, and the buffers afterwards
 pub record Outcome : Type 0 where
   pub number : ℕ
   pub rims : ℕ
@@ -28,65 +22,40 @@ pub record Outcome : Type 0 where
   pub grid : List ℕ
   pub work : List ℕ
 
--- this paper's number and values for each answer
-abbrev pub told : PatchAnswer → List ℕ → List ℕ → Outcome
-told (Done r f) g w = record { number = 0; rims = r; flips = f; grid = g; work = w }
-told BadLevel g w = record { number = 1; rims = 0; flips = 0; grid = g; work = w }
-told ShortBuffer g w = record { number = 2; rims = 0; flips = 0; grid = g; work = w }
-told NoGrid g w = record { number = 5; rims = 0; flips = 0; grid = g; work = w }
-
--- done, with two counts
+-- done: number 0, with the counts
 abbrev pub counted : ℕ → ℕ → List ℕ → List ℕ → Outcome
 counted r f g w = record { number = 0; rims = r; flips = f; grid = g; work = w }
 
--- the grid is patched, the first P work bytes are 0 afterwards, bytes from P on are not changed
-unfoldable pub done : ℕ → List ℕ → List ℕ → Outcome
-done n g w =
+-- a refusal returns counts of 0 and changes no buffer
+abbrev pub refused : ℕ → List ℕ → List ℕ → Outcome
+refused k g w = record { number = k; rims = 0; flips = 0; grid = g; work = w }
+
+-- the paper's number and values for each answer
+abbrev pub told : PatchAnswer → List ℕ → List ℕ → Outcome
+told (Done r f) g w = counted r f g w
+told BadLevel g w = refused 1 g w
+told ShortBuffer g w = refused 2 g w
+told NoGrid g w = refused 5 g w
+
+-- the grid is patched, the first P work bytes are 0 afterwards, and the number of rims and of flips is returned
+unfoldable pub patchDone : ℕ → List ℕ → List ℕ → Outcome
+patchDone n g w =
     let P = pointCount n in
     let E = marks n g in
     counted (length (rims n E)) (flipCount n E) (bytes n (patched n E) ++ drop P g) (replicate P 0 ++ drop P w)
 
--- the cells scanned so far that a rim has a lower face of
-abbrev pub owns : Point → List Place → Bool
-owns c r = anyOf (λ f. samePoint (f .at) c) r
+-- 2: a grid or work buffer shorter than P; 5: the buffer is no grid; the lowest number is given
+unfoldable pub patchSized : ℕ → List ℕ → List ℕ → Outcome
+patchSized n g w =
+    cond (ltb (length g) (pointCount n)) (refused 2 g w)
+    (cond (ltb (length w) (pointCount n)) (refused 2 g w)
+    (cond (not (isGrid n g)) (refused 5 g w) (patchDone n g w)))
 
-abbrev pub hits : List Point → List Place → Bool
-hits l r = anyOf (λ c. owns c r) l
+-- 1: level not 2 to 5
+abbrev pub patchFor : LevelRead → List ℕ → List ℕ → Outcome
+patchFor Unknown g w = refused 1 g w
+patchFor (Known l) g w = patchSized (cellsOf l) g w
 
--- the buffers between two rims: `hit` says which rims have been patched
-pub record Between (n : ℕ) (E : Set) (hit : List Place → Bool) (g₀ w₀ g w : List ℕ) (k : ℕ) : Type 0 where
-  pub g-long : length g ≡ length g₀
-  pub w-long : length w ≡ length w₀
-  pub g-past : (i : ℕ) → pointCount n ≤ i → getD g i 0 ≡ getD g₀ i 0
-  pub w-past : (i : ℕ) → pointCount n ≤ i → getD w i 0 ≡ getD w₀ i 0
-  pub came-in : (i : ℕ) → getD g i 0 / 8 ≡ getD g₀ i 0 / 8
-  pub marks-now : (a : Axis) (p : Point) → OfGrid n p → stored n g a p ≡ stored n g₀ a p ⊕ parity (λ r. hit r && setOf (patchRim r) a p) (rims n E)
-  pub work-now : (a : Axis) (p : Point) → OfGrid n p → stored n w a p ≡ false
-  pub seen-now : (q : Point) → Cell n q → seenB n w q ≡ anyOf (λ r. hit r && touch q r) (rims n E)
-  pub counted : k ≡ count hit (rims n E)
-
--- the cell of a number, and the cells below one
-unfoldable pub cellOf : ℕ → ℕ → Point
-cellOf n k = record { i = k % n; j = k / n % n; k = k / n / n }
-
-abbrev pub cellsBelow : ℕ → ℕ → List Point
-cellsBelow n zero = []
-cellsBelow n (suc k) = cellOf n k ∷ cellsBelow n k
-
--- every rim has been patched
-pub record Finished (n : ℕ) (E : Set) (g₀ w₀ g w : List ℕ) (k : ℕ) : Type 0 where
-  pub g-long : length g ≡ length g₀
-  pub w-long : length w ≡ length w₀
-  pub g-past : (i : ℕ) → pointCount n ≤ i → getD g i 0 ≡ getD g₀ i 0
-  pub w-past : (i : ℕ) → pointCount n ≤ i → getD w i 0 ≡ getD w₀ i 0
-  pub came-in : (i : ℕ) → getD g i 0 / 8 ≡ getD g₀ i 0 / 8
-  pub marks-now : (a : Axis) (p : Point) → OfGrid n p → stored n g a p ≡ stored n g₀ a p ⊕ setOf (flips n E) a p
-  pub counted : k ≡ length (rims n E)
-
-abbrev pub none : List Place → Bool
-none r = false
-
--- each byte is at most 7, and each of its marks is on an inner edge
-pub record Good (n : ℕ) (g : List ℕ) : Type 0 where
-  pub small : (p : Point) → OfGrid n p → getD g (pointNumber n p) 0 ≤ 7
-  pub inner : (a : Axis) (p : Point) → OfGrid n p → has a (getD g (pointNumber n p) 0) ≡ true → edgeIn (whole n) a p ≡ true
+-- patch (level, grid, work buffer of at least P bytes)
+unfoldable pub patchCall : ℕ → List ℕ → List ℕ → Outcome
+patchCall level g w = patchFor (levelOf level) g w

@@ -1,2 +1,3 @@
 pub mod Paint
+pub mod Between
 pub mod Call

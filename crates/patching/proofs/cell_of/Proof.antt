@@ -2,7 +2,7 @@ use Rattle.patching.proofs.cell_of.Tie as tie
 use borrow.Author.Needs.{needs}
 use Rattle.patching.proofs.cell_of.Statement.{statement}
 use mathlib.Core.Path.{refl}
-use Rattle.patching.specs.Call.{cellOf}
+use Rattle.patching.specs.Between.{cellOf}
 use Rattle.patching.proofs.Cover.{is-cell}
 
 rem-t3 : tie.Need-rem-t3
