@@ -1,0 +1,62 @@
+-- The test of an edge as code makes it. Assumes nothing.
+use mathlib.Core.Path.{_≡_, refl, sym, ap, ap₂, subst, _∙_}
+use mathlib.Core.Bool.{Bool, true, false, not, _||_, Bool·beq}
+use mathlib.Core.List.{List}
+use Prim.Native.Nat.{ℕ, suc, _+_, _*_, _≤_, _<_}
+use native.Mathlib.Omega.{arith}
+use lib.Dec.{leb, eqb}
+use lib.ListN.{getD}
+use borrow.Author.Tests.{le-leb, lt-leb, eq-eqb, ne-eqb}
+use Rattle.rules.specs.declared.Axis.{Axis}
+use Rattle.rules.specs.declared.Point.{Point}
+use Rattle.rules.specs.Lists.{_⊕_, allOf}
+use Rattle.rules.specs.Lattice.{coord, up, origin, pointNumber, points, Set, OfGrid}
+use Rattle.rules.specs.Grid.{has, marks}
+use Rattle.signing.specs.SignBytes.{signByte, inside}
+use Rattle.signing.proofs.Rows.{marks-has}
+use Rattle.surfacing.specs.Fit.{edgeFits, pointFits, signsFit, pointStep, Grids}
+use Rattle.surfacing.proofs.Steps.{number-up}
+
+differ-is : (a b : Bool) → not (Bool·beq a b) ≡ a ⊕ b
+differ-is true true = refl
+differ-is true false = refl
+differ-is false true = refl
+differ-is false false = refl
+
+-- an edge that does not exist
+pub edge-beyond : (n : ℕ) (E : Set) (s : Point → Bool) (a : Axis) (q : Point) → n ≤ coord a q → true ≡ edgeFits n E s a q
+unfolding edgeFits
+edge-beyond n E s a q h = rw (le-leb n (coord a q) h)
+
+-- an edge that exists, by the bytes of its ends
+pub edge-is : (n : ℕ) (g s : List ℕ) (a : Axis) (q : Point) (p t : ℕ) (r : Bool) → Grids n g s → OfGrid n q → coord a q < n → p ≡ pointNumber n q → t ≡ pointStep n a → r ≡ has a (getD g p 0) →
+    Bool·beq (not (Bool·beq (eqb (getD s p 0) 1) (eqb (getD s (p + t) 0) 1))) r ≡ edgeFits n (marks n g) (inside n s) a q
+unfolding edgeFits
+edge-is n g s a q p t r k h l e f m =
+    ap₂ Bool·beq
+    (differ-is (eqb (getD s p 0) 1) (eqb (getD s (p + t) 0) 1)
+    ∙ ap₂ (λ (i j : ℕ). eqb (getD s i 0) 1 ⊕ eqb (getD s j 0) 1) e (ap₂ _+_ e f ∙ sym (number-up n a q)))
+    (m ∙ ap (λ (i : ℕ). has a (getD g i 0)) e ∙ sym (marks-has n g (k .g-long) (k .grid) a q h))
+    ∙ rw (lt-leb n (coord a q) l)
+
+-- a sign above 1, and one that is not, by the number of its point
+module _ (n : ℕ) (s : List ℕ) (q : Point) (p : ℕ) (at : p ≡ pointNumber n q) where
+  pub sign-above : (E : Set) → 1 < getD s p 0 → false ≡ pointFits n E s q
+  unfolding pointFits
+  sign-above E h = rw (lt-leb (signByte n s q) 1 (subst (λ (i : ℕ). 1 < getD s i 0) at h))
+
+  pub sign-fits : getD s p 0 ≤ 1 → leb (signByte n s q) 1 ≡ true
+  sign-fits h = le-leb (signByte n s q) 1 (subst (λ (i : ℕ). getD s i 0 ≤ 1) at h)
+
+-- the sign of (0,0,0)
+module _ (n : ℕ) (E : Set) (s : List ℕ) where
+  origin-first : inside n s origin ≡ eqb (getD s 0 0) 1
+  origin-first = ap (λ (i : ℕ). eqb (getD s i 0) 1) (let e : 0 + suc n * (0 + suc n * 0) ≡ 0 = omega arith in e)
+
+  pub origin-inside : getD s 0 0 ≡ 1 → false ≡ signsFit n E s
+  unfolding signsFit
+  origin-inside h = rw (origin-first, eq-eqb (getD s 0 0) 1 h)
+
+  pub origin-outside : (getD s 0 0 ≡ 1 → ⊥) → allOf (pointFits n E s) (points (suc n)) ≡ signsFit n E s
+  unfolding signsFit
+  origin-outside h = rw (origin-first, ne-eqb (getD s 0 0) 1 h)

@@ -1,0 +1,56 @@
+-- `surfacing::fit::point_fits` meets its contract. Assumes nothing.
+use borrow.Author.Needs.{needs}
+use mathlib.Core.Path.{sym, _∙_}
+use native.Mathlib.Omega.{arith}
+use Rattle.rules.proofs.Bits.{&&-true}
+use Rattle.lattice.proofs.Tests.{fails, holds}
+use Rattle.surfacing.specs.Fit.{pointFits}
+use Rattle.surfacing.proofs.Steps.{below}
+use Rattle.surfacing.proofs.Fits.{sign-above, sign-fits}
+use Rattle.surfacing.proofs.fit.point_fits.Statement.{statement}
+use Rattle.surfacing.proofs.fit.point_fits.Tie as tie
+
+shared-slice-read-if1 : tie.Need-shared-slice-read-if1
+shared-slice-read-if1 c = omega (arith, below (c .before .before .before .args .n) (c .before .before .before .args .q) (c .before .before .before .pre .2))
+
+returns : tie.Need-returns
+returns c = sign-above _ (c .before .before .before .before .args .signs .now) (c .before .before .before .before .args .q) (c .before .before .before .before .args .p) (c .before .before .before .before .pre .3) _ (c .if1 .taken)
+
+edge-fits-requires : tie.Need-edge-fits-requires
+edge-fits-requires c κs = c .before .before .before .before .pre
+
+returns-2 : tie.Need-returns-2
+unfolding pointFits
+returns-2 c =
+    rw (sign-fits (c .before .before .before .before .before .before .args .n) (c .before .before .before .before .before .before .args .signs .now) (c .before .before .before .before .before .before .args .q) (c .before .before .before .before .before .before .args .p) (c .before .before .before .before .before .before .pre .3) (omega arith), fails (c .before .edge-fits .ensures) (c .if2 .taken))
+
+edge-fits-requires-2 : tie.Need-edge-fits-requires-2
+edge-fits-requires-2 c κs = c .before .before .before .before .before .before .pre
+
+returns-3 : tie.Need-returns-3
+unfolding pointFits
+returns-3 c =
+    rw (sign-fits (c .before .before .before .before .before .before .before .before .args .n) (c .before .before .before .before .before .before .before .before .args .signs .now) (c .before .before .before .before .before .before .before .before .args .q) (c .before .before .before .before .before .before .before .before .args .p) (c .before .before .before .before .before .before .before .before .pre .3) (omega arith), holds (c .before .before .before .edge-fits .ensures) (c .before .before .if2 .left), fails (c .before .edge-fits2 .ensures) (c .if3 .taken))
+
+edge-fits-requires-3 : tie.Need-edge-fits-requires-3
+edge-fits-requires-3 c κs = c .before .before .before .before .before .before .before .before .pre
+
+returns-4 : tie.Need-returns-4
+unfolding pointFits
+returns-4 c =
+    rw (sign-fits (c .before .before .before .before .before .before .before .before .before .args .n) (c .before .before .before .before .before .before .before .before .before .args .signs .now) (c .before .before .before .before .before .before .before .before .before .args .q) (c .before .before .before .before .before .before .before .before .before .args .p) (c .before .before .before .before .before .before .before .before .before .pre .3) (omega arith), holds (c .before .before .before .before .edge-fits .ensures) (c .before .before .before .if2 .left), holds (c .before .before .edge-fits2 .ensures) (c .before .if3 .left))
+    (c .edge-fits3 .ensures ∙ sym (&&-true _))
+
+pub point-fits-spec : {M : Type 1} → statement M
+point-fits-spec =
+    tie.close
+    (tie.spec
+    shared-slice-read-if1
+    returns
+    edge-fits-requires
+    returns-2
+    edge-fits-requires-2
+    returns-3
+    edge-fits-requires-3
+    returns-4)
+

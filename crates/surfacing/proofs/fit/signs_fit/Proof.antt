@@ -1,0 +1,91 @@
+-- `surfacing::fit::signs_fit` meets its contract. The loop's invariant: the scan stands at point q, of number p, and the points
+-- from there on fit exactly when the signs do. Assumes nothing.
+use mathlib.Core.Path.{_≡_, sym, _∙_}
+use Prim.Native.Nat.{_-_, _≤_, _<_}
+use native.Mathlib.Omega.{arith}
+use native.Mathlib.Numerals.{add-one}
+use Rattle.rules.specs.Lists.{allOf}
+use Rattle.rules.specs.Lattice.{pointCount}
+use Rattle.rules.specs.Grid.{marks}
+use Rattle.lattice.proofs.Tests.{fails, holds}
+use Rattle.lattice.proofs.Points.{pointsFrom, At, at-start, at-grid, at-next, all-start, all-more, all-fails, all-end}
+use Rattle.surfacing.specs.Fit.{pointFits, signsFit}
+use Rattle.surfacing.proofs.Steps.{count-some}
+use Rattle.surfacing.proofs.Fits.{origin-inside, origin-outside}
+use Rattle.surfacing.proofs.fit.signs_fit.Statement.{statement}
+use Rattle.surfacing.proofs.fit.signs_fit.Tie as tie
+
+abbrev Inv-loop : tie.InvT-loop
+Inv-loop n grid signs count q₀ p₀ q p =
+    (count ≡ pointCount n) × (p ≤ pointCount n) × At n p q
+    × (allOf (pointFits n (marks n grid) signs) (pointsFrom n p) ≡ signsFit n (marks n grid) signs)
+
+abbrev μ-loop : tie.MeasureT-loop
+μ-loop n grid signs count q₀ p₀ q p = count - p
+
+shared-slice-read-if1 : tie.Need-shared-slice-read-if1 Inv-loop μ-loop
+shared-slice-read-if1 c = omega (arith, count-some (c .before .before .before .args .n), c .before .before .before .pre .1 .s-long)
+
+returns : tie.Need-returns Inv-loop μ-loop
+returns c = origin-inside _ _ (c .before .before .before .before .args .signs .now) (c .if1 .taken)
+
+point-count-requires : tie.Need-point-count-requires Inv-loop μ-loop
+point-count-requires c κs = c .before .before .before .before .pre .0
+
+loop-holds : tie.Need-loop-holds Inv-loop μ-loop
+loop-holds c = (c .point-count .ensures .0, omega arith, at-start _, all-start _ _ ∙ origin-outside _ _ (c .before .before .before .before .before .args .signs .now) (c .before .if1 .left))
+
+point-fits-requires : tie.Need-point-fits-requires Inv-loop μ-loop
+point-fits-requires c κs =
+    let l = c .before .loop in
+    let h : l .p < pointCount (c .before .before .before .before .before .before .before .args .n) = omega arith in
+    (c .before .before .before .before .before .before .before .pre .0, c .before .before .before .before .before .before .before .pre .1, at-grid _ (l .p) (l .q) (l .inv .2) h, sym (l .inv .2 .is))
+
+returns-2 : tie.Need-returns-2 Inv-loop μ-loop
+returns-2 c =
+    let l = c .before .before .before .loop in
+    let h : l .p < pointCount (c .before .before .before .before .before .before .before .before .before .args .n) = omega arith in
+    sym (all-fails (pointFits _ (marks _ (c .before .before .before .before .before .before .before .before .before .args .grid .now)) (c .before .before .before .before .before .before .before .before .before .args .signs .now)) _ (l .p) (l .q) (l .inv .2) h (fails (c .before .point-fits .ensures) (c .if2 .taken))) ∙ l .inv .3
+
+next-point-requires : tie.Need-next-point-requires Inv-loop μ-loop
+next-point-requires c κs =
+    let l = c .before .before .before .loop in
+    let h : l .p < pointCount (c .before .before .before .before .before .before .before .before .before .args .n) = omega arith in
+    (c .before .before .before .before .before .before .before .before .before .pre .0, at-grid _ (l .p) (l .q) (l .inv .2) h)
+
+add-p : tie.Need-add-p Inv-loop μ-loop
+add-p c = omega (arith, c .before .before .before .loop-test .taken, c .before .before .before .before .before .point-count .ensures .1)
+
+loop-less : tie.Need-loop-less Inv-loop μ-loop
+loop-less c = omega (arith, c .before .before .before .loop-test .taken)
+
+loop-again : tie.Need-loop-again Inv-loop μ-loop
+loop-again c =
+    let l = c .before .before .before .before .loop in
+    let h : l .p < pointCount (c .before .before .before .before .before .before .before .before .before .before .args .n) = omega (arith, l .inv .0, c .before .before .before .loop-test .taken) in
+    let m = all-more (pointFits _ (marks _ (c .before .before .before .before .before .before .before .before .before .before .args .grid .now)) (c .before .before .before .before .before .before .before .before .before .before .args .signs .now)) _ (l .p) (l .q) (l .inv .2) h (holds (c .before .before .point-fits .ensures) (c .before .if2 .left)) in
+    (l .inv .0, omega arith, rw (add-one, c .next-point .ensures) (at-next _ (l .p) (l .q) (l .inv .2) h), rw add-one (m ∙ l .inv .3))
+
+returns-3 : tie.Need-returns-3 Inv-loop μ-loop
+returns-3 c =
+    let l = c .before .loop in
+    sym (all-end (pointFits _ (marks _ (c .before .before .before .before .before .before .before .args .grid .now)) (c .before .before .before .before .before .before .before .args .signs .now)) _ (l .p) (omega (arith, l .inv .0, c .loop-test .left))) ∙ l .inv .3
+
+pub signs-fit-spec : {M : Type 1} → statement M
+signs-fit-spec =
+    tie.close
+    (tie.spec
+    Inv-loop
+    μ-loop
+    shared-slice-read-if1
+    returns
+    point-count-requires
+    loop-holds
+    point-fits-requires
+    returns-2
+    next-point-requires
+    add-p
+    loop-less
+    loop-again
+    returns-3)
+

@@ -1,0 +1,34 @@
+-- The list of quads, as it is written one edge after the other. Assumes nothing.
+use mathlib.Core.Bool.{Bool, cond}
+use mathlib.Core.List.{List, [], _++_}
+use Prim.Native.Nat.{ℕ, suc, _+_, _*_}
+use Rattle.rules.specs.declared.Axis.{Axis}
+use Rattle.rules.specs.declared.Axis.the-variants.{X, Y, Z}
+use Rattle.rules.specs.declared.Point.{Point}
+use Rattle.rules.specs.declared.Place.{Place}
+use Rattle.rules.specs.Lists.{count, each}
+use Rattle.rules.specs.Lattice.{places, placesAt, Set, isIn}
+use Rattle.rules.specs.Grid.{value, has}
+use Rattle.rules.specs.Quads.{quad}
+
+-- one quad for each marked edge
+unfoldable pub quadCount : ℕ → Set → ℕ
+quadCount n E = count (isIn E) (places (suc n))
+
+-- the step from a cell's number to that of the next cell along an axis
+abbrev pub cellStep : ℕ → Axis → ℕ
+cellStep n X = 1
+cellStep n Y = n
+cellStep n Z = n * n
+
+-- the quad of the edge, if its byte has its mark; its lower end is inside or outside
+abbrev pub byteQuad : ℕ → ℕ → Bool → Place → List ℕ
+byteQuad n b inside e = cond (has (e .axis) b) (quad n (λ p. inside) e) []
+
+-- the quads of the three edges at a point
+unfoldable pub byteQuads : ℕ → ℕ → Bool → Point → List ℕ
+byteQuads n b inside p = each (byteQuad n b inside) (placesAt p)
+
+-- how many marks a byte has
+abbrev pub byteMarks : ℕ → ℕ
+byteMarks b = value (has X b) 1 + (value (has Y b) 1 + value (has Z b) 1)

@@ -1,0 +1,89 @@
+// Whether signs fit a grid: none above 1, point (0,0,0) outside, and a sign change exactly where there is a mark.
+use lattice::bit;
+use lattice::level::point_count;
+use lattice::scan::next_point;
+use rules::Axis;
+use rules::Point;
+ghost use mathlib.Core.Path.{_≡_};
+ghost use mathlib.Core.Bool.{true};
+ghost use mathlib.Core.List.{List};
+ghost use Prim.Native.Nat.{ℕ, _≤_};
+ghost use lib.ListN.{length};
+ghost use Rattle.rules.specs.Lattice.{coord, pointNumber, pointCount, OfGrid};
+ghost use Rattle.rules.specs.Grid.{marks, isGrid};
+ghost use Rattle.signing.specs.SignBytes.{inside};
+ghost use Rattle.surfacing.specs.Fit.{edgeFits, pointFits, signsFit, pointStep, Grids};
+
+// The coordinate of a point on an axis.
+fn coordinate(p: Point, a: Axis) -> usize
+    ensures { λ r. ⌜ r ≡ coord a p ⌝ }
+{
+    match a {
+        Axis::X => p.i,
+        Axis::Y => p.j,
+        Axis::Z => p.k,
+    }
+}
+
+// The step from a point's number to that of the next point along an axis.
+fn point_step(n: usize, a: Axis) -> usize
+    requires { ⌜ n ≤ 32 ⌝ }
+    ensures { λ r. ⌜ r ≡ pointStep n a ⌝ }
+{
+    match a {
+        Axis::X => 1,
+        Axis::Y => n + 1,
+        Axis::Z => (n + 1) * (n + 1),
+    }
+}
+
+// Answers whether the edge along a at the point q, of number p, has a sign change exactly when it has a mark, if it exists.
+fn edge_fits(n: usize, grid: &[u8], signs: &[u8], a: Axis, q: Point, p: usize) -> bool
+    requires { ⌜ (n ≤ 32) × Grids n (now grid) (now signs) × OfGrid n q × (p ≡ pointNumber n q) ⌝ }
+    ensures { λ r. ⌜ r ≡ edgeFits n (marks n (now (grid .entry))) (inside n (now (signs .entry))) a q ⌝ }
+{
+    if coordinate(q, a) >= n {
+        return true;
+    }
+    let r = p + point_step(n, a);
+    let change = (signs[p] == 1) != (signs[r] == 1);
+    change == bit(grid[p], a)
+}
+
+// Answers whether the sign of the point q, of number p, is not above 1, and its three edges fit.
+fn point_fits(n: usize, grid: &[u8], signs: &[u8], q: Point, p: usize) -> bool
+    requires { ⌜ (n ≤ 32) × Grids n (now grid) (now signs) × OfGrid n q × (p ≡ pointNumber n q) ⌝ }
+    ensures { λ r. ⌜ r ≡ pointFits n (marks n (now (grid .entry))) (now (signs .entry)) q ⌝ }
+{
+    if signs[p] > 1 {
+        return false;
+    }
+    if !edge_fits(n, grid, signs, Axis::X, q, p) {
+        return false;
+    }
+    if !edge_fits(n, grid, signs, Axis::Y, q, p) {
+        return false;
+    }
+    edge_fits(n, grid, signs, Axis::Z, q, p)
+}
+
+// Answers whether the signs fit the grid.
+pub fn signs_fit(n: usize, grid: &[u8], signs: &[u8]) -> bool
+    requires { ⌜ (n ≤ 32) × Grids n (now grid) (now signs) ⌝ }
+    ensures { λ r. ⌜ r ≡ signsFit n (marks n (now (grid .entry))) (now (signs .entry)) ⌝ }
+{
+    if signs[0] == 1 {
+        return false;
+    }
+    let count = point_count(n);
+    let mut q = Point { i: 0, j: 0, k: 0 };
+    let mut p: usize = 0;
+    while p < count {
+        if !point_fits(n, grid, signs, q, p) {
+            return false;
+        }
+        q = next_point(n, q);
+        p += 1;
+    }
+    true
+}

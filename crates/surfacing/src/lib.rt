@@ -1,0 +1,2 @@
+// The call surface: the quads between inside and outside.
+pub mod fit;
