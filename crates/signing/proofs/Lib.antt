@@ -1,2 +1,3 @@
+pub mod Differ
 pub mod Rows
 pub mod Written

@@ -7,7 +7,6 @@ use native.Mathlib.Nat.{add-mul-mod-self-left, mod-add-div, zero-mod}
 use native.Mathlib.Omega.{arith}
 use native.Mathlib.Decide.{decLt}
 use lib.ListN.{length, getD, length-map}
-use lib.Seq.{getD-take}
 use Rattle.rules.specs.declared.Axis.{Axis}
 use Rattle.rules.specs.declared.Axis.the-variants.{X, Y, Z}
 use Rattle.rules.specs.declared.Point.{Point}
@@ -19,10 +18,11 @@ use Rattle.rules.specs.Signs.{sign, signBytes}
 use Rattle.rules.proofs.Bits.{Bounds, and-left, is-false, ⊕-cancel}
 use Rattle.rules.proofs.Sums.{parityTo-zero}
 use Rattle.rules.proofs.Boxes.{inBox→}
-use Rattle.rules.proofs.Numbers.{bytes-marks, bytes-at, has-bit, three-of, number-below, points-length}
+use Rattle.rules.proofs.Numbers.{points-length}
 use Rattle.rules.proofs.PointOf.{number-pointOf, pointOf-number, pointOf-grid, over-points}
 use Rattle.rules.proofs.Signs.{sign-up}
 use Rattle.rules.proofs.OddList.{even-all}
+use Rattle.lattice.proofs.GridFacts.{grid-marks}
 
 -- the sign byte of a point, by its number
 abbrev pub signAt : ℕ → Set → ℕ → ℕ
@@ -56,18 +56,9 @@ module _ (n : ℕ) (g : List ℕ) where
   first-outside = side-outside (pointOf n 0) (λ b. let z = zero-mod (suc n) in omega arith)
 
 module _ (n : ℕ) (g : List ℕ) (long : pointCount n ≤ length g) (grid : isGrid n g ≡ true) where
-  -- a grid's marks are those of its bytes
-  pub marks-has : (a : Axis) (p : Point) → OfGrid n p → marks n g a p ≡ has a (getD g (pointNumber n p) 0)
-  marks-has a p h =
-      let E = marks n g in
-      sym (ap (has a) (sym (getD-take (pointCount n) g (pointNumber n p) 0 (number-below (suc n) (p .i) (p .j) (p .k) (omega arith) (omega arith) (omega arith)))
-      ∙ ap (λ (l : List ℕ). getD l (pointNumber n p) 0) (sym (bytes-marks n g long grid))
-      ∙ bytes-at n E p (h .i) (h .j) (h .k))
-      ∙ has-bit a (E X p) (E Y p) (E Z p) ∙ three-of a E p)
-
   -- the x mark of a byte
   byte-has : (p : ℕ) → p < pointCount n → marks n g X (pointOf n p) ≡ has X (getD g p 0)
-  byte-has p h = marks-has X (pointOf n p) (pointOf-grid n p h) ∙ ap (λ (i : ℕ). has X (getD g i 0)) (number-pointOf n p)
+  byte-has p h = sym (grid-marks n g long grid X (pointOf n p) (pointOf-grid n p h)) ∙ ap (λ (i : ℕ). has X (getD g i 0)) (number-pointOf n p)
 
   module _ (even : evenFaces n (marks n g) ≡ true) where
     -- the next sign by rising number

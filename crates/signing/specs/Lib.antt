@@ -1,1 +1,2 @@
 pub mod SignBytes
+pub mod Call

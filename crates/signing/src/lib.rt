@@ -1,6 +1,10 @@
 // The call sign: which points are inside.
 use lattice::bit;
+use lattice::level::Level;
+use lattice::level::LevelRead;
 use lattice::level::point_count;
+use lattice::scan::all_even;
+use lattice::scan::is_grid;
 use rules::Axis;
 ghost use mathlib.Core.Path.{_≡_};
 ghost use mathlib.Core.Bool.{true};
@@ -13,6 +17,16 @@ ghost use Rattle.rules.specs.Lattice.{pointCount};
 ghost use Rattle.rules.specs.Grid.{value, has, marks, isGrid};
 ghost use Rattle.rules.specs.Rims.{evenFaces};
 ghost use Rattle.rules.specs.Signs.{signBytes};
+ghost use Rattle.signing.specs.Call.{told, signAt, signCall};
+
+// What the call answers: done, or why not.
+pub enum SignAnswer {
+    Done,
+    UnknownLevel,
+    ShortBuffer,
+    NoGrid,
+    OddFace,
+}
 
 // The sign byte of a point: 0 outside, 1 inside.
 fn sign_byte(inside: bool) -> u8
@@ -28,10 +42,7 @@ fn sign_byte(inside: bool) -> u8
 fn across(inside: bool, b: u8) -> bool
     ensures { λ r. ⌜ r ≡ inside ⊕ has X b ⌝ }
 {
-    if bit(b, Axis::X) {
-        return !inside;
-    }
-    inside
+    inside != bit(b, Axis::X)
 }
 
 // Writes the signs of a grid that has no odd face. A grid has no mark on its outside: each row of points along x begins and ends
@@ -48,5 +59,37 @@ pub fn sign_points(n: usize, grid: &[u8], signs: &mut [u8])
         signs[p] = sign_byte(inside);
         inside = across(inside, grid[p]);
         p += 1;
+    }
+}
+
+// Gives each point of a grid of n cells a side its sign.
+fn sign_at(n: usize, grid: &[u8], signs: &mut [u8]) -> SignAnswer
+    requires { ⌜ (1 ≤ n) × (n ≤ 32) ⌝ }
+    ensures { λ r. ⌜ told r (now (signs .exit)) ≡ signAt n (now (grid .entry)) (now (signs .entry)) ⌝ }
+{
+    let count = point_count(n);
+    if grid.len() < count {
+        return SignAnswer::ShortBuffer;
+    }
+    if signs.len() < count {
+        return SignAnswer::ShortBuffer;
+    }
+    if !is_grid(n, grid) {
+        return SignAnswer::NoGrid;
+    }
+    if !all_even(n, grid) {
+        return SignAnswer::OddFace;
+    }
+    sign_points(n, grid, signs);
+    SignAnswer::Done
+}
+
+// The call sign: fills the P sign bytes. Point (0,0,0) is outside, and signs differ across an edge exactly when it is marked.
+pub fn sign(level: u32, grid: &[u8], signs: &mut [u8]) -> SignAnswer
+    ensures { λ r. ⌜ told r (now (signs .exit)) ≡ signCall level (now (grid .entry)) (now (signs .entry)) ⌝ }
+{
+    match Level::read(level) {
+        LevelRead::Known(l) => sign_at(l.cells(), grid, signs),
+        LevelRead::Unknown => SignAnswer::UnknownLevel,
     }
 }

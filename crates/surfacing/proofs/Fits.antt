@@ -13,15 +13,10 @@ use Rattle.rules.specs.Lists.{_⊕_, allOf}
 use Rattle.rules.specs.Lattice.{coord, up, origin, pointNumber, points, Set, OfGrid}
 use Rattle.rules.specs.Grid.{has, marks}
 use Rattle.signing.specs.SignBytes.{signByte, inside}
-use Rattle.signing.proofs.Rows.{marks-has}
+use Rattle.signing.proofs.Differ.{differ-is}
+use Rattle.lattice.proofs.GridFacts.{grid-marks}
 use Rattle.surfacing.specs.Fit.{edgeFits, pointFits, signsFit, pointStep, Grids}
 use Rattle.surfacing.proofs.Steps.{number-up}
-
-differ-is : (a b : Bool) → not (Bool·beq a b) ≡ a ⊕ b
-differ-is true true = refl
-differ-is true false = refl
-differ-is false true = refl
-differ-is false false = refl
 
 -- an edge that does not exist
 pub edge-beyond : (n : ℕ) (E : Set) (s : Point → Bool) (a : Axis) (q : Point) → n ≤ coord a q → true ≡ edgeFits n E s a q
@@ -36,7 +31,7 @@ edge-is n g s a q p t r k h l e f m =
     ap₂ Bool·beq
     (differ-is (eqb (getD s p 0) 1) (eqb (getD s (p + t) 0) 1)
     ∙ ap₂ (λ (i j : ℕ). eqb (getD s i 0) 1 ⊕ eqb (getD s j 0) 1) e (ap₂ _+_ e f ∙ sym (number-up n a q)))
-    (m ∙ ap (λ (i : ℕ). has a (getD g i 0)) e ∙ sym (marks-has n g (k .g-long) (k .grid) a q h))
+    (m ∙ ap (λ (i : ℕ). has a (getD g i 0)) e ∙ grid-marks n g (k .g-long) (k .grid) a q h)
     ∙ rw (lt-leb n (coord a q) l)
 
 -- a sign above 1, and one that is not, by the number of its point
