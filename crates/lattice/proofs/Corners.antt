@@ -12,13 +12,13 @@ use Rattle.rules.specs.declared.Place.{Place}
 use Rattle.rules.specs.Lattice.{OfGrid, sameAxis, whole, inner}
 use Rattle.rules.proofs.Boxes.{inBox→}
 use Rattle.lattice.specs.Cells.{indexOf, cornerRule, moved, cornerEdge, Cell}
-use Rattle.lattice.proofs.Laws.{edges, none}
+use Rattle.lattice.proofs.Laws.{edgeTable, none}
 
 -- they stand first, fifth and ninth in the table
-pub corner-entry : (a : Axis) (k : ℕ) → k ≡ indexOf a → getD edges (4 * k) none ≡ cornerRule a
-corner-entry a k e = ap (λ (i : ℕ). getD edges (4 * i) none) e ∙ go a
+pub corner-entry : (a : Axis) (k : ℕ) → k ≡ indexOf a → getD edgeTable (4 * k) none ≡ cornerRule a
+corner-entry a k e = ap (λ (i : ℕ). getD edgeTable (4 * i) none) e ∙ go a
   where
-    go : (a : Axis) → getD edges (4 * indexOf a) none ≡ cornerRule a
+    go : (a : Axis) → getD edgeTable (4 * indexOf a) none ≡ cornerRule a
     go X = refl
     go Y = refl
     go Z = refl
