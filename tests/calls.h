@@ -1,0 +1,21 @@
+/* The five calls as a table, once for the library and once for the reference, so that a test is written once for both. */
+#ifndef CALLS_H
+#define CALLS_H
+
+#include <stddef.h>
+#include <stdint.h>
+
+struct calls {
+    const char *name;
+    uint32_t (*open)(uint32_t level, uint8_t *grid, size_t grid_len);
+    uint32_t (*mark)(uint32_t level, uint8_t *grid, size_t grid_len, const int32_t *triangle, size_t triangle_len);
+    uint32_t (*patch)(uint32_t level, uint8_t *grid, size_t grid_len, uint8_t *work, size_t work_len, uint32_t *rims,
+                      uint32_t *flips);
+    uint32_t (*sign)(uint32_t level, const uint8_t *grid, size_t grid_len, uint8_t *signs, size_t signs_len);
+    uint32_t (*surface)(uint32_t level, const uint8_t *grid, size_t grid_len, const uint8_t *signs, size_t signs_len,
+                        uint16_t *list, size_t list_len, uint32_t *quads);
+};
+
+extern const struct calls the_library, the_reference;
+
+#endif

@@ -1,0 +1,143 @@
+/* Document 01's checked examples at level 2, and the vectors that pin its choices, run through a table of calls. */
+#include "examples.h"
+
+#include <stdio.h>
+#include <string.h>
+
+enum { POINTS = 125, MOST_QUADS = 125 * 3 };
+
+/* Marks and points are written by their coordinates: x(1,2,2) is x122, point (2,2,2) is 222. */
+struct example {
+    const char *name, *marks;
+    uint32_t rims, flips;
+    const char *patched, *inside;
+};
+
+static const char six[] = "x122 x222 y212 y222 z221 z222";
+static const char ten[] = "x122 x322 y212 y222 y312 y322 z221 z222 z321 z322";
+
+static const struct example examples[] = {
+    {"example 1", "", 0, 0, "", ""},
+    {"example 2", six, 0, 0, six, "222"},
+    {"example 3", "x122 y212 y222 z221 z222", 1, 1, six, "222"},
+    {"example 4", "x222", 1, 1, "", ""},
+    {"example 5", "x011 x233", 2, 2, "", ""},
+    {"example 6", "x222 x233", 1, 2, "", ""},
+    {"example 7", "x122 x322 y212 y312 z221 z222 z321 z322", 1, 2, ten, "222 322"},
+    {"a sheet without its middle", "x211 x221 x231 x212 x232 x213 x223 x233", 2, 8, "", ""},
+    {"equal sides cut x first", "x232 y232", 1, 2, "", ""},
+    {"the cut plane rounded down", "y222 y311 z321", 1, 3, "", ""},
+    {"pairs by rising number", "y321 y331 z230", 1, 5, "x231 x331 y321 y331 z330 z331", "331"},
+    {"the earlier axis first", "z211 y211", 1, 4, "x111 x211 y201 y211 z210 z211", "211"},
+};
+
+static const uint16_t listing[24] = {21, 25, 26, 22, 21, 22, 38, 37, 21, 37, 41, 25, 22, 26, 42, 38, 25, 41, 42, 26, 37, 38, 42, 41};
+
+static int failures;
+static const char *who;
+
+static void hold(int holds, const char *example, const char *claim)
+{
+    if (holds)
+        return;
+    printf("%s: %s does not hold: %s\n", who, example, claim);
+    failures++;
+}
+
+/* Sets a grid's marks, or a sign for each point, from their names. */
+static void read_names(const char *names, uint8_t *bytes)
+{
+    memset(bytes, 0, POINTS);
+    while (*names) {
+        uint8_t value = *names == 'y' ? 2 : *names == 'z' ? 4 : 1;
+        names += *names >= 'x';
+        bytes[(names[0] - '0') + 5 * ((names[1] - '0') + 5 * (names[2] - '0'))] += value;
+        names += names[3] == ' ' ? 4 : 3;
+    }
+}
+
+static void run_example(const struct calls *calls, const struct example *e)
+{
+    uint8_t grid[POINTS], work[POINTS], signs[POINTS], patched[POINTS], inside[POINTS], none[POINTS] = {0};
+    uint16_t list[4 * MOST_QUADS];
+    uint32_t rims, flips, quads, marks = 0;
+    read_names(e->marks, grid);
+    read_names(e->patched, patched);
+    read_names(e->inside, inside);
+    for (int p = 0; p < POINTS; p++)
+        marks += (uint32_t)((patched[p] & 1) + (patched[p] >> 1 & 1) + (patched[p] >> 2));
+    memset(work, 255, POINTS);
+    memset(signs, 255, POINTS);
+    hold(calls->patch(2, grid, POINTS, work, POINTS, &rims, &flips) == 0, e->name, "patch is done");
+    hold(rims == e->rims && flips == e->flips, e->name, "rims and flips");
+    hold(!memcmp(grid, patched, POINTS) && !memcmp(work, none, POINTS), e->name, "the patched grid, work bytes 0");
+    hold(calls->sign(2, grid, POINTS, signs, POINTS) == 0 && !memcmp(signs, inside, POINTS), e->name, "the points inside");
+    hold(calls->surface(2, grid, POINTS, signs, POINTS, list, 4 * MOST_QUADS, &quads) == 0 && quads == marks, e->name, "the quads");
+    if (e->patched == six)
+        hold(!memcmp(list, listing, sizeof listing), e->name, "the six quads");
+}
+
+static void run_triangle(const struct calls *calls, const char *name, const int32_t triangle[9], uint32_t answer, const char *marks)
+{
+    uint8_t grid[POINTS], expected[POINTS];
+    read_names(marks, expected);
+    hold(calls->open(2, grid, POINTS) == 0, name, "open is done");
+    hold(calls->mark(2, grid, POINTS, triangle, 9) == answer, name, "the answer");
+    hold(!memcmp(grid, expected, POINTS), name, "the marks");
+}
+
+static void run_triangles(const struct calls *calls)
+{
+    static const int32_t square[9] = {393216, 400000, 400000, 393216, 700000, 400000, 393216, 400000, 700000};
+    static const struct {
+        int32_t at;
+        uint32_t answer;
+    } ends[] = {{262144, 0}, {262143, 4}, {786432, 0}, {786433, 4}};
+    int32_t point[9];
+    run_triangle(calls, "example 8", square, 0, "x122");
+    for (int c = 0; c < 9; c++)
+        point[c] = 524288;
+    run_triangle(calls, "example 9", point, 0, six);
+    for (int e = 0; e < 4; e++)
+        for (int c = 0; c < 9; c++) {
+            uint8_t grid[POINTS] = {0};
+            point[c] = ends[e].at;
+            hold(calls->mark(2, grid, POINTS, point, 9) == ends[e].answer, "example 10", "the ends of the range");
+            point[c] = 524288;
+        }
+}
+
+static void run_refusals(const struct calls *calls)
+{
+    uint8_t grid[POINTS], signs[POINTS], left[POINTS];
+    uint16_t list[23], kept[23];
+    uint32_t quads;
+    int32_t triangle[9] = {0, 524288, 524288, 524288, 524288, 524288, 524288, 524288, 524288};
+    hold(calls->open(1, grid, 0) == 1, "example 11", "level 1 with an empty buffer");
+    memset(grid, 0, POINTS);
+    grid[62] = 8;
+    hold(calls->mark(2, grid, POINTS, triangle, 9) == 4, "example 11", "byte 8 with a coordinate of 0");
+    triangle[0] = 524288;
+    hold(calls->mark(2, grid, POINTS, triangle, 9) == 5, "example 11", "byte 8 with the coordinate mended");
+    read_names(examples[2].marks, grid);
+    memset(signs, 9, POINTS);
+    memset(left, 9, POINTS);
+    hold(calls->sign(2, grid, POINTS, signs, POINTS) == 6 && !memcmp(signs, left, POINTS), "example 12", "sign on the grid of 3");
+    read_names(six, grid);
+    read_names("222", signs);
+    memset(list, 9, sizeof list);
+    memset(kept, 9, sizeof kept);
+    hold(calls->surface(2, grid, POINTS, signs, POINTS, list, 23, &quads) == 8 && quads == 0 && !memcmp(list, kept, sizeof kept),
+         "example 12", "surface of 2 with room for 23 numbers");
+}
+
+int failed_examples(const struct calls *calls)
+{
+    failures = 0;
+    who = calls->name;
+    for (size_t e = 0; e < sizeof examples / sizeof *examples; e++)
+        run_example(calls, &examples[e]);
+    run_triangles(calls);
+    run_refusals(calls);
+    return failures;
+}

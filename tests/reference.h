@@ -1,0 +1,26 @@
+/* A plain reference of document 01: the five calls as in include/omphirun.h, under names of its own, and the program's output. */
+#ifndef REFERENCE_H
+#define REFERENCE_H
+
+#include <stddef.h>
+#include <stdint.h>
+#include <stdio.h>
+
+uint32_t reference_open(uint32_t level, uint8_t *grid, size_t grid_len);
+uint32_t reference_mark(uint32_t level, uint8_t *grid, size_t grid_len, const int32_t *triangle, size_t triangle_len);
+uint32_t reference_patch(uint32_t level, uint8_t *grid, size_t grid_len, uint8_t *work, size_t work_len, uint32_t *rims,
+                         uint32_t *flips);
+uint32_t reference_sign(uint32_t level, const uint8_t *grid, size_t grid_len, uint8_t *signs, size_t signs_len);
+uint32_t reference_surface(uint32_t level, const uint8_t *grid, size_t grid_len, const uint8_t *signs, size_t signs_len,
+                           uint16_t *list, size_t list_len, uint32_t *quads);
+
+/* Mark once more: it looks only at the edges that reach into the triangle's bounding box. */
+uint32_t reference_mark_near(uint32_t level, uint8_t *grid, size_t grid_len, const int32_t *triangle, size_t triangle_len);
+
+/* The number of cells in the boxes of all rims of a grid, for the benchmark. */
+uint64_t reference_rim_cells(uint32_t level, const uint8_t *grid);
+
+/* Writes what the program `repair` prints for a stream. */
+void reference_repair(const uint8_t *stream, size_t stream_len, FILE *out);
+
+#endif

@@ -1,0 +1,74 @@
+/* The lattice and the grid of document 01 for the reference's own files: measures of a level, marks, faces. */
+#ifndef REFERENCE_GRID_H
+#define REFERENCE_GRID_H
+
+#include <stddef.h>
+#include <stdint.h>
+
+enum { X, Y, Z };
+enum { MOST_CELLS_A_SIDE = 32, MOST_CELLS = 32 * 32 * 32, MOST_POINTS = 33 * 33 * 33 };
+
+/* n cells a side, cell side S, P points, and by how much the number of a point rises with one step along each axis. */
+struct measures {
+    int n, s, points, step[3];
+};
+
+static inline int known_level(uint32_t level)
+{
+    return 2 <= level && level <= 5;
+}
+
+static inline struct measures measures_of(uint32_t level)
+{
+    int n = 1 << level;
+    return (struct measures){n, 1 << (20 - level), (n + 1) * (n + 1) * (n + 1), {1, n + 1, (n + 1) * (n + 1)}};
+}
+
+/* The two axes that are not the given one, in their order. */
+static inline int earlier(int axis)
+{
+    return axis == X ? Y : X;
+}
+
+static inline int later(int axis)
+{
+    return axis == Z ? Y : Z;
+}
+
+/* Whether the set holds the edge or face of this axis at point p: one byte a point, 1 for x, 2 for y, 4 for z. */
+static inline int has(const uint8_t *set, int axis, int p)
+{
+    return set[p] >> axis & 1;
+}
+
+/* The value of all edges at point (i,j,k) that exist and are inner. */
+static inline uint8_t inner_edges(int n, int i, int j, int k)
+{
+    int across_i = 0 < i && i < n, across_j = 0 < j && j < n, across_k = 0 < k && k < n;
+    return (uint8_t)((i < n && across_j && across_k) | (j < n && across_k && across_i) << 1 |
+                     (k < n && across_i && across_j) << 2);
+}
+
+/* No byte above 7, and no mark on an edge that is not inner or does not exist. */
+static inline int is_grid(const struct measures *m, const uint8_t *grid)
+{
+    const uint8_t *byte = grid;
+    for (int k = 0; k <= m->n; k++)
+        for (int j = 0; j <= m->n; j++)
+            for (int i = 0; i <= m->n; i++)
+                if (*byte++ & ~inner_edges(m->n, i, j, k))
+                    return 0;
+    return 1;
+}
+
+/* Whether the face square to an axis at point p has one or three marks; its four edges exist. */
+static inline int odd_face(const struct measures *m, const uint8_t *grid, int axis, int p)
+{
+    int b = earlier(axis), c = later(axis);
+    return (has(grid, b, p) + has(grid, b, p + m->step[c]) + has(grid, c, p) + has(grid, c, p + m->step[b])) % 2;
+}
+
+/* Adds the marks of the edges that the triangle meets; level, coordinates and grid are known to be right. */
+void reference_add_marks(const struct measures *m, uint8_t *grid, const int32_t *triangle);
+
+#endif

@@ -1,0 +1,149 @@
+/* Mark, from document 01, "Which edges a triangle meets". */
+#include "reference.h"
+#include "reference_grid.h"
+
+struct vector {
+    int64_t x, y, z;
+};
+
+struct span {
+    int64_t low, high;
+};
+
+/* One of the thirteen axes, with the triangle's span on it. */
+struct axis {
+    struct vector along;
+    struct span triangle;
+};
+
+enum { AXES = 13 };
+
+static struct vector minus(struct vector a, struct vector b)
+{
+    return (struct vector){a.x - b.x, a.y - b.y, a.z - b.z};
+}
+
+static struct vector cross(struct vector a, struct vector b)
+{
+    return (struct vector){a.y * b.z - a.z * b.y, a.z * b.x - a.x * b.z, a.x * b.y - a.y * b.x};
+}
+
+static int64_t dot(struct vector a, struct vector b)
+{
+    return a.x * b.x + a.y * b.y + a.z * b.z;
+}
+
+static struct span span_of_two(int64_t a, int64_t b)
+{
+    return a < b ? (struct span){a, b} : (struct span){b, a};
+}
+
+static struct span span_of_three(int64_t a, int64_t b, int64_t c)
+{
+    struct span s = span_of_two(a, b);
+    return (struct span){c < s.low ? c : s.low, c > s.high ? c : s.high};
+}
+
+/* The three unit vectors; N = (B-A) x (C-A); each unit vector crossed with each of B-A, C-B, A-C. */
+static void thirteen_axes(const int32_t *t, struct axis axes[AXES])
+{
+    static const struct vector unit[3] = {{1, 0, 0}, {0, 1, 0}, {0, 0, 1}};
+    struct vector a = {t[0], t[1], t[2]}, b = {t[3], t[4], t[5]}, c = {t[6], t[7], t[8]};
+    struct vector sides[3] = {minus(b, a), minus(c, b), minus(a, c)};
+    for (int u = 0; u < 3; u++)
+        axes[u].along = unit[u];
+    axes[3].along = cross(minus(b, a), minus(c, a));
+    for (int u = 0; u < 3; u++)
+        for (int side = 0; side < 3; side++)
+            axes[4 + 3 * u + side].along = cross(unit[u], sides[side]);
+    for (int d = 0; d < AXES; d++)
+        axes[d].triangle = span_of_three(dot(axes[d].along, a), dot(axes[d].along, b), dot(axes[d].along, c));
+}
+
+/* An axis separates when one span ends strictly before the other begins; an edge is met when none does. */
+static int edge_met(const struct axis axes[AXES], struct vector from, struct vector to)
+{
+    for (int d = 0; d < AXES; d++) {
+        struct span triangle = axes[d].triangle, edge = span_of_two(dot(axes[d].along, from), dot(axes[d].along, to));
+        if (edge.high < triangle.low || triangle.high < edge.low)
+            return 0;
+    }
+    return 1;
+}
+
+/* Adds the marks of those edges along an axis that are met, points `from` to `to` being their lower ends. */
+static void scan(const struct measures *m, uint8_t *grid, const struct axis axes[AXES], int axis, const int from[3],
+                 const int to[3])
+{
+    int64_t s = m->s;
+    struct vector edge = {axis == X ? s : 0, axis == Y ? s : 0, axis == Z ? s : 0};
+    for (int k = from[Z]; k <= to[Z]; k++)
+        for (int j = from[Y]; j <= to[Y]; j++)
+            for (int i = from[X]; i <= to[X]; i++) {
+                struct vector low = {i * s, j * s, k * s}, high = {low.x + edge.x, low.y + edge.y, low.z + edge.z};
+                if (edge_met(axes, low, high))
+                    grid[i * m->step[X] + j * m->step[Y] + k * m->step[Z]] |= (uint8_t)(1 << axis);
+            }
+}
+
+/* Every edge there is. */
+static void add_marks_everywhere(const struct measures *m, uint8_t *grid, const int32_t *triangle)
+{
+    struct axis axes[AXES];
+    thirteen_axes(triangle, axes);
+    for (int axis = X; axis <= Z; axis++) {
+        int from[3] = {0, 0, 0}, to[3] = {m->n, m->n, m->n};
+        to[axis]--;
+        scan(m, grid, axes, axis, from, to);
+    }
+}
+
+/* The edges that reach into the bounding box: the unit vectors separate all others. */
+void reference_add_marks(const struct measures *m, uint8_t *grid, const int32_t *triangle)
+{
+    int first[3], last[3], reached = 0;
+    for (int d = X; d <= Z; d++) {
+        struct span s = span_of_three(triangle[d], triangle[3 + d], triangle[6 + d]);
+        first[d] = (int)((s.low + m->s - 1) / m->s);
+        last[d] = (int)(s.high / m->s);
+        reached += first[d] <= last[d];
+    }
+    if (reached < 2)
+        return; /* an edge has a grid coordinate on two axes */
+    struct axis axes[AXES];
+    thirteen_axes(triangle, axes);
+    for (int axis = X; axis <= Z; axis++) {
+        first[axis]--;
+        scan(m, grid, axes, axis, first, last);
+        first[axis]++;
+    }
+}
+
+static uint32_t mark(uint32_t level, uint8_t *grid, size_t grid_len, const int32_t *triangle, size_t triangle_len,
+                     void (*add_marks)(const struct measures *, uint8_t *, const int32_t *))
+{
+    if (!known_level(level))
+        return 1;
+    struct measures m = measures_of(level);
+    if (grid_len < (size_t)m.points)
+        return 2;
+    if (triangle_len != 9)
+        return 3;
+    for (int c = 0; c < 9; c++)
+        if (triangle[c] < m.s || triangle[c] > (1 << 20) - m.s)
+            return 4;
+    if (!is_grid(&m, grid))
+        return 5;
+    add_marks(&m, grid, triangle);
+    return 0;
+}
+
+uint32_t reference_mark(uint32_t level, uint8_t *grid, size_t grid_len, const int32_t *triangle, size_t triangle_len)
+{
+    return mark(level, grid, grid_len, triangle, triangle_len, add_marks_everywhere);
+}
+
+uint32_t reference_mark_near(uint32_t level, uint8_t *grid, size_t grid_len, const int32_t *triangle, size_t triangle_len)
+{
+    return mark(level, grid, grid_len, triangle, triangle_len, reference_add_marks);
+}

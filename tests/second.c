@@ -1,0 +1,13 @@
+/* The reference a second time, under the library's names: it stands in for the library where the harness itself is tested. */
+#define reference_open omphirun_open
+#define reference_mark omphirun_mark
+#define reference_patch omphirun_patch
+#define reference_sign omphirun_sign
+#define reference_surface omphirun_surface
+#define reference_mark_near second_mark_near
+#define reference_add_marks second_add_marks
+#define reference_rim_cells second_rim_cells
+
+#include "reference.c"
+#include "reference_mark.c"
+#include "reference_patch.c"

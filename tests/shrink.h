@@ -1,0 +1,13 @@
+/* From an input on which the two sides differ to a smaller one, and its printing. */
+#ifndef SHRINK_H
+#define SHRINK_H
+
+#include "inputs.h"
+
+/* Makes the input as small as greedy steps get it within a few seconds, such that the sides still differ. */
+void shrink(struct input *input);
+
+/* Prints an input so that a person can rebuild it. */
+void print_input(const struct input *input);
+
+#endif
