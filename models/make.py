@@ -1,0 +1,213 @@
+#!/usr/bin/env python3
+"""Makes the sample models: streams for `repair`, each with a truth that tests/models.py holds its repair to.
+
+A stream is one level byte, then nine little-endian i32 a triangle. Shapes are given in cells of the level and put on the
+lattice at the end. Walls are more than one and a half cells thick: thinner ones do not survive on so few cells.
+
+usage: models/make.py [FOLDER]                          writes every model into the folder (this one when none is given)
+       models/make.py --lampshade TRIANGLES LEVEL FILE  writes a whole lampshade of about so many triangles
+"""
+import math
+import os
+import random
+import struct
+import sys
+
+MIDDLE = 16.0  # the middle of the grid in cells at level 5
+
+
+def lattice(level, triangles):
+    """The stream of a model: corners in cells become whole numbers."""
+    side = 1 << (20 - level)
+    stream = bytearray([level])
+    for triangle in triangles:
+        stream += struct.pack("<9i", *(round(c * side) for corner in triangle for c in corner))
+    return bytes(stream)
+
+
+def quad(a, b, c, d):
+    """Two triangles, none where corners coincide."""
+    return [t for t in ((a, b, c), (a, c, d)) if len(set(t)) == 3]
+
+
+def turned(profile, segments, scale=1.0):
+    """The closed profile of (radius, height) corners, turned about the upright line through the middle."""
+    def corner(radius, height, segment):
+        angle = 2 * math.pi * ((segment % segments) + 0.5) / segments
+        at = (MIDDLE + radius * math.cos(angle), MIDDLE + radius * math.sin(angle), height) if radius else (MIDDLE, MIDDLE, height)
+        return tuple(scale * c for c in at)
+    triangles = []
+    for (r, h), (s, g) in zip(profile, profile[1:] + profile[:1]):
+        for segment in range(segments):
+            if r or s:
+                triangles += quad(corner(r, h, segment), corner(r, h, segment + 1), corner(s, g, segment + 1), corner(s, g, segment))
+    return triangles
+
+
+def steps(start, end, many):
+    """The corners from start up to end, which is not among them."""
+    return [tuple(a + (b - a) * n / many for a, b in zip(start, end)) for n in range(many)]
+
+
+def arc(radius, height, start, end, many):
+    """Corners on a circle about (0, height), from one angle to another, both among them."""
+    angles = [start + (end - start) * n / many for n in range(many + 1)]
+    return [(radius * math.cos(a) if abs(math.cos(a)) > 1e-9 else 0.0, height + radius * math.sin(a)) for a in angles]
+
+
+def box(low, high):
+    """The twelve triangles of a box."""
+    def corner(*upper):
+        return tuple(h if u else l for u, l, h in zip(upper, low, high))
+    sides = [((0, 0, 0), (0, 0, 1), (0, 1, 1), (0, 1, 0)), ((1, 0, 0), (1, 1, 0), (1, 1, 1), (1, 0, 1)),
+             ((0, 0, 0), (1, 0, 0), (1, 0, 1), (0, 0, 1)), ((0, 1, 0), (0, 1, 1), (1, 1, 1), (1, 1, 0)),
+             ((0, 0, 0), (0, 1, 0), (1, 1, 0), (1, 0, 0)), ((0, 0, 1), (1, 0, 1), (1, 1, 1), (0, 1, 1))]
+    return [t for side in sides for t in quad(*(corner(*c) for c in side))]
+
+
+def centre(triangle):
+    return tuple(sum(c) / 3 for c in zip(*triangle))
+
+
+def from_middle(p, height=MIDDLE):
+    return math.dist(p, (MIDDLE, MIDDLE, height))
+
+
+# Each depth below says how far a place lies under the true surface, in cells; below 0 it lies outside.
+
+FOOT, TOP, WALL = (13.0, 5.2), (8.0, 26.8), 2.5
+
+
+def lampshade_triangles(segments, rings):
+    foot, top = FOOT, TOP
+    inner_foot, inner_top = (foot[0] - WALL, foot[1]), (top[0] - WALL, top[1])
+    return turned(steps(foot, top, rings) + [top] + steps(inner_top, inner_foot, rings) + [inner_foot], segments)
+
+
+def lampshade_depth(p):
+    radius, share = math.hypot(p[0] - MIDDLE, p[1] - MIDDLE), (p[2] - FOOT[1]) / (TOP[1] - FOOT[1])
+    outer, upright = FOOT[0] + (TOP[0] - FOOT[0]) * share, TOP[1] - FOOT[1]
+    slant = upright / math.hypot(upright, FOOT[0] - TOP[0])
+    return min((outer - radius) * slant, (radius - outer + WALL) * slant, p[2] - FOOT[1], TOP[1] - p[2])
+
+
+def lampshade_hollow(p):
+    """The open room that the wall surrounds, away from the wall and from both openings."""
+    radius, share = math.hypot(p[0] - MIDDLE, p[1] - MIDDLE), (p[2] - FOOT[1]) / (TOP[1] - FOOT[1])
+    return FOOT[1] + 1 < p[2] < TOP[1] - 1 and radius < FOOT[0] + (TOP[0] - FOOT[0]) * share - WALL - 1
+
+
+def lampshade():
+    """One triangle of the outer wall is missing, on the side that a ray along x comes from."""
+    triangles = lampshade_triangles(32, 6)
+    gap = min(triangles, key=lambda t: math.dist(centre(t), (MIDDLE - 10.5, MIDDLE, 16)))
+    triangles.remove(gap)
+    return triangles
+
+
+BOWL, RIM = 13.5, 22.3
+
+
+def bowl():
+    """A half ball of wall, open at the top; five triangles are missing."""
+    outer, inner = arc(BOWL, RIM, -math.pi / 2, 0, 8), arc(BOWL - 3, RIM, 0, -math.pi / 2, 8)
+    triangles = turned(outer + inner, 32)
+    for gap in random.Random(5).sample(range(len(triangles)), 5):
+        triangles[gap] = None
+    return [t for t in triangles if t]
+
+
+def bowl_depth(p):
+    radius = from_middle(p, RIM)
+    return min(BOWL - radius, radius - BOWL + 3, RIM - p[2])
+
+
+BALL, GAP = 12.0, math.cos(math.radians(30))
+
+
+def sphere(segments, rings, radius):
+    return turned(arc(radius, MIDDLE, -math.pi / 2, math.pi / 2, rings), segments)
+
+
+def sphere_with_hole():
+    """Everything within 30 degrees of the direction against x is missing."""
+    return [t for t in sphere(32, 16, BALL) if (MIDDLE - centre(t)[0]) / from_middle(centre(t)) < GAP]
+
+
+def sphere_with_hole_depth(p):
+    """Where the hole was there is no truth: any skin over it will do."""
+    return 0.0 if MIDDLE - p[0] > BALL * GAP - 2 else BALL - from_middle(p)
+
+
+def soup():
+    """A ball whose triangles lie a little apart, and a third of them are missing."""
+    draw = random.Random(6)
+    triangles = draw.sample(sphere(48, 24, BALL), k=len(sphere(48, 24, BALL)) * 2 // 3)
+    return [tuple(tuple(c + draw.uniform(-0.03, 0.03) for c in corner) for corner in t) for t in triangles]
+
+
+def soup_depth(p):
+    """Near the skin so much is missing that only what lies one and a half cells further off is known."""
+    depth = BALL - from_middle(p)
+    return math.copysign(max(abs(depth) - 1.5, 0), depth)
+
+
+ROOM = ((5.3, 5.4, 5.3), (26.7, 24.6, 22.7))
+
+
+def box_depth(p, low, high):
+    return min(min(c - l, h - c) for c, l, h in zip(p, low, high))
+
+
+def box_with_membrane():
+    """A sheet across the inside from wall to wall: it bounds nothing and has to go."""
+    (_, y, z), (_, t, u) = ROOM
+    return box(*ROOM) + quad((15.4, y, z), (15.4, t, z), (15.4, t, u), (15.4, y, u))
+
+
+ONE, TWO = ((4.3, 4.4, 4.3), (18.6, 17.7, 16.6)), ((11.4, 10.3, 8.4), (27.3, 26.4, 25.3))
+
+
+def overlapping_boxes():
+    """Inside and outside are taken by parity: what lies in both boxes becomes hollow."""
+    return box(*ONE) + box(*TWO)
+
+
+def overlapping_boxes_depth(p):
+    one, two = box_depth(p, *ONE), box_depth(p, *TWO)
+    return min(abs(one), abs(two)) * (1 if (one > 0) != (two > 0) else -1)
+
+
+# Name: level, triangles, depth.
+MODELS = {
+    "lampshade": (5, lampshade, lampshade_depth),
+    "bowl": (5, bowl, bowl_depth),
+    "sphere_with_hole": (5, sphere_with_hole, sphere_with_hole_depth),
+    "soup": (5, soup, soup_depth),
+    "box_with_membrane": (5, box_with_membrane, lambda p: box_depth(p, *ROOM)),
+    "overlapping_boxes": (5, overlapping_boxes, overlapping_boxes_depth),
+}
+
+
+def write(path, level, triangles):
+    with open(path, "wb") as file:
+        file.write(lattice(level, triangles))
+
+
+def main(words):
+    if len(words) == 4 and words[0] == "--lampshade" and words[1].isdigit() and words[2] in ("2", "3", "4", "5"):
+        rings = max(1, round(math.sqrt(int(words[1]) / 16)))
+        segments = max(3, int(words[1]) // (4 * rings + 4))
+        shrunk = 2.0 ** (int(words[2]) - 5)
+        triangles = [tuple(tuple(c * shrunk for c in corner) for corner in t) for t in lampshade_triangles(segments, rings)]
+        write(words[3], int(words[2]), triangles)
+    elif not words or (len(words) == 1 and os.path.isdir(words[0])):
+        folder = words[0] if words else os.path.dirname(os.path.abspath(__file__))
+        for name, (level, make, _) in MODELS.items():
+            write(os.path.join(folder, name + ".bin"), level, make())
+    else:
+        sys.exit("usage: models/make.py [FOLDER] | --lampshade TRIANGLES LEVEL FILE")
+
+
+if __name__ == "__main__":
+    main(sys.argv[1:])
