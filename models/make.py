@@ -30,12 +30,11 @@ def quad(a, b, c, d):
     return [t for t in ((a, b, c), (a, c, d)) if len(set(t)) == 3]
 
 
-def turned(profile, segments, scale=1.0):
+def turned(profile, segments):
     """The closed profile of (radius, height) corners, turned about the upright line through the middle."""
     def corner(radius, height, segment):
         angle = 2 * math.pi * ((segment % segments) + 0.5) / segments
-        at = (MIDDLE + radius * math.cos(angle), MIDDLE + radius * math.sin(angle), height) if radius else (MIDDLE, MIDDLE, height)
-        return tuple(scale * c for c in at)
+        return (MIDDLE + radius * math.cos(angle), MIDDLE + radius * math.sin(angle), height)
     triangles = []
     for (r, h), (s, g) in zip(profile, profile[1:] + profile[:1]):
         for segment in range(segments):
@@ -82,6 +81,16 @@ def lampshade_triangles(segments, rings):
     foot, top = FOOT, TOP
     inner_foot, inner_top = (foot[0] - WALL, foot[1]), (top[0] - WALL, top[1])
     return turned(steps(foot, top, rings) + [top] + steps(inner_top, inner_foot, rings) + [inner_foot], segments)
+
+
+def fitted_lampshade(many, level):
+    """A whole lampshade of about so many triangles, as large as the level's range allows."""
+    rings = max(1, round(math.sqrt(many / 16)))
+    half = 2 ** level / 2
+    scale = min(half / MIDDLE, 0.999 * (half - 1) / FOOT[0])
+    def place(corner):
+        return tuple(half + scale * (c - MIDDLE) for c in corner)
+    return [tuple(map(place, t)) for t in lampshade_triangles(max(3, many // (4 * rings + 4)), rings)]
 
 
 def lampshade_depth(p):
@@ -196,11 +205,7 @@ def write(path, level, triangles):
 
 def main(words):
     if len(words) == 4 and words[0] == "--lampshade" and words[1].isdigit() and words[2] in ("2", "3", "4", "5"):
-        rings = max(1, round(math.sqrt(int(words[1]) / 16)))
-        segments = max(3, int(words[1]) // (4 * rings + 4))
-        shrunk = 2.0 ** (int(words[2]) - 5)
-        triangles = [tuple(tuple(c * shrunk for c in corner) for corner in t) for t in lampshade_triangles(segments, rings)]
-        write(words[3], int(words[2]), triangles)
+        write(words[3], int(words[2]), fitted_lampshade(int(words[1]), int(words[2])))
     elif not words or (len(words) == 1 and os.path.isdir(words[0])):
         folder = words[0] if words else os.path.dirname(os.path.abspath(__file__))
         for name, (level, make, _) in MODELS.items():

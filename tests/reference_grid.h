@@ -44,9 +44,9 @@ static inline int has(const uint8_t *set, int axis, int p)
 /* The value of all edges at point (i,j,k) that exist and are inner. */
 static inline uint8_t inner_edges(int n, int i, int j, int k)
 {
-    int across_i = 0 < i && i < n, across_j = 0 < j && j < n, across_k = 0 < k && k < n;
-    return (uint8_t)((i < n && across_j && across_k) | (j < n && across_k && across_i) << 1 |
-                     (k < n && across_i && across_j) << 2);
+    int across_i = (0 < i) & (i < n), across_j = (0 < j) & (j < n), across_k = (0 < k) & (k < n);
+    return (uint8_t)(((i < n) & across_j & across_k) | ((j < n) & across_k & across_i) << 1 |
+                     ((k < n) & across_i & across_j) << 2);
 }
 
 /* No byte above 7, and no mark on an edge that is not inner or does not exist. */
@@ -65,7 +65,7 @@ static inline int is_grid(const struct measures *m, const uint8_t *grid)
 static inline int odd_face(const struct measures *m, const uint8_t *grid, int axis, int p)
 {
     int b = earlier(axis), c = later(axis);
-    return (has(grid, b, p) + has(grid, b, p + m->step[c]) + has(grid, c, p) + has(grid, c, p + m->step[b])) % 2;
+    return has(grid, b, p) ^ has(grid, b, p + m->step[c]) ^ has(grid, c, p) ^ has(grid, c, p + m->step[b]);
 }
 
 /* Adds the marks of the edges that the triangle meets; level, coordinates and grid are known to be right. */

@@ -1,0 +1,192 @@
+/* Times each call of the library beside the reference on the same inputs, round by round in turn; the best round counts. */
+#define _GNU_SOURCE
+#include <inttypes.h>
+#include <stdio.h>
+#include <stdlib.h>
+#include <string.h>
+#include <time.h>
+
+#include "../tests/calls.h"
+#include "../tests/reference.h"
+#include "hostile.h"
+
+enum { LIST_ROOM = 4 * 3 * 31 * 31 * 32, MOST_TIMED = 1000, LEAST_ROUNDS = 5, MOST_ROUNDS = 400 };
+
+static const double seconds_a_row = 0.4;
+
+/* What a row is measured on. */
+static uint32_t level;
+static struct measures m;
+static uint8_t came[MOST_POINTS], grid[MOST_POINTS], other[MOST_POINTS];
+static uint16_t list[LIST_ROOM];
+static int32_t triangles[MOST_TIMED][9];
+static int triangle_count;
+static uint32_t counts[2];
+
+typedef void job(const struct calls *calls);
+
+static void hold(uint32_t answer)
+{
+    if (answer) {
+        fprintf(stderr, "bench: a call answered %u\n", answer);
+        exit(2);
+    }
+}
+
+static double now(void)
+{
+    struct timespec t;
+    clock_gettime(CLOCK_MONOTONIC, &t);
+    return (double)t.tv_sec + 1e-9 * (double)t.tv_nsec;
+}
+
+static void restore(const struct calls *calls)
+{
+    (void)calls;
+    memcpy(grid, came, sizeof grid);
+}
+
+static void run_open(const struct calls *calls)
+{
+    hold(calls->open(level, grid, sizeof grid));
+}
+
+static void run_mark(const struct calls *calls)
+{
+    for (int t = 0; t < triangle_count; t++)
+        hold(calls->mark(level, grid, sizeof grid, triangles[t], 9));
+}
+
+static void run_patch(const struct calls *calls)
+{
+    hold(calls->patch(level, grid, sizeof grid, other, sizeof other, &counts[0], &counts[1]));
+}
+
+static void run_sign(const struct calls *calls)
+{
+    hold(calls->sign(level, grid, sizeof grid, other, sizeof other));
+}
+
+static void run_surface(const struct calls *calls)
+{
+    hold(calls->surface(level, grid, sizeof grid, other, sizeof other, list, LIST_ROOM, &counts[0]));
+}
+
+/* Prints one row: microseconds a call of either side, and the ratio. Answers the library's. */
+static double row(const char *name, const char *input, job *run, int calls_a_run)
+{
+    struct calls sides[2] = {the_library, the_reference};
+    double best[2] = {1e9, 1e9}, end = now() + seconds_a_row;
+    int runs = 1, round;
+    sides[1].mark = reference_mark_near;
+    for (round = 0; round < LEAST_ROUNDS || (round < MOST_ROUNDS && now() < end); round++)
+        for (int side = 0; side < 2; side++) {
+            restore(NULL);
+            double start = now();
+            for (int n = 0; n < runs; n++)
+                run(&sides[side]);
+            double took = (now() - start) / runs;
+            if (took < best[side])
+                best[side] = took;
+            if (took * runs < 1e-4 && run != run_patch) /* too short for the clock; patch has to begin anew each time */
+                runs *= 4;
+        }
+    double library = 1e6 * best[0] / calls_a_run, reference = 1e6 * best[1] / calls_a_run;
+    printf("%-8s %-34s %5u %12.2f %12.2f %7.2f", name, input, level, library, reference, library / reference);
+    return library;
+}
+
+/* Open, then what patch, sign and surface do with the grid in `came`. */
+static void time_grid(const char *input)
+{
+    uint64_t cells = reference_rim_cells(level, came);
+    double patch = row("patch", input, run_patch, 1);
+    printf("   %u rims, %u flips", counts[0], counts[1]);
+    if (cells)
+        printf(", %" PRIu64 " cells in their boxes, %.4f us a cell", cells, patch / (double)cells);
+    printf("\n");
+    memcpy(came, grid, sizeof came);
+    row("sign", input, run_sign, 1);
+    printf("\n");
+    row("surface", input, run_surface, 1);
+    printf("   %u quads\n", counts[0]);
+}
+
+static void set_level(uint32_t to)
+{
+    level = to;
+    m = measures_of(level);
+    memset(came, 0, sizeof came);
+    memset(other, 0, sizeof other);
+}
+
+static void time_mark(const char *input)
+{
+    row("mark", input, run_mark, triangle_count);
+    printf("   %d triangles\n", triangle_count);
+}
+
+/* A stream of the program: mark with its first triangles, the rest with all of them. */
+static void time_stream(const char *path)
+{
+    uint8_t bytes[36];
+    const char *name = strrchr(path, '/') ? strrchr(path, '/') + 1 : path;
+    char input[100];
+    FILE *file = fopen(path, "rb");
+    if (!file || fread(bytes, 1, 1, file) != 1 || !known_level(bytes[0])) {
+        fprintf(stderr, "bench: %s is no stream\n", path);
+        exit(2);
+    }
+    snprintf(input, sizeof input, "%.*s", (int)strcspn(name, "."), name);
+    for (char *c = input; *c; c++)
+        *c = *c == '_' ? ' ' : *c;
+    set_level(bytes[0]);
+    triangle_count = 0;
+    while (fread(bytes, 1, 36, file) == 36) {
+        int32_t triangle[9];
+        for (int c = 0; c < 9; c++)
+            triangle[c] = (int32_t)(bytes[4 * c] | bytes[4 * c + 1] << 8 | bytes[4 * c + 2] << 16 | (uint32_t)bytes[4 * c + 3] << 24);
+        if (triangle_count < MOST_TIMED)
+            memcpy(triangles[triangle_count++], triangle, sizeof triangle);
+        hold(reference_mark_near(level, came, sizeof came, triangle, 9));
+    }
+    fclose(file);
+    time_mark(input);
+    time_grid(input);
+}
+
+static void time_triangle(const char *input, const int32_t corners[9])
+{
+    set_level(5);
+    triangle_count = 1;
+    memcpy(triangles[0], corners, sizeof triangles[0]);
+    time_mark(input);
+}
+
+int main(int argc, char **argv)
+{
+    static const int32_t whole[9] = {32768, 32768, 32768, 1015808, 1015808, 40000, 50000, 1015808, 1015808};
+    static const int32_t plane[9] = {524288, 32768, 32768, 524288, 1015808, 32768, 524288, 32768, 1015808};
+    static const int32_t needle[9] = {32768, 32768, 32768, 1015808, 1015808, 1015808, 1015808, 1015808, 1015808};
+    static const int32_t point[9] = {524288, 524288, 524288, 524288, 524288, 524288, 524288, 524288, 524288};
+    setvbuf(stdout, NULL, _IOLBF, 0);
+    printf("%-8s %-34s %5s %12s %12s %7s\n", "call", "input", "level", "library us", "reference us", "ratio");
+    for (uint32_t l = 2; l <= 5; l++) {
+        set_level(l);
+        row("open", "", run_open, 1);
+        printf("\n");
+    }
+    time_triangle("a triangle through the whole grid", whole);
+    time_triangle("a triangle on a grid plane", plane);
+    time_triangle("a needle from corner to corner", needle);
+    time_triangle("a point on a grid point", point);
+    for (int a = 1; a < argc; a++)
+        time_stream(argv[a]);
+    for (int h = 0; h < hostile_count; h++)
+        for (uint32_t l = h == 0 ? 2 : 5; l <= 5; l++) {
+            set_level(l);
+            hostile_grids[h].make(&m, came);
+            time_grid(hostile_grids[h].name);
+        }
+    return 0;
+}
