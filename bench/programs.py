@@ -37,11 +37,11 @@ def main(words):
     if len(words) < 3:
         sys.exit('usage: bench/programs.py "REPAIR COMMAND" "REFERENCE COMMAND" STREAM...')
     commands = [shlex.split(words[0]), shlex.split(words[1])]
-    print(f"{'program on':<34} {'library ms':>11} {'reference ms':>12} {'ratio':>7}")
+    print(f"{'program on':<34} {'repair ms':>11} {'reference ms':>12} {'ratio':>7}")
     for stream in words[2:]:
-        (library, reference), first = time_stream(commands, stream)
+        (repair, reference), first = time_stream(commands, stream)
         name = os.path.basename(stream).split(".")[0].replace("_", " ")
-        print(f"{name:<34} {1e3 * library:11.2f} {1e3 * reference:12.2f} {library / reference:7.2f}   {first}", flush=True)
+        print(f"{name:<34} {1e3 * repair:11.2f} {1e3 * reference:12.2f} {repair / reference:7.2f}   {first}", flush=True)
 
 
 if __name__ == "__main__":

@@ -151,8 +151,9 @@ def sphere_with_hole_depth(p):
 def soup():
     """A ball whose triangles lie a little apart, and a third of them are missing."""
     draw = random.Random(6)
-    triangles = draw.sample(sphere(48, 24, BALL), k=len(sphere(48, 24, BALL)) * 2 // 3)
-    return [tuple(tuple(c + draw.uniform(-0.03, 0.03) for c in corner) for corner in t) for t in triangles]
+    whole = sphere(48, 24, BALL)
+    left = draw.sample(whole, k=len(whole) * 2 // 3)
+    return [tuple(tuple(c + draw.uniform(-0.03, 0.03) for c in corner) for corner in t) for t in left]
 
 
 def soup_depth(p):

@@ -71,13 +71,13 @@ static int near_differs(const struct input *in)
            memcmp(everywhere, near, in->grid_len);
 }
 
-static void report(uint64_t number, struct input *in, const char *what)
+static void report(uint64_t number, struct input *in, const struct outcome *reference, const char *what)
 {
-    static struct outcome ignored;
+    struct outcome again;
     char smallest[200];
     printf("difference at call %" PRIu64 ": %s\n", number, what);
-    shrink(in);
-    if (differs(in, &ignored, smallest, sizeof smallest))
+    shrink(in, reference->answer);
+    if (differs(in, &again, smallest, sizeof smallest))
         printf("smallest input found: %s\n", smallest);
     print_input(in);
 }
@@ -119,7 +119,7 @@ int main(int argc, char **argv)
         make_input(&r, &in);
         if (differs(&in, &out, what, sizeof what)) {
             differences++;
-            report(made, &in, what);
+            report(made, &in, &out, what);
         }
         if (in.call == MARK && in.level < 5 && near_differs(&in)) {
             differences++;

@@ -38,10 +38,8 @@ static const char *who;
 
 static void hold(int holds, const char *example, const char *claim)
 {
-    if (holds)
-        return;
-    printf("%s: %s does not hold: %s\n", who, example, claim);
-    failures++;
+    if (!holds && failures++ < 10)
+        printf("%s: %s does not hold: %s\n", who, example, claim);
 }
 
 /* Sets a grid's marks, or a sign for each point, from their names. */

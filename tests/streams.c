@@ -116,7 +116,7 @@ static void coordinates(void)
     for (uint32_t level = 2; level <= 5; level++) {
         struct measures m = measures_of(level);
         int32_t ends[] = {m.s, m.s - 1, (1 << 20) - m.s, (1 << 20) - m.s + 1};
-        for (int c = 0; c < 9; c++)
+        for (int c = (int)level % 4; c < 9; c += 4)
             for (int e = 0; e < 4; e++) {
                 begin("level_%u_coordinate_%d_is_%d", level, c, ends[e]);
                 put_byte(level);
