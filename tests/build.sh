@@ -17,8 +17,8 @@ install() { # PACKAGE MISSING
     command -v apt-get >/dev/null 2>&1 || die "$2 is missing: install it (Debian's package $1)"
     [ "$(id -u)" = 0 ] || die "$2 is missing: run 'apt-get install $1' as root"
     say "installing Debian's package $1 for $2"
-    { apt-get install -y --no-install-recommends "$1" || { apt-get update && apt-get install -y --no-install-recommends "$1"; }; } >/dev/null 2>&1 ||
-        die "apt-get could not install $1"
+    get="apt-get install -y --no-install-recommends $1"
+    { $get || { apt-get update && $get; }; } >/dev/null 2>&1 || die "apt-get could not install $1"
 }
 
 need() { command -v "$1" >/dev/null 2>&1 || install "$2" "$1"; } # COMMAND PACKAGE
@@ -75,7 +75,8 @@ find_library() { # FILE or nothing
     find_kit
     library=$root/target/staticlib/libstage.a
     if [ -f "$library" ] && [ -z "$(find "$root/crates" "$root/crates.txt" -newer "$library" | head -n 1)" ]; then return 0; fi
-    (cd "$root" && rt staticlib stage) >"$work/staticlib.log" 2>&1 || die "rt staticlib stage failed: see target/tests/staticlib.log"
+    (cd "$root" && rt staticlib stage) >"$work/staticlib.log" 2>&1 ||
+        die "rt staticlib stage failed: see target/tests/staticlib.log"
 }
 
 # Runs a program that was linked above.

@@ -31,7 +31,8 @@ static const struct example examples[] = {
     {"the earlier axis first", "z211 y211", 1, 4, "x111 x211 y201 y211 z210 z211", "211"},
 };
 
-static const uint16_t listing[24] = {21, 25, 26, 22, 21, 22, 38, 37, 21, 37, 41, 25, 22, 26, 42, 38, 25, 41, 42, 26, 37, 38, 42, 41};
+static const uint16_t listing[24] = {21, 25, 26, 22, 21, 22, 38, 37, 21, 37, 41, 25,
+                                     22, 26, 42, 38, 25, 41, 42, 26, 37, 38, 42, 41};
 
 static int failures;
 static const char *who;
