@@ -26,10 +26,14 @@ struct side {
 
 static struct side library = {.calls = &the_library}, reference = {.calls = &the_reference};
 static sigjmp_buf out_of_call;
+static volatile sig_atomic_t in_call;
 
 static void leave_call(int signal_number)
 {
-    siglongjmp(out_of_call, signal_number);
+    static const char outside[] = "compare: ended by a signal while the examples ran or an input was made\n";
+    if (in_call)
+        siglongjmp(out_of_call, signal_number);
+    _exit(write(STDERR_FILENO, outside, sizeof outside - 1) < 0 ? 2 : 1);
 }
 
 static void map_side(struct side *side)
@@ -91,10 +95,12 @@ static struct outcome run(struct side *side, const struct input *in)
     lend(side, LIST, in->list, in->list_len * sizeof *in->list);
     out.died = sigsetjmp(out_of_call, 0);
     if (!out.died) {
+        in_call = 1;
         alarm(SECONDS_A_CALL);
         out.answer = make_call(side, in, out.counts);
     }
     alarm(0);
+    in_call = 0;
     return out;
 }
 
