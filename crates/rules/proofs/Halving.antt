@@ -9,7 +9,7 @@ use lib.Dec.{leb}
 use Rattle.rules.specs.Lists.{_⊕_, All}
 use Rattle.rules.specs.Lattice.{earlier, later, sameAxis, coord, Set, setOf, symdiff, faceIn, edgeIn, Axis, X, Y, Z, Point, Place, Box}
 use Rattle.rules.specs.Cell.{oddFace, oddCell}
-use Rattle.rules.specs.Patch.{side, oneCell, longest, middle, lower, upper, cut, halve, patch, size}
+use Rattle.rules.specs.Patch.{side, oneCell, asLong, longer, longest, middle, lower, upper, cut, halve, patch, size}
 use Rattle.rules.proofs.Bits.{⊕-false, ⊕-self, ⊕-left, leb-yes, Bounds, and-left, and-right, both, leb→, is-false}
 use Rattle.rules.proofs.Lists.{all-append, all-weaken}
 use Rattle.rules.proofs.Oddness.{oddFace-append}
@@ -50,28 +50,23 @@ small b W h a p = is-false _ (λ e. go a (face-frame→ b a a p (and-left (faceI
     go Y k l = omega arith
     go Z k l = omega arith
 
--- the longest side
-longest-all : (b : Box) (d : Axis) → side b d ≤ side b (longest b)
-longest-all b d =
-    go (leb (side b Y) (side b X)) refl (leb (side b Z) (side b X)) refl (leb (side b Z) (side b Y)) refl d
+-- the longer of two sides is as long as either
+longer-most : (b : Box) (a c : Axis) → (side b a ≤ side b (longer b a c)) × (side b c ≤ side b (longer b a c))
+longer-most b a c = go (asLong b a c) refl
   where
-    no : (m n : ℕ) → leb m n ≡ false → n < m
-    no m n e = leb-false→ m n e
+    go : (t : Bool) → asLong b a c ≡ t → (side b a ≤ side b (cond t a c)) × (side b c ≤ side b (cond t a c))
+    go true e = omega (arith, leb→)
+    go false e = omega (arith, leb-false→)
 
-    go : (p : Bool) → leb (side b Y) (side b X) ≡ p → (q : Bool) → leb (side b Z) (side b X) ≡ q → (r : Bool) → leb (side b Z) (side b Y) ≡ r →
-        (d : Axis) → side b d ≤ side b (cond p (cond q X Z) (cond r Y Z))
-    go true e true f r g X = omega arith
-    go true e true f r g Y = omega (arith, leb→ (side b Y) (side b X) e)
-    go true e true f r g Z = omega (arith, leb→ (side b Z) (side b X) f)
-    go true e false f r g X = omega (arith, leb-false→ (side b Z) (side b X) f)
-    go true e false f r g Y = omega (arith, leb→ (side b Y) (side b X) e, leb-false→ (side b Z) (side b X) f)
-    go true e false f r g Z = omega arith
-    go false e q f true g X = omega (arith, leb-false→ (side b Y) (side b X) e)
-    go false e q f true g Y = omega arith
-    go false e q f true g Z = omega (arith, leb→ (side b Z) (side b Y) g)
-    go false e q f false g X = omega (arith, leb-false→ (side b Y) (side b X) e, leb-false→ (side b Z) (side b Y) g)
-    go false e q f false g Y = omega (arith, leb-false→ (side b Z) (side b Y) g)
-    go false e q f false g Z = omega arith
+-- the longest side is as long as any
+longest-all : (b : Box) (d : Axis) → side b d ≤ side b (longest b)
+longest-all b d = go d (longer-most b X Y) (longer-most b (longer b X Y) Z)
+  where
+    go : (d : Axis) → (side b X ≤ side b (longer b X Y)) × (side b Y ≤ side b (longer b X Y)) →
+        (side b (longer b X Y) ≤ side b (longest b)) × (side b Z ≤ side b (longest b)) → side b d ≤ side b (longest b)
+    go X h k = omega arith
+    go Y h k = omega arith
+    go Z h k = omega arith
 
 -- the plane of the cut lies within the box
 pub middle-in : (b : Box) → oneCell b ≡ false → Bounds (suc (coord (longest b) (b .lo))) (coord (longest b) (b .hi)) (middle b (longest b))

@@ -27,4 +27,3 @@ pub mod GridRims
 pub mod Consistent
 pub mod Condition
 pub mod Again
-pub mod Examples

@@ -7,3 +7,4 @@ pub mod Patch
 pub mod Signs
 pub mod Quads
 pub mod Condition
+pub mod Examples

@@ -16,10 +16,17 @@ side b a = coord a (b .hi) - coord a (b .lo)
 abbrev pub oneCell : Box → Bool
 oneCell b = leb (side b X) 1 && (leb (side b Y) 1 && leb (side b Z) 1)
 
+-- side a is as long as side c, or longer
+abbrev pub asLong : Box → Axis → Axis → Bool
+asLong b a c = leb (side b c) (side b a)
+
+-- of two sides the longer, the first when equal
+abbrev pub longer : Box → Axis → Axis → Axis
+longer b a c = cond (asLong b a c) a c
+
 -- the longest side is cut, x before y before z when equal
 abbrev pub longest : Box → Axis
-longest b =
-    cond (leb (side b Y) (side b X)) (cond (leb (side b Z) (side b X)) X Z) (cond (leb (side b Z) (side b Y)) Y Z)
+longest b = longer b (longer b X Y) Z
 
 -- a side of length l beginning at cell a is cut at plane m = a + floor(l/2)
 abbrev pub middle : Box → Axis → ℕ
@@ -31,11 +38,13 @@ lower b a m = record { lo = b .lo; hi = withCoord a m (b .hi) }
 abbrev pub upper : Box → Axis → ℕ → Box
 upper b a m = record { lo = withCoord a m (b .lo); hi = b .hi }
 
+-- the box's coordinates on an axis
+abbrev pub extent : Box → Axis → List ℕ
+extent b a = upto (coord a (b .lo)) (side b a)
+
 -- the spots of a plane square to a within the box, by rising point number
 abbrev pub plane : Box → Axis → List Spot
-plane b a =
-    each (λ v. map (λ u. record { u = u; v = v }) (upto (coord (earlier a) (b .lo)) (side b (earlier a))))
-    (upto (coord (later a) (b .lo)) (side b (later a)))
+plane b a = each (λ v. map (λ u. record { u = u; v = v }) (extent b (earlier a))) (extent b (later a))
 
 -- a working face in plane m
 abbrev pub inPlane : Set → Axis → ℕ → Spot → Bool

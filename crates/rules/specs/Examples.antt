@@ -1,5 +1,5 @@
--- Examples 1 to 7 of the rules, and four more that pin the tie between sides, the rounding of the cut, the pairing and the path's
--- order: one table and one claim, proved by computing the definitions. Assumes nothing.
+-- Examples 1 to 7 of the rules, and five more that pin the tie between sides, the rounding of the cut, the pairing, the path's order
+-- and the count of flips: one table and one claim, proved by computing the definitions. Assumes nothing.
 use mathlib.Core.Path.{_≡_, refl}
 use mathlib.Core.Bool.{Bool, true, _&&_, Bool·beq}
 use mathlib.Core.List.{List, [], _∷_}
@@ -40,8 +40,14 @@ pair =
     edge X 1 2 2
     ∷ (edge X 3 2 2 ∷ (edge Y 2 1 2 ∷ (edge Y 3 1 2 ∷ (edge Z 2 2 1 ∷ (edge Z 2 2 2 ∷ (edge Z 3 2 1 ∷ (edge Z 3 2 2 ∷ [])))))))
 
+-- the x edges of one layer without its middle one
+unfoldable pub ring : List Edge
+ring =
+    edge X 1 1 1
+    ∷ (edge X 1 2 1 ∷ (edge X 1 3 1 ∷ (edge X 1 1 2 ∷ (edge X 1 3 2 ∷ (edge X 1 1 3 ∷ (edge X 1 2 3 ∷ (edge X 1 3 3 ∷ [])))))))
+
 unfoldable table : List Example
-unfolding single gap pair
+unfolding single gap pair ring
 table =
     record { before = []; rims = 0; flipped = []; after = []; inside = 0 }
     ∷ (record { before = single; rims = 0; flipped = []; after = single; inside = 1 }
@@ -70,7 +76,9 @@ table =
       after = edge X 1 1 1 ∷ (edge X 2 1 1 ∷ (edge Y 2 0 1 ∷ (edge Y 2 1 1 ∷ (edge Z 2 1 0 ∷ (edge Z 2 1 1 ∷ [])))));
       inside = 1;
     }
-    ∷ []))))))))))
+    -- two rims whose patches, of nine edges and of one, share an edge: it is not flipped
+    ∷ (record { before = ring; rims = 2; flipped = ring; after = []; inside = 0 }
+    ∷ [])))))))))))
 
 -- the two sets have the same edges of the level-2 grid
 abbrev sameEdges : Set → Set → Bool
@@ -87,7 +95,7 @@ right e =
     && (sameEdges F (setOf (e .after)) && eqb (count (sign F) (points 5)) (e .inside))))
 
 examples-hold : allOf right table ≡ true
-unfolding table single gap pair rims flips patched oddFaces patchRim flipCount bytes marks
+unfolding table single gap pair ring rims flips patched oddFaces patchRim flipCount bytes marks
 examples-hold = refl
 
 -- the quads that the rules list for one point inside
