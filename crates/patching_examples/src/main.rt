@@ -1,0 +1,232 @@
+// Runs patch on the examples of the rules at level 2, on the four grids that pin its choices, on a sheet with a hole, and on
+// inputs that it refuses. For each it prints the number, the rims, the flips, and the edges marked afterwards; `kept` says that
+// no byte of either buffer changed, `clear` that the first P work bytes are 0, `rest` that the bytes behind them are as they were.
+use libc::STDOUT_FILENO;
+use patching::PatchAnswer;
+use patching::patch;
+ghost use Prim.Native.Nat.{_≤_, _<_};
+ghost use lib.ListN.{length};
+
+// The points of level 2, and the bytes of a buffer that is longer.
+const POINTS: usize = 125;
+
+const LONG: usize = 130;
+// What the bytes of both buffers hold behind the points, and every work byte on entry.
+const BEHIND: u8 = 201;
+
+const DIRTY: u8 = 90;
+
+fn say(text: &[u8]) {
+    io::write_all(STDOUT_FILENO, text);
+}
+
+fn say_number(k: u32) {
+    io::print_decimal(STDOUT_FILENO, k as u64);
+}
+
+// The value of a mark on the edge that a letter names.
+fn value(letter: u8) -> u8
+    ensures { λ r. ⌜ r ≤ 4 ⌝ }
+{
+    if letter == b'x' {
+        return 1;
+    }
+    if letter == b'y' {
+        return 2;
+    }
+    4
+}
+
+// The digit at a place of a text.
+fn digit(text: &[u8], at: usize) -> usize
+    ensures { λ r. ⌜ r ≤ 9 ⌝ }
+{
+    if text.len() <= at {
+        return 0;
+    }
+    let b = text[at];
+    if b < b'0' {
+        return 0;
+    }
+    if b'9' < b {
+        return 0;
+    }
+    (b - b'0') as usize
+}
+
+// Marks the edge that a text such as "x222" names at `at`.
+fn mark(text: &[u8], at: usize, grid: &mut [u8])
+    requires { ⌜ at < length (now text) ⌝ }
+{
+    let p = digit(text, at + 1) + 5 * (digit(text, at + 2) + 5 * digit(text, at + 3));
+    let v = value(text[at]);
+    if p < grid.len() {
+        let b = grid[p];
+        if b < 128 {
+            grid[p] = b + v;
+        }
+    }
+}
+
+// Marks the edges that a text names, four letters and a space each.
+fn build(text: &[u8], grid: &mut [u8]) {
+    let mut at: usize = 0;
+    while at < text.len() {
+        mark(text, at, grid);
+        at += 5;
+    }
+}
+
+// What a buffer filled with v holds at a place.
+fn filler(p: usize, v: u8) -> u8 {
+    if p < POINTS {
+        return v;
+    }
+    BEHIND
+}
+
+// Fills a buffer: v up to the points, and what stands behind them.
+fn fill(buffer: &mut [u8], v: u8) {
+    let mut p: usize = 0;
+    while p < buffer.len() {
+        buffer[p] = filler(p, v);
+        p += 1;
+    }
+}
+
+// Whether the bytes from `from` up to `to` all hold v.
+fn all_hold(buffer: &[u8], from: usize, to: usize, v: u8) -> bool {
+    let mut p = from;
+    while p < to {
+        if p < buffer.len() {
+            if buffer[p] != v {
+                return false;
+            }
+        }
+        p += 1;
+    }
+    true
+}
+
+fn say_edge(letter: &[u8], p: usize) {
+    say(b" ");
+    say(letter);
+    say_number((p % 5) as u32);
+    say_number((p / 5 % 5) as u32);
+    say_number((p / 25 % 5) as u32);
+}
+
+// Prints the marked edges of a point.
+fn say_point(b: u8, p: usize) {
+    if b % 2 == 1 {
+        say_edge(b"x", p);
+    }
+    if b / 2 % 2 == 1 {
+        say_edge(b"y", p);
+    }
+    if b / 4 % 2 == 1 {
+        say_edge(b"z", p);
+    }
+}
+
+// Prints the edges that a grid marks, by rising point number.
+fn say_marks(grid: &[u8]) {
+    let mut p: usize = 0;
+    while p < grid.len() {
+        if p < POINTS {
+            say_point(grid[p], p);
+        }
+        p += 1;
+    }
+}
+
+fn say_counts(number: u32, rims: u32, flips: u32) {
+    say(b": ");
+    say_number(number);
+    say(b", rims ");
+    say_number(rims);
+    say(b", flips ");
+    say_number(flips);
+}
+
+// Prints what patch answered.
+fn say_answer(answer: PatchAnswer) {
+    match answer {
+        PatchAnswer::Done { rims, flips } => say_counts(0, rims, flips),
+        PatchAnswer::BadLevel => say_counts(1, 0, 0),
+        PatchAnswer::ShortBuffer => say_counts(2, 0, 0),
+        PatchAnswer::NoGrid => say_counts(5, 0, 0),
+    }
+}
+
+// Patches the grid of the edges named, in buffers that are longer and with a dirty work buffer.
+fn show(name: &[u8], edges: &[u8]) {
+    let mut grid = [0u8; LONG];
+    let mut work = [0u8; LONG];
+    fill(&mut grid, 0);
+    fill(&mut work, DIRTY);
+    build(edges, &mut grid);
+    say(name);
+    say_answer(patch(2, &mut grid, &mut work));
+    if all_hold(&work, 0, POINTS, 0) {
+        say(b", clear");
+    }
+    if all_hold(&work, POINTS, LONG, BEHIND) {
+        if all_hold(&grid, POINTS, LONG, BEHIND) {
+            say(b", rest");
+        }
+    }
+    say(b",");
+    say_marks(&grid);
+    say(b"\n");
+}
+
+// Lends patch the first bytes of both buffers.
+fn lend(level: u32, grid: &mut [u8], grid_length: usize, work: &mut [u8], work_length: usize) {
+    if grid_length <= grid.len() {
+        if work_length <= work.len() {
+            say_answer(patch(level, &mut grid[0..grid_length], &mut work[0..work_length]));
+        }
+    }
+}
+
+// Lends patch buffers of the lengths given, whose grid bytes hold v, at a level.
+fn show_refusal(name: &[u8], level: u32, grid_length: usize, work_length: usize, v: u8) {
+    let mut grid = [0u8; LONG];
+    let mut work = [0u8; LONG];
+    fill(&mut grid, v);
+    fill(&mut work, DIRTY);
+    say(name);
+    lend(level, &mut grid, grid_length, &mut work, work_length);
+    if all_hold(&grid, 0, POINTS, v) {
+        if all_hold(&work, 0, POINTS, DIRTY) {
+            say(b", kept");
+        }
+    }
+    say(b"\n");
+}
+
+fn main() {
+    show(b"example 3", b"x122 y212 y222 z221 z222");
+    show(b"example 4", b"x222");
+    show(b"example 5", b"x011 x233");
+    show(b"example 6", b"x222 x233");
+    show(b"example 7", b"x122 x322 y212 y312 z221 z222 z321 z322");
+    show(b"tie", b"x232 y232");
+    show(b"rounding", b"y222 y311 z321");
+    show(b"pairing", b"y321 y331 z230");
+    show(b"path", b"z211 y211");
+    show(
+        b"sheet with a hole",
+        b"x211 x221 x231 x212 x232 x213 x223 x233",
+    );
+    show_refusal(b"level 1, no bytes", 1, 0, 0, 0);
+    show_refusal(b"level 6", 6, 130, 130, 0);
+    show_refusal(b"a grid byte short", 2, 124, 130, 0);
+    show_refusal(b"a work byte short", 2, 130, 124, 0);
+    show_refusal(b"short, no grid", 2, 130, 124, 8);
+    show_refusal(b"level 3, short", 3, 130, 130, 0);
+    show_refusal(b"bytes of 8", 2, 130, 130, 8);
+    show_refusal(b"marks on outer edges", 2, 130, 130, 7);
+    show_refusal(b"nothing to patch", 2, 125, 125, 0);
+}
