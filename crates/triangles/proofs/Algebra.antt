@@ -1,7 +1,7 @@
 -- Products of whole numbers over sums, and dot products over weighted sums. Assumes nothing.
-use mathlib.Core.Path.{_≡_, refl, sym, ap, _∙_}
+use mathlib.Core.Path.{_≡_, sym, ap, _∙_}
 use Prim.Native.Nat.{ℕ, zero, suc, _+_}
-use lib.IntN.{ℤ, pos, negsuc, negℤ, sucℤ, predℤ, _+ℤ_, _-ℤ_, _*ℤ_, +ℤ-assoc, +ℤ-comm, +ℤ-idr, negℤ-+ℤ, *ℤ-comm, zero-*ℤ, *ℤ-zero, sucℤ-*ℤ, predℤ-*ℤ}
+use lib.IntN.{ℤ, pos, negsuc, negℤ, sucℤ, predℤ, _+ℤ_, _*ℤ_, +ℤ-assoc, +ℤ-comm, negℤ-+ℤ, *ℤ-comm, zero-*ℤ, *ℤ-zero, sucℤ-*ℤ, predℤ-*ℤ}
 use Rattle.triangles.specs.declared.Vector.{Vector}
 use Rattle.triangles.specs.Vectors.{dot}
 use Rattle.triangles.specs.Shared.{times, plus}

@@ -13,6 +13,10 @@ use Rattle.triangles.specs.Vectors.{nought}
 use Rattle.triangles.specs.Axes.{axes, units, sides, crossEach, crossed}
 use Rattle.triangles.specs.Meets.{separates, noneSeparates, edgeMet}
 
+pub thirteen : (t : Triangle) → length (axes t) ≡ 13
+unfolding axes units crossed crossEach sides
+thirteen t = refl
+
 module _ (t : Triangle) (e : Ends) where
   each-clear : (l : List Vector) → noneSeparates l t e ≡ true → (k : ℕ) → k < length l → separates (getD l k nought) t e ≡ false
   unfolding noneSeparates

@@ -1,6 +1,6 @@
 -- A signed local holds bits. What is read back from the bits of a number that fits is the number itself, so that machine
 -- arithmetic on numbers of known sizes is that of the whole numbers. Assumes nothing.
-use mathlib.Core.Path.{_≡_, refl, ap, _∙_}
+use mathlib.Core.Path.{_≡_, refl, _∙_}
 use Prim.Native.Nat.{ℕ, _+_, _*_, _^_, _<_}
 use lib.Dec.{T, ltb}
 use lib.IntN.{ℤ, _+ℤ_, _-ℤ_, _*ℤ_}

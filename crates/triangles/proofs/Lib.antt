@@ -9,4 +9,4 @@ pub mod Outside
 pub mod Algebra
 pub mod Weights
 pub mod SharedPoint
-mod Held
+pub mod Held

@@ -47,52 +47,36 @@ pub ≤ℤ-<ℤ-trans : {a b c : ℤ} → a ≤ℤ b → b <ℤ c → a <ℤ c
     go true e = true-lt a c e
     go false e = clashℤ (<ℤ-≤ℤ-trans k (false-le a c e)) h
 
+-- a choice by the order of two numbers
+chosen : (P : ℤ → Type 0) (x y u v : ℤ) → (x ≤ℤ y → P u) → (y ≤ℤ x → P v) → P (cond (ltZ x y) u v)
+chosen P x y u v f g = go (ltZ x y) refl
+  where
+    go : (c : Bool) → ltZ x y ≡ c → P (cond c u v)
+    go true e = f (<ℤ-≤ℤ (true-lt x y e))
+    go false e = g (false-le x y e)
+
 -- what holds of two numbers holds of the lesser and of the greater
 pub of-lesser : (P : ℤ → Type 0) {a b : ℤ} → P a → P b → P (lesser a b)
 unfolding lesser
-of-lesser P {a} {b} p q = pick (ltZ b a)
-  where
-    pick : (c : Bool) → P (cond c b a)
-    pick true = q
-    pick false = p
+of-lesser P {a} {b} p q = chosen P b a b a (λ _. q) (λ _. p)
 
 pub of-greater : (P : ℤ → Type 0) {a b : ℤ} → P a → P b → P (greater a b)
 unfolding greater
-of-greater P {a} {b} p q = pick (ltZ a b)
-  where
-    pick : (c : Bool) → P (cond c b a)
-    pick true = q
-    pick false = p
+of-greater P {a} {b} p q = chosen P a b b a (λ _. q) (λ _. p)
 
 module _ (a b : ℤ) where
   pub lesser-left : lesser a b ≤ℤ a
   unfolding lesser
-  lesser-left = go (ltZ b a) refl
-    where
-      go : (c : Bool) → ltZ b a ≡ c → cond c b a ≤ℤ a
-      go true e = <ℤ-≤ℤ (true-lt b a e)
-      go false e = ≤ℤ-refl a
+  lesser-left = chosen (λ z. z ≤ℤ a) b a b a (λ h. h) (λ _. ≤ℤ-refl a)
 
   pub lesser-right : lesser a b ≤ℤ b
   unfolding lesser
-  lesser-right = go (ltZ b a) refl
-    where
-      go : (c : Bool) → ltZ b a ≡ c → cond c b a ≤ℤ b
-      go true e = ≤ℤ-refl b
-      go false e = false-le b a e
+  lesser-right = chosen (λ z. z ≤ℤ b) b a b a (λ _. ≤ℤ-refl b) (λ h. h)
 
   pub greater-left : a ≤ℤ greater a b
   unfolding greater
-  greater-left = go (ltZ a b) refl
-    where
-      go : (c : Bool) → ltZ a b ≡ c → a ≤ℤ cond c b a
-      go true e = <ℤ-≤ℤ (true-lt a b e)
-      go false e = ≤ℤ-refl a
+  greater-left = chosen (λ z. a ≤ℤ z) a b b a (λ h. h) (λ _. ≤ℤ-refl a)
 
   pub greater-right : b ≤ℤ greater a b
   unfolding greater
-  greater-right = go (ltZ a b) refl
-    where
-      go : (c : Bool) → ltZ a b ≡ c → b ≤ℤ cond c b a
-      go true e = ≤ℤ-refl b
-      go false e = false-le a b e
+  greater-right = chosen (λ z. b ≤ℤ z) a b b a (λ _. ≤ℤ-refl b) (λ h. h)

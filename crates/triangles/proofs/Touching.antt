@@ -4,7 +4,7 @@ use mathlib.Core.Bool.{true, false}
 use Prim.Native.Nat.{ℕ, _<_}
 use lib.IntN.{ℤ, pos, _+ℤ_, zero-*ℤ}
 use lib.ListN.{getD}
-use lib.Signed.{≤ℤ-refl}
+use lib.Signed.{_≤ℤ_, ≤ℤ-refl}
 use Rattle.triangles.specs.declared.Vector.{Vector}
 use Rattle.triangles.specs.declared.Span.{Span}
 use Rattle.triangles.specs.declared.Triangle.{Triangle}
@@ -20,6 +20,12 @@ use Rattle.triangles.proofs.Exactly.{met-exactly}
 pub touching-not-apart : {s u : Span} {p : ℤ} → Holds s p → Holds u p → apart s u ≡ false
 unfolding apart
 touching-not-apart h k = simp (le-false (≤ℤ-trans (k .from-low) (h .to-high)), le-false (≤ℤ-trans (h .from-low) (k .to-high)))
+
+-- so one span that ends where the other begins is not apart from it
+pub end-to-end-not-apart : (s u : Span) → s .low ≤ℤ s .high → u .low ≤ℤ u .high → s .high ≡ u .low → apart s u ≡ false
+end-to-end-not-apart s u h k e =
+    touching-not-apart {p = u .low} (record { from-low = rw e at h; to-high = rw e (≤ℤ-refl (u .low)) })
+    (record { from-low = ≤ℤ-refl (u .low); to-high = k })
 
 -- a span holds the number it was widened by, and what it held before
 new-held : (s : Span) (p : ℤ) → Holds (spanWith s p) p

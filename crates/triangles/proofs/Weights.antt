@@ -1,9 +1,9 @@
 -- Weighted sums keep the order: the gap between two whole numbers grows with a weight and adds up. Assumes nothing.
 use mathlib.Core.Path.{_≡_, sym, ap, subst, _∙_}
-use Prim.Native.Nat.{ℕ, zero, suc, _+_, _*_, _-_, _≤_, _<_}
+use Prim.Native.Nat.{ℕ, zero, suc, _+_, _*_, _-_, _<_}
 use native.Mathlib.Nat.{mul-pos, add-sub-of-le}
 use native.Mathlib.Omega.{arith}
-use lib.Dec.{not-T, ltb, leb→le, ltb→lt, lt→ltb, T-not}
+use lib.Dec.{ltb, leb→le, lt→ltb, T-not}
 use lib.IntN.{ℤ, pos, negsuc, negℤ, natAbs, _+ℤ_, _*ℤ_, +ℤ-assoc, +ℤ-idl, +ℤ-idr, +ℤ-invl}
 use lib.Signed.{_≤ℤ_, _<ℤ_, <ℤ-irrefl}
 use Rattle.triangles.proofs.Algebra.{swap-middle, over-sum, sum-weight}

@@ -1,11 +1,9 @@
 -- `crossed_clear` meets its contract: what is left to ask is whether an axis from number k on separates. Assumes nothing.
 use mathlib.Core.Path.{_≡_, refl, sym, ap, _∙_}
-use mathlib.Core.Bool.{true, false}
 use Prim.Native.Nat.{_≤_, _<_, _-_}
 use native.Mathlib.Numerals.{add-one}
 use native.Mathlib.Omega.{arith}
-use lib.ListN.{getD, drop}
-use Rattle.triangles.specs.Vectors.{nought}
+use lib.ListN.{drop}
 use Rattle.triangles.specs.Axes.{crossed, crossEach, units, sides}
 use Rattle.triangles.specs.Meets.{separates, noneSeparates}
 use Rattle.triangles.proofs.Sizes.{crossed-size}

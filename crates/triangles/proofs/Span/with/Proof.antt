@@ -1,3 +1,4 @@
+-- `Span::with` meets its contract. Assumes nothing.
 use Rattle.triangles.proofs.Held.{plain}
 use borrow.Author.Needs.{needs}
 use Rattle.triangles.proofs.Span.with.Statement.{statement}
