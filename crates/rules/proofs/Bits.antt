@@ -1,5 +1,5 @@
 -- Laws of odd and even, of tests, and of numbers between bounds. Assumes nothing.
-use mathlib.Core.Bool.{Bool, false, false≢true, true, true≢false, _&&_}
+use mathlib.Core.Bool.{Bool, and-assoc, and-comm, and-false, and-self, and-self-left, and-true, false, false≢true, true, true≢false, _&&_}
 use mathlib.Core.Logic.{_↔_, _≢_}
 use mathlib.Core.Path.{refl, subst, sym, _≡_}
 use Prim.Native.Nat.{suc, ℕ, _<_, _≤_}
@@ -38,40 +38,34 @@ pub ⊕-cancel : (a b : Bool) → a ⊕ (a ⊕ b) ≡ b
 ⊕-cancel true false = refl
 ⊕-cancel false b = refl
 
-pub &&-⊕ : (a b c : Bool) → a && (b ⊕ c) ≡ (a && b) ⊕ (a && c)
-&&-⊕ true b c = refl
-&&-⊕ false b c = refl
-
-pub &&-false : (a : Bool) → a && false ≡ false
-&&-false true = refl
-&&-false false = refl
-
 pub ruleset xors = (⊕-assoc, ⊕-comm, ⊕-left, ⊕-self, ⊕-cancel, ⊕-false)
 
-pub &&-true : (a : Bool) → a && true ≡ a
-&&-true true = refl
-&&-true false = refl
+-- ---- laws of &&, most of them the library's
+pub &&-false : (a : Bool) → a && false ≡ false
+&&-false = and-false
 
--- ---- laws of &&
+pub &&-true : (a : Bool) → a && true ≡ a
+&&-true = and-true
+
 pub &&-comm : (a b : Bool) → a && b ≡ b && a
-&&-comm true b = sym (&&-true b)
-&&-comm false b = sym (&&-false b)
+&&-comm = and-comm
 
 pub &&-assoc : (a b c : Bool) → a && b && c ≡ a && (b && c)
-&&-assoc true b c = refl
-&&-assoc false b c = refl
+&&-assoc = and-assoc
+
+pub &&-self : (a : Bool) → a && a ≡ a
+&&-self = and-self
+
+pub &&-again : (a b : Bool) → a && (a && b) ≡ a && b
+&&-again = and-self-left
 
 pub &&-left : (a b c : Bool) → a && (b && c) ≡ b && (a && c)
 &&-left true b c = refl
-&&-left false b c = sym (&&-false b)
+&&-left false b c = sym (and-false b)
 
-pub &&-self : (a : Bool) → a && a ≡ a
-&&-self true = refl
-&&-self false = refl
-
-pub &&-again : (a b : Bool) → a && (a && b) ≡ a && b
-&&-again true b = refl
-&&-again false b = refl
+pub &&-⊕ : (a b c : Bool) → a && (b ⊕ c) ≡ (a && b) ⊕ (a && c)
+&&-⊕ true b c = refl
+&&-⊕ false b c = refl
 
 pub ruleset ands = (&&-assoc, &&-comm, &&-left, &&-self, &&-again)
 
@@ -135,14 +129,14 @@ same-test true b f g = sym (f refl)
 same-test false true f g = g refl
 same-test false false f g = refl
 
-pub three→ : (l h i l₂ h₂ i₂ l₃ h₃ i₃ : ℕ) → between l h i && (between l₂ h₂ i₂ && between l₃ h₃ i₃) ≡ true → Bounds l h i × Bounds l₂ h₂ i₂ × Bounds l₃ h₃ i₃
-three→ l h i l₂ h₂ i₂ l₃ h₃ i₃ e =
-    let r = and-right (between l h i) (between l₂ h₂ i₂ && between l₃ h₃ i₃) e in
-    (between→ l h i (and-left (between l h i) (between l₂ h₂ i₂ && between l₃ h₃ i₃) e), between→ l₂ h₂ i₂ (and-left (between l₂ h₂ i₂) (between l₃ h₃ i₃) r), between→ l₃ h₃ i₃ (and-right (between l₂ h₂ i₂) (between l₃ h₃ i₃) r))
+-- three tests that all pass
+pub three→ : (a b c : Bool) → a && (b && c) ≡ true → (a ≡ true) × (b ≡ true) × (c ≡ true)
+three→ true true c e = (refl, refl, e)
+three→ true false c e = absurd (false≢true e)
+three→ false b c e = absurd (false≢true e)
 
-pub three← : (l h i l₂ h₂ i₂ l₃ h₃ i₃ : ℕ) → Bounds l h i × Bounds l₂ h₂ i₂ × Bounds l₃ h₃ i₃ → between l h i && (between l₂ h₂ i₂ && between l₃ h₃ i₃) ≡ true
-three← l h i l₂ h₂ i₂ l₃ h₃ i₃ c =
-    both (between l h i) (between l₂ h₂ i₂ && between l₃ h₃ i₃) (between← l h i (c .0)) (both (between l₂ h₂ i₂) (between l₃ h₃ i₃) (between← l₂ h₂ i₂ (c .1)) (between← l₃ h₃ i₃ (c .2)))
+pub three← : (a b c : Bool) → (a ≡ true) × (b ≡ true) × (c ≡ true) → a && (b && c) ≡ true
+three← a b c h = both a (b && c) (h .0) (both b c (h .1) (h .2))
 
 pub eqb→ : (m n : ℕ) → eqb m n ≡ true → m ≡ n
 eqb→ m n e = eqb→eq m n (eq→T (eqb m n) e)

@@ -7,7 +7,7 @@ use lib.Dec.{leb}
 use Rattle.rules.specs.Lists.{parity, upto, parityTo, between}
 use Rattle.rules.specs.Lattice.{earlier, later, sameAxis, coord, up, withCoord, Set, raise, inBox, faceIn, edgeIn, Axis, X, Y, Z, Point, Box, Spot}
 use Rattle.rules.specs.Patch.{side, plane}
-use Rattle.rules.proofs.Bits.{leb-yes, Bounds, three→, three←}
+use Rattle.rules.proofs.Bits.{leb-yes, Bounds, between→, between←, three→, three←}
 use Rattle.rules.proofs.Sums.{parity-map, parity-each, parityTo-cong<, parity-range, &&-sum}
 
 -- the working faces of a box
@@ -42,10 +42,12 @@ abbrev pub InBox : Box → Bool → Bool → Bool → Point → Type 0
 InBox b s t r p = Bounds (raise s (b .lo .i)) (b .hi .i) (p .i) × Bounds (raise t (b .lo .j)) (b .hi .j) (p .j) × Bounds (raise r (b .lo .k)) (b .hi .k) (p .k)
 
 pub inBox→ : (b : Box) (s t r : Bool) (p : Point) → inBox b s t r p ≡ true → InBox b s t r p
-inBox→ b s t r p e = three→ (raise s (b .lo .i)) (b .hi .i) (p .i) (raise t (b .lo .j)) (b .hi .j) (p .j) (raise r (b .lo .k)) (b .hi .k) (p .k) e
+inBox→ b s t r p e =
+    let k = three→ (between (raise s (b .lo .i)) (b .hi .i) (p .i)) (between (raise t (b .lo .j)) (b .hi .j) (p .j)) (between (raise r (b .lo .k)) (b .hi .k) (p .k)) e in
+    (between→ _ _ _ (k .0), between→ _ _ _ (k .1), between→ _ _ _ (k .2))
 
 pub inBox← : (b : Box) (s t r : Bool) (p : Point) → InBox b s t r p → inBox b s t r p ≡ true
-inBox← b s t r p e = three← (raise s (b .lo .i)) (b .hi .i) (p .i) (raise t (b .lo .j)) (b .hi .j) (p .j) (raise r (b .lo .k)) (b .hi .k) (p .k) e
+inBox← b s t r p k = three← _ _ _ (between← _ _ _ (k .0), between← _ _ _ (k .1), between← _ _ _ (k .2))
 
 abbrev pub FaceIn : Box → Axis → Point → Type 0
 FaceIn b a p = InBox b (sameAxis a X) (sameAxis a Y) (sameAxis a Z) p

@@ -9,7 +9,7 @@ use Rattle.rules.specs.Lists.{_⊕_, keep, All, upto, between}
 use Rattle.rules.specs.Lattice.{earlier, later, sameAxis, coord, pointAt, up, samePoint, samePlace, Set, setOf, symdiff, faceIn, edgeIn, Axis, X, Y, Z, Point, Place, Box, Spot}
 use Rattle.rules.specs.Cell.{oddFace, oddCell}
 use Rattle.rules.specs.Patch.{side, plane, inPlane, steps, path, paths, cut}
-use Rattle.rules.proofs.Bits.{⊕-self, &&-⊕, &&-true, ands, Bounds, and-left, and-right, both, between→, between←, is-false, same-test, eqb→, zeros}
+use Rattle.rules.proofs.Bits.{⊕-self, &&-⊕, &&-true, ands, Bounds, and-left, and-right, both, between→, between←, is-false, same-test, three→, eqb→, zeros}
 use Rattle.rules.proofs.Sums.{parity-keep, parityTo-cong, parityTo-one, &&-sum}
 use Rattle.rules.proofs.Lists.{all-append, all-weaken, all-keep, all-map, all-each, all-upto}
 use Rattle.rules.proofs.Oddness.{cell-even, oddCell-symdiff, coord-own, coord-earlier, coord-later, Closed, plane-even}
@@ -33,11 +33,11 @@ sameAxis→ Z Z e = refl
 
 pub samePoint→ : (p q : Point) → samePoint p q ≡ true → p ≡ q
 samePoint→ p q e =
-    let r = and-right (eqb (p .i) (q .i)) (eqb (p .j) (q .j) && eqb (p .k) (q .k)) e in
-    let ex = eqb→ (p .i) (q .i) (and-left (eqb (p .i) (q .i)) (eqb (p .j) (q .j) && eqb (p .k) (q .k)) e) in
-    let ey = eqb→ (p .j) (q .j) (and-left (eqb (p .j) (q .j)) (eqb (p .k) (q .k)) r) in
-    let ez = eqb→ (p .k) (q .k) (and-right (eqb (p .j) (q .j)) (eqb (p .k) (q .k)) r) in
-    λ i. record { i = ex i; j = ey i; k = ez i }
+    let k = three→ (eqb (p .i) (q .i)) (eqb (p .j) (q .j)) (eqb (p .k) (q .k)) e in
+    let x = eqb→ (p .i) (q .i) (k .0) in
+    let y = eqb→ (p .j) (q .j) (k .1) in
+    let z = eqb→ (p .k) (q .k) (k .2) in
+    λ i. record { i = x i; j = y i; k = z i }
 
 pub samePlace→ : (e f : Place) → samePlace e f ≡ true → e ≡ f
 samePlace→ e f h =

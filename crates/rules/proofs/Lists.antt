@@ -3,8 +3,9 @@ use mathlib.Core.Bool.{Bool, cond, false, false≢true, not, true, _&&_, _||_}
 use mathlib.Core.List.{List, [], map, _++_, _∷_}
 use mathlib.Core.Logic.{_↔_}
 use mathlib.Core.Path.{ap, ap₂, refl, _∙_, _≡_}
-use Prim.Native.Nat.{suc, zero, ℕ, _+_, _<_}
+use Prim.Native.Nat.{suc, zero, ℕ, _+_, _<_, _≤_}
 use native.Mathlib.Omega.{arith}
+use lib.ListN.{length}
 use Rattle.rules.specs.Lists.{keep, count, anyOf, allOf, All, each, upto}
 use Rattle.rules.proofs.Bits.{Bounds, and-left, and-right, both}
 
@@ -75,6 +76,14 @@ module _ {A : Type 0} where
   pub count-none : (w : A → Bool) → ((x : A) → w x ≡ false) → (l : List A) → count w l ≡ 0
   count-none w h [] = refl
   count-none w h (x ∷ l) = rw (h x) (count-none w h l)
+
+  pub count-length : (w : A → Bool) (l : List A) → count w l ≤ length l
+  count-length w [] = omega arith
+  count-length w (x ∷ l) = go (w x) (count-length w l)
+    where
+      go : (c : Bool) → count w l ≤ length l → cond c (suc (count w l)) (count w l) ≤ suc (length l)
+      go true h = omega arith
+      go false h = omega arith
 
   pub keep-none : (w : A → Bool) → ((x : A) → w x ≡ false) → (l : List A) → keep w l ≡ []
   keep-none w h [] = refl

@@ -2,10 +2,10 @@
 use mathlib.Core.Bool.{Bool, false, not, true, true≢false, _&&_, _||_}
 use mathlib.Core.List.{List, [], map, map-map, _++_, _∷_}
 use mathlib.Core.Path.{ap, ap₂, fun-ext, refl, subst, sym, _∙_, _≡_}
-use Prim.Native.Nat.{suc, zero, ℕ, _*_, _+_, _<_, _≤_}
-use native.Mathlib.Nat.{add-zero, le-of-suc-le-suc, mul-le-mul-left, mul-suc, mul-zero, not-suc-le-zero, suc-add, zero-add}
+use Prim.Native.Nat.{suc, zero, ℕ, _*_, _+_, _/_, _%_, _<_, _≤_}
+use native.Mathlib.Nat.{add-zero, div-div-eq-div-mul, le-of-suc-le-suc, mul-le-mul-left, mul-suc, mul-zero, not-suc-le-zero, suc-add, zero-add}
 use native.Mathlib.Omega.{arith}
-use lib.Dec.{leb}
+use lib.Dec.{eqb, leb}
 use lib.ListN.{List·getD-append, getD, length, length-append, length-map, length-take, take}
 use lib.Seq.{ext-getD, getD-append-add, getD-take}
 use Rattle.rules.specs.Lists.{allOf, each, upto}
@@ -94,41 +94,36 @@ bytes-at n E p hx hy hz =
     (let a = points-length (suc n) in let b = number-below (suc n) (p .i) (p .j) (p .k) (omega arith) (omega arith) (omega arith) in subst (λ (i : ℕ). pointNumber n p < i) (sym a) b)
     ∙ ap (byteAt E) (points-at (suc n) p p (omega arith) (omega arith) (omega arith))
 
+-- ---- the bits of a byte
+-- of three, the one that stands for the axis
 abbrev pub three : Axis → Bool → Bool → Bool → Bool
 three X x y z = x
 three Y x y z = y
 three Z x y z = z
 
-pub has-bit : (a : Axis) (x y z : Bool) → has a (value x 1 + (value y 2 + value z 4)) ≡ three a x y z
-has-bit X false false false = refl
-has-bit X false false true = refl
-has-bit X false true false = refl
-has-bit X false true true = refl
-has-bit X true false false = refl
-has-bit X true false true = refl
-has-bit X true true false = refl
-has-bit X true true true = refl
-has-bit Y false false false = refl
-has-bit Y false false true = refl
-has-bit Y false true false = refl
-has-bit Y false true true = refl
-has-bit Y true false false = refl
-has-bit Y true false true = refl
-has-bit Y true true false = refl
-has-bit Y true true true = refl
-has-bit Z false false false = refl
-has-bit Z false false true = refl
-has-bit Z false true false = refl
-has-bit Z false true true = refl
-has-bit Z true false false = refl
-has-bit Z true false true = refl
-has-bit Z true true false = refl
-has-bit Z true true true = refl
-
 pub three-of : (a : Axis) (E : Set) (p : Point) → three a (E X p) (E Y p) (E Z p) ≡ E a p
 three-of X E p = refl
 three-of Y E p = refl
 three-of Z E p = refl
+
+-- a value is its weight or nothing
+value-cases : (x : Bool) (w : ℕ) → (value x w ≡ w * value x 1) × (value x 1 ≤ 1)
+value-cases true w = omega arith
+value-cases false w = omega arith
+
+value-bit : (x : Bool) → eqb (value x 1) 1 ≡ x
+value-bit true = refl
+value-bit false = refl
+
+-- of three values added, the byte has those that were there
+pub has-bit : (a : Axis) (x y z : Bool) → has a (value x 1 + (value y 2 + value z 4)) ≡ three a x y z
+has-bit a x y z = go a (value-cases x 1) (value-cases y 2) (value-cases z 4)
+  where
+    go : (a : Axis) → (value x 1 ≡ 1 * value x 1) × (value x 1 ≤ 1) → (value y 2 ≡ 2 * value y 1) × (value y 1 ≤ 1) → (value z 4 ≡ 4 * value z 1) × (value z 1 ≤ 1) →
+        has a (value x 1 + (value y 2 + value z 4)) ≡ three a x y z
+    go X p q r = ap (λ (k : ℕ). eqb k 1) (let e : (value x 1 + (value y 2 + value z 4)) % 2 ≡ value x 1 = omega arith in e) ∙ value-bit x
+    go Y p q r = ap (λ (k : ℕ). eqb k 1) (let e : (value x 1 + (value y 2 + value z 4)) / 2 % 2 ≡ value y 1 = omega arith in e) ∙ value-bit y
+    go Z p q r = ap (λ (k : ℕ). eqb k 1) (let e : (value x 1 + (value y 2 + value z 4)) / 4 % 2 ≡ value z 1 = omega arith in e) ∙ value-bit z
 
 -- only inner edges are marked
 pub marks-inner : (n : ℕ) (g : List ℕ) (a : Axis) (p : Point) → marks n g a p ≡ true → inner n a p ≡ true
@@ -182,16 +177,16 @@ pub rising : (n : ℕ) → map (pointNumber n) (points (suc n)) ≡ upto 0 (poin
 rising n = rising-at (suc n)
 
 -- ---- a buffer that is a grid is the bytes of its marks
+bit-value : (k w : ℕ) → k < 2 → value (eqb k 1) w ≡ w * k
+bit-value zero w h = omega arith
+bit-value (suc zero) w h = omega arith
+bit-value (suc (suc k)) w h = absurd (omega arith)
+
 pub small-byte : (b : ℕ) → b ≤ 7 → value (has X b) 1 + (value (has Y b) 2 + value (has Z b) 4) ≡ b
-small-byte zero h = refl
-small-byte (suc zero) h = refl
-small-byte (suc (suc zero)) h = refl
-small-byte (suc (suc (suc zero))) h = refl
-small-byte (suc (suc (suc (suc zero)))) h = refl
-small-byte (suc (suc (suc (suc (suc zero))))) h = refl
-small-byte (suc (suc (suc (suc (suc (suc zero)))))) h = refl
-small-byte (suc (suc (suc (suc (suc (suc (suc zero))))))) h = refl
-small-byte (suc (suc (suc (suc (suc (suc (suc (suc b)))))))) h = absurd (omega arith)
+small-byte b h =
+    let d : b / 2 / 2 ≡ b / 4 = div-div-eq-div-mul b 2 2 in
+    let e : b / 4 % 2 ≡ b / 4 = omega arith in
+    rw (bit-value (b % 2) 1 (omega arith), bit-value (b / 2 % 2) 2 (omega arith), bit-value (b / 4 % 2) 4 (omega arith)) (omega arith)
 
 imp→ : (x y : Bool) → not x || y ≡ true → y && x ≡ x
 imp→ true y e = ap (λ (b : Bool). b && true) e
