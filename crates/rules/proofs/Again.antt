@@ -62,7 +62,7 @@ module _ (n : ℕ) (g : List ℕ) (grid : isGrid n g ≡ true) where
 
   -- the marks of the patched bytes are left alone
   still : patched n (marks n (bytes n (patched n (marks n g)))) ≡ marks n (bytes n (patched n (marks n g)))
-  still = rw (read-back n (patched n (marks n g)) inside) (even-still n (marks n g) (marks-inner n g) (patched n (marks n g)) even)
+  still = rw (read-back n (patched n (marks n g)) inside) (even-still n (patched n (marks n g)) even)
 
   -- a patched grid is a grid
   pub patched-grid : isGrid n (bytes n (patched n (marks n g))) ≡ true
@@ -70,7 +70,7 @@ module _ (n : ℕ) (g : List ℕ) (grid : isGrid n g ≡ true) where
 
   -- patching it again finds no rim
   pub again-no-rim : rims n (marks n (bytes n (patched n (marks n g)))) ≡ []
-  again-no-rim = ap (rims n) (read-back n (patched n (marks n g)) inside) ∙ even-rims n (marks n g) (marks-inner n g) (patched n (marks n g)) even
+  again-no-rim = ap (rims n) (read-back n (patched n (marks n g)) inside) ∙ even-rims n (patched n (marks n g)) even
 
   -- flips no edge
   pub again-no-flip : flipCount n (marks n (bytes n (patched n (marks n g)))) ≡ 0

@@ -1,16 +1,17 @@
 -- Rims are the classes of the chain relation: two faces are in one rim exactly when a chain joins them. Assumes nothing.
-use mathlib.Core.Bool.{Bool, cond, false, false≢true, not, true, true≢false, _||_}
+use mathlib.Core.Bool.{Bool, cond, false, false≢true, not, or-assoc, true, true≢false, _||_}
 use mathlib.Core.List.{List, [], _∷_}
 use mathlib.Core.Logic.{inl, inr, _⊎_}
 use mathlib.Core.Path.{ap, refl, subst, sym, _∙_, _≡_}
 use Prim.Native.Nat.{pred, suc, zero, ℕ, _≤_}
 use native.Mathlib.Omega.{arith}
 use Rattle.rules.specs.Lists.{count, keep, anyOf, All, each}
-use Rattle.rules.specs.Lattice.{sameAxis, up, down, samePoint, samePlace, Axis, X, Y, Z, Point, Place}
+use Rattle.rules.specs.Lattice.{earlier, later, coord, pointAt, sameAxis, up, down, samePoint, samePlace, Axis, X, Y, Z, Point, Place}
 use Rattle.rules.specs.Cell.{ofCell}
 use Rattle.rules.specs.Rims.{neighbours, elem, Chain, joins, rimsOf, stay, link}
 use Rattle.rules.proofs.Bits.{eqb-yes, both}
 use Rattle.rules.proofs.Lists.{all-every, all-weaken, all-keep, all-kept, all-pair}
+use Rattle.rules.proofs.Oddness.{up-own, pointAt-coord}
 use Rattle.rules.proofs.Cuts.{samePlace→}
 use Rattle.rules.proofs.Rims.{or-true, touch, neighbours-cell, any-append, apart}
 use Rattle.rules.proofs.Patched.{rims-all}
@@ -42,32 +43,36 @@ pub or-no-right : (a b : Bool) → a || b ≡ false → b ≡ false
 or-no-right true b e = absurd (true≢false e)
 or-no-right false b e = e
 
-or-assoc : (a b c : Bool) → a || b || c ≡ a || (b || c)
-or-assoc true b c = refl
-or-assoc false b c = refl
-
 or-left : (a b c : Bool) → a || (b || c) ≡ b || (a || c)
 or-left true true c = refl
 or-left true false c = refl
 or-left false b c = refl
 
 -- ---- neighbours are faces of one cell
+down-own : (a : Axis) (m u v : ℕ) → down a (pointAt a m u v) ≡ pointAt a (pred m) u v
+down-own X m u v = refl
+down-own Y m u v = refl
+down-own Z m u v = refl
+
+-- one step down and up again leads back, but at coordinate 0, where there is no step down
 down-cases : (a : Axis) (p : Point) → (p ≡ down a p) ⊎ (p ≡ up a (down a p))
-down-cases X p = go (p .i) refl
+down-cases a p = go (coord a p) refl
   where
-    go : (i : ℕ) → p .i ≡ i → (p ≡ down X p) ⊎ (p ≡ up X (down X p))
-    go zero e = inl (λ i. record { i = (let q : p .i ≡ pred (p .i) = omega arith in q) i; j = p .j; k = p .k })
-    go (suc k) e = inr (λ i. record { i = (let q : p .i ≡ suc (pred (p .i)) = omega arith in q) i; j = p .j; k = p .k })
-down-cases Y p = go (p .j) refl
-  where
-    go : (i : ℕ) → p .j ≡ i → (p ≡ down Y p) ⊎ (p ≡ up Y (down Y p))
-    go zero e = inl (λ i. record { i = p .i; j = (let q : p .j ≡ pred (p .j) = omega arith in q) i; k = p .k })
-    go (suc k) e = inr (λ i. record { i = p .i; j = (let q : p .j ≡ suc (pred (p .j)) = omega arith in q) i; k = p .k })
-down-cases Z p = go (p .k) refl
-  where
-    go : (i : ℕ) → p .k ≡ i → (p ≡ down Z p) ⊎ (p ≡ up Z (down Z p))
-    go zero e = inl (λ i. record { i = p .i; j = p .j; k = (let q : p .k ≡ pred (p .k) = omega arith in q) i })
-    go (suc k) e = inr (λ i. record { i = p .i; j = p .j; k = (let q : p .k ≡ suc (pred (p .k)) = omega arith in q) i })
+    at : ℕ → Point
+    at m = pointAt a m (coord (earlier a) p) (coord (later a) p)
+
+    here : p ≡ at (coord a p)
+    here = sym (pointAt-coord a p)
+
+    below : down a p ≡ at (pred (coord a p))
+    below = ap (down a) here ∙ down-own a (coord a p) (coord (earlier a) p) (coord (later a) p)
+
+    back : up a (down a p) ≡ at (suc (pred (coord a p)))
+    back = ap (up a) below ∙ up-own a (pred (coord a p)) (coord (earlier a) p) (coord (later a) p)
+
+    go : (k : ℕ) → coord a p ≡ k → (p ≡ down a p) ⊎ (p ≡ up a (down a p))
+    go zero e = inl (here ∙ ap at (let q : coord a p ≡ pred (coord a p) = omega arith in q) ∙ sym below)
+    go (suc k) e = inr (here ∙ ap at (let q : coord a p ≡ suc (pred (coord a p)) = omega arith in q) ∙ sym back)
 
 same-eq : (p q : Point) → p ≡ q → samePoint p q ≡ true
 same-eq p q e = rw (← e) (same-point p)
@@ -172,7 +177,7 @@ any-rims h (f ∷ l) =
 elem-touch : (f : Place) (c : Point) → ofCell c f ≡ true → (r : List Place) → elem f r ≡ true → touch c r ≡ true
 elem-touch f c k r e = any-mono (samePlace f) (ofCell c) (λ g h. subst (λ (x : Place). ofCell c x ≡ true) (samePlace→ f g h) k) r e
 
--- (U) a face of the list is in exactly one rim
+-- a face of the list is in exactly one rim
 pub one-rim : (l : List Place) (f : Place) → elem f l ≡ true → count (elem f) (rimsOf l) ≡ 1
 one-rim l f e =
     let a = any-count (elem f) (rimsOf l) (any-rims (samePlace f) l ∙ e) in
@@ -180,7 +185,7 @@ one-rim l f e =
     let c = apart (f .at) l in
     omega arith
 
--- (C1) a rim is closed: a neighbour in the list of one of its faces is one of its faces
+-- a rim is closed: a neighbour in the list of one of its faces is one of its faces
 closed-in : (c : Point) (h : Place) → ofCell c h ≡ true → (rs : List (List Place)) → count (touch c) rs ≤ 1 → anyOf (elem h) rs ≡ true → All (λ r. touch c r ≡ true → elem h r ≡ true) rs
 closed-in c h k [] n e = tt
 closed-in c h k (r ∷ rs) n e = go (touch c r) refl n (closed-in c h k rs)
@@ -211,7 +216,7 @@ rim-closed l g h e k =
     (closed-in (c .0) h (c .2) (rimsOf l) (apart (c .0) l) (any-rims (samePlace h) l ∙ k))
 
 -- ---- chains of faces of a list
--- (C1) a chain that begins in a rim ends in it
+-- a chain that begins in a rim ends in it
 pub chain-in : (l : List Place) (f g : Place) → Chain l f g → All (λ r. elem f r ≡ true → elem g r ≡ true) (rimsOf l)
 chain-in l f g stay = all-every (λ r e. e) (rimsOf l)
 chain-in l f g (link {g = h} e k w) = all-pair _ _ _ (λ r p q x. q (p x)) (rimsOf l) (rim-closed l f h e k) (chain-in l h g w)
@@ -220,7 +225,7 @@ pub members : (r : List Place) → All (λ g. elem g r ≡ true) r
 members [] = tt
 members (f ∷ r) = (or-left-true (samePlace f f) (elem f r) (same-self f), all-weaken _ _ (λ g e. or-true (samePlace g f) (elem g r) e) r (members r))
 
--- (C2) any two faces of a rim are joined by a chain: what is closed under neighbours and has one face of a rim has them all
+-- what is closed under neighbours and has one face of a rim has them all
 abbrev Spread : List Place → (Place → Type 0) → Type 0
 Spread l S = (g h : Place) → neighbours g h ≡ true → elem h l ≡ true → S g → S h
 

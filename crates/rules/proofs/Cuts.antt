@@ -108,7 +108,7 @@ module _ (b : Box) (a : Axis) (m : ℕ) (c : Bounds (suc (coord a (b .lo))) (coo
   pub cut-in : (W : Set) → All (EdgeIn b) (cut b W a m)
   cut-in W = paths-in (keep (inPlane W a m) (plane b a)) (all-keep (InRect b a) (inPlane W a m) (plane b a) (plane-in b a))
 
--- ---- (d) the cut clears its plane
+-- ---- the cut clears its plane
 pub within-closed : (b : Box) (W : Set) → ((p : Point) → oddCell (within b W) p ≡ false) → Closed (within b W) (b .hi)
 within-closed b W h = record {
   even = h;
@@ -131,6 +131,7 @@ module _ (b : Box) (W : Set) (a : Axis) (m : ℕ) (c : Bounds (suc (coord a (b .
       face← b a (pointAt a m u v) (omega arith))
 
   module _ (h : (p : Point) → oddCell (within b W) p ≡ false) where
+    -- the number of working faces in a cut plane is always even
     pub cut-even : oddLen (keep (inPlane W a m) (plane b a)) ≡ false
     cut-even =
         parity-keep (λ q. true) (inPlane W a m) (plane b a)
@@ -161,12 +162,15 @@ module _ (b : Box) (W : Set) (a : Axis) (m : ℕ) (c : Bounds (suc (coord a (b .
     abbrev pub afterCut : Set
     afterCut = symdiff W (oddFace (setOf (cut b W a m)))
 
+    -- each flip reverses membership of its edge's four faces
     pub within-after : (d : Axis) (p : Point) → within b afterCut d p ≡ within b W d p ⊕ oddFace (setOf (cut b W a m)) d p
     within-after d p = &&-⊕ (faceIn b d p) (W d p) (oddFace (setOf (cut b W a m)) d p) ∙ ap (λ (x : Bool). within b W d p ⊕ x) (oddFace-in b (cut b W a m) (cut-in b a m c W) d p)
 
+    -- after the pairs are joined none is left in the plane
     pub cleared : (u v : ℕ) → within b afterCut a (pointAt a m u v) ≡ false
     cleared u v = within-after a (pointAt a m u v) ∙ ap (λ (x : Bool). within b W a (pointAt a m u v) ⊕ x) (cut-ends u v) ∙ ⊕-self (within b W a (pointAt a m u v))
 
+    -- and every cell still has an even number of working faces
     pub after-even : (p : Point) → oddCell (within b afterCut) p ≡ false
     after-even p =
         ap (λ (F : Set). oddCell F p) (fun-ext (λ d. fun-ext (λ q. within-after d q)))

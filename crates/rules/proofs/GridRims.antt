@@ -2,7 +2,7 @@
 use mathlib.Core.Bool.{false, not, true, _&&_}
 use mathlib.Core.List.{List, [], _∷_}
 use mathlib.Core.Logic.{_↔_}
-use mathlib.Core.Path.{_∙_, _≡_}
+use mathlib.Core.Path.{subst, sym, _∙_, _≡_}
 use Prim.Native.Nat.{ℕ}
 use Rattle.rules.specs.Lists.{count, anyOf, All}
 use Rattle.rules.specs.Lattice.{Set, isIn, inner, samePlace, whole, places, down, Axis, Point, Box, Face}
@@ -13,8 +13,9 @@ use Rattle.rules.proofs.Lists.{all-weaken, all-pair, all-keep, all-kept
 use Rattle.rules.proofs.Boxes.{inBox→}
 use Rattle.rules.proofs.Cells.{BothCells, face-cells}
 use Rattle.rules.proofs.Patched.{Inner, FaceOf, rims-all, box-all, odd-in, odd-inner}
-use Rattle.rules.proofs.Chains.{find, any-where, any-rims, one-rim, chain-in, rim-chain}
-use Rattle.rules.proofs.RimBox.{Sub, box-least}
+use Rattle.rules.proofs.Chains.{find, members, any-where, any-rims, one-rim, chain-in, rim-chain}
+use Rattle.rules.proofs.Cuts.{samePlace→}
+use Rattle.rules.proofs.RimBox.{Sub, eq6, box-holds, box-least}
 use Rattle.rules.proofs.OddList.{elem-odd}
 
 -- ---- a rim's box
@@ -44,6 +45,16 @@ smallest (f ∷ l) s h = record {
   holds = all-weaken (FaceOf (boxOf (f ∷ l))) _ (λ g e. face-cells (boxOf (f ∷ l)) (g .axis) (g .at) .0 e) (f ∷ l) (box-all (f ∷ l) h);
   least = λ c k. box-least f l c (all-weaken _ _ (own-least c) (f ∷ l) k);
 }
+
+-- ---- so two lists with the same faces have the same box
+held : (r s : List Face) → ((f : Face) → elem f r ≡ true → elem f s ≡ true) → All (λ f. Sub (ownBox f) (boxOf s)) r
+held r s h = all-weaken _ _ (λ f e. let g = find (samePlace f) (λ x. Sub (ownBox x) (boxOf s)) s (box-holds s) (h f e) in subst (λ (x : Face). Sub (ownBox x) (boxOf s)) (sym (samePlace→ f (g .0) (g .1))) (g .2)) r (members r)
+
+pub box-same : (f g : Face) (r s : List Face) → ((h : Face) → elem h (f ∷ r) ≡ elem h (g ∷ s)) → boxOf (f ∷ r) ≡ boxOf (g ∷ s)
+box-same f g r s h =
+    eq6 (boxOf (f ∷ r)) (boxOf (g ∷ s))
+    (box-least f r (boxOf (g ∷ s)) (held (f ∷ r) (g ∷ s) (λ k e. sym (h k) ∙ e)))
+    (box-least g s (boxOf (f ∷ r)) (held (g ∷ s) (f ∷ r) (λ k e. h k ∙ e)))
 
 -- ---- the rims of marks on inner edges
 module _ (n : ℕ) (E : Set) (inside : (a : Axis) (p : Point) → E a p ≡ true → inner n a p ≡ true) where

@@ -140,6 +140,7 @@ module _ (b : Box) (a : Axis) (m : ℕ) (c : Bounds (suc (coord a (b .lo))) (coo
         flip false true true e = sym e
         flip false false true e = refl
 
+    -- each half keeps an even number of working faces at each of its cells
     pub lower-even : (p : Point) → oddCell (within (lower b a m) W) p ≡ false
     lower-even p =
         ap (λ (F : Set). oddCell F p) (fun-ext (λ d. fun-ext (λ q. lower-within d q)))
@@ -152,6 +153,7 @@ module _ (b : Box) (a : Axis) (m : ℕ) (c : Bounds (suc (coord a (b .lo))) (coo
         ∙ oddCell-where (λ q. not (ltb (coord a q) m)) (within b W) step-not-below p
         ∙ ap (λ (x : Bool). not (ltb (coord a p) m) && x) (even p) ∙ &&-false (not (ltb (coord a p) m))
 
+    -- and together they have all that the box has
     pub halves : (d : Axis) (p : Point) → within (lower b a m) W d p ⊕ within (upper b a m) W d p ≡ within b W d p
     halves d p = ap₂ _⊕_ (lower-within d p) (upper-within d p) ∙ join (ltb (coord a p) m) (within b W d p)
       where

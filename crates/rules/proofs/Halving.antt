@@ -106,7 +106,7 @@ cut-case n ih b W s h d p e =
     ∙ ap (λ (x : Bool). within b W d p ⊕ x) (⊕-self (oddFace (setOf fl) d p))
     ∙ ⊕-false (within b W d p)
 
--- (d) the odd faces of a box's patch are its working faces
+-- the odd faces of a box's patch are its working faces
 pub patch-ends : (n : ℕ) → Ends n
 patch-ends zero b W s h a p = sym (small b W (one-cell← b (λ d. let l = side-size b d in omega arith)) a p)
 patch-ends (suc n) b W s h a p = go (λ c U t k q r. patch-ends n c U t k q r) (oneCell b) refl

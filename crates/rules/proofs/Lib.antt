@@ -1,29 +1,35 @@
+-- numbers, tests and lists
 pub mod Bits
 pub mod Sums
 pub mod Lists
+-- the patch of a box
 pub mod Oddness
+pub mod FaceMarks
 pub mod Paths
 pub mod Boxes
 pub mod Cells
 pub mod Cuts
 pub mod Halves
 pub mod Halving
-pub mod Signs
-pub mod Rims
-pub mod Patched
 pub mod Recursion
+-- rims, and the patched grid
+pub mod Rims
+pub mod RimBox
+pub mod Listed
+pub mod Patched
 pub mod Chains
 pub mod Scan
-pub mod Numbers
-pub mod PointOf
-pub mod RimBox
-pub mod Fill
-pub mod Order
-pub mod FaceMarks
-pub mod PatchOf
-pub mod Store
 pub mod OddList
 pub mod GridRims
+pub mod Fill
+pub mod Order
+pub mod PatchOf
+-- buffers
+pub mod Numbers
+pub mod PointOf
+pub mod Store
+-- what it comes to
+pub mod Signs
 pub mod Consistent
 pub mod Condition
 pub mod Again

@@ -9,7 +9,7 @@ use Rattle.rules.specs.Cell.{oddFace, oddCell}
 use Rattle.rules.proofs.Bits.{⊕-self, ⊕-left, xors}
 use Rattle.rules.proofs.Sums.{parity-append, parityTo-plus, parityTo-zero, parityTo-cong, parityTo-around}
 
--- ---- (a) the odd faces of a sum are the sum of the odd faces (M-111)
+-- ---- the odd faces of a symmetric difference are the symmetric difference of the odd faces
 pub oddFace-symdiff : (E F : Set) (a : Axis) (p : Point) → oddFace (symdiff E F) a p ≡ symdiff (oddFace E) (oddFace F) a p
 oddFace-symdiff E F a p = simp xors
 
@@ -45,8 +45,7 @@ oddCell-from F X p = refl
 oddCell-from F Y p = ⊕-left (step F X p) (step F Y p) (step F Z p)
 oddCell-from F Z p = three (step F X p) (step F Y p) (step F Z p)
 
--- ---- (b) the working faces in a plane are even in number
--- one step of an axis, and coordinates, in the frame of axis a
+-- ---- one step of an axis, and coordinates, in the frame of axis a
 pub up-own : (a : Axis) (m u v : ℕ) → up a (pointAt a m u v) ≡ pointAt a (suc m) u v
 up-own X m u v = refl
 up-own Y m u v = refl
@@ -82,6 +81,7 @@ pointAt-coord X p = refl
 pointAt-coord Y p = refl
 pointAt-coord Z p = refl
 
+-- ---- a plane has an even number of faces of a closed set
 -- a set of faces that leaves every cell even, and has none at 0 and none at the height h of its axis
 pub record Closed (F : Set) (h : Point) : Type 0 where
   pub even : (p : Point) → oddCell F p ≡ false

@@ -1,5 +1,5 @@
 -- What the paths in a cut plane do to its faces. Assumes nothing.
-use mathlib.Core.Bool.{Bool, false, not, true, true≢false, _&&_}
+use mathlib.Core.Bool.{Bool, Bool·not-not, false, true, true≢false, _&&_}
 use mathlib.Core.List.{List, [], map, _∷_}
 use mathlib.Core.Path.{ap, ap₂, refl, sym, _∙_, _≡_}
 use Prim.Native.Nat.{max, min, suc, zero, ℕ, _+_, _-_, _≤_}
@@ -69,7 +69,7 @@ cross-later a m w i u v =
 abbrev pub sameSpot : Spot → Spot → Bool
 sameSpot p q = eqb (p .u) (q .u) && eqb (p .v) (q .v)
 
--- ---- (c) of the faces in the plane a path changes its two ends
+-- ---- of the faces in the plane a path changes its two ends
 pub path-ends : (a : Axis) (m : ℕ) (p q : Spot) (u v : ℕ) → oddFace (setOf (path a m p q)) a (pointAt a m u v) ≡ sameSpot p (record { u = u; v = v }) ⊕ sameSpot q (record { u = u; v = v })
 path-ends a m p q u v =
     oddFace-append (steps _ (p .u) (q .u)) (steps _ (p .v) (q .v)) a (pointAt a m u v)
@@ -85,15 +85,11 @@ path-ends a m p q u v =
 abbrev pub oddLen : List Spot → Bool
 oddLen l = parity (λ q. true) l
 
-not-not : (b : Bool) → not (not b) ≡ b
-not-not true = refl
-not-not false = refl
-
 -- the paths change each member of the list
 pub paths-ends : (a : Axis) (m : ℕ) (l : List Spot) → oddLen l ≡ false → (u v : ℕ) → oddFace (setOf (paths a m l)) a (pointAt a m u v) ≡ parity (λ q. sameSpot q (record { u = u; v = v })) l
 paths-ends a m [] h u v = refl
 paths-ends a m (p ∷ []) h u v = absurd (true≢false h)
 paths-ends a m (p ∷ (q ∷ l)) h u v =
     oddFace-append (path a m p q) (paths a m l) a (pointAt a m u v)
-    ∙ ap₂ _⊕_ (path-ends a m p q u v) (paths-ends a m l (sym (not-not (oddLen l)) ∙ h) u v)
+    ∙ ap₂ _⊕_ (path-ends a m p q u v) (paths-ends a m l (sym (Bool·not-not (oddLen l)) ∙ h) u v)
     ∙ ⊕-assoc (sameSpot p (record { u = u; v = v })) (sameSpot q (record { u = u; v = v })) (parity (λ r. sameSpot r (record { u = u; v = v })) l)

@@ -1,16 +1,16 @@
--- A rim's box is the smallest that holds it, so it depends on the rim's faces alone and not on their order. Assumes nothing.
-use mathlib.Core.Bool.{true}
+-- A rim's box is the smallest that holds the two cells of each of its faces. Assumes nothing.
+use mathlib.Core.Bool.{Bool, true}
 use mathlib.Core.List.{List, [], _∷_}
-use mathlib.Core.Path.{subst, sym, _∙_, _≡_}
+use mathlib.Core.Path.{_≡_}
 use Prim.Native.Nat.{_≤_}
 use native.Mathlib.Omega.{arith}
 use Rattle.rules.specs.Lists.{All}
-use Rattle.rules.specs.Lattice.{samePlace, Place, Box}
-use Rattle.rules.specs.Rims.{elem, ownBox, joinBox, boxFrom, boxOf}
-use Rattle.rules.proofs.Lists.{all-weaken}
-use Rattle.rules.proofs.Cuts.{samePlace→}
-use Rattle.rules.proofs.Chains.{find, members}
+use Rattle.rules.specs.Lattice.{inBox, Point, Place, Box}
+use Rattle.rules.specs.Rims.{ownBox, joinBox, boxFrom, boxOf}
+use Rattle.rules.proofs.Boxes.{inBox→, inBox←}
+use Rattle.rules.proofs.Halves.{raise-mono}
 
+-- ---- a box within a box
 -- every cell of the first is one of the second
 pub record Sub (b c : Box) : Type 0 where
   pub lx : c .lo .i ≤ b .lo .i
@@ -32,12 +32,23 @@ join-left b c = omega arith
 join-right : (b c : Box) → Sub c (joinBox b c)
 join-right b c = omega arith
 
+-- two boxes each in the other are the same
 pub eq6 : (a b : Box) → Sub a b → Sub b a → a ≡ b
 eq6 a b h k = λ i. record {
   lo = record { i = (let q : a .lo .i ≡ b .lo .i = omega arith in q) i; j = (let q : a .lo .j ≡ b .lo .j = omega arith in q) i; k = (let q : a .lo .k ≡ b .lo .k = omega arith in q) i };
   hi = record { i = (let q : a .hi .i ≡ b .hi .i = omega arith in q) i; j = (let q : a .hi .j ≡ b .hi .j = omega arith in q) i; k = (let q : a .hi .k ≡ b .hi .k = omega arith in q) i };
 }
 
+-- what lies in a box lies in a box around it
+pub sub-in : (b c : Box) → Sub b c → (s t r : Bool) (p : Point) → inBox b s t r p ≡ true → inBox c s t r p ≡ true
+sub-in b c h s t r p e =
+    let k = inBox→ b s t r p e in
+    let x = raise-mono s (c .lo .i) (b .lo .i) (h .lx) in
+    let y = raise-mono t (c .lo .j) (b .lo .j) (h .ly) in
+    let z = raise-mono r (c .lo .k) (b .lo .k) (h .lz) in
+    inBox← c s t r p (omega arith)
+
+-- ---- the box of a list of faces
 from-least : (b c : Box) (l : List Place) → Sub b c → All (λ f. Sub (ownBox f) c) l → Sub (boxFrom b l) c
 from-least b c [] h k = h
 from-least b c (f ∷ l) h k = from-least (joinBox b (ownBox f)) c l (sub-join b (ownBox f) c h (k .0)) (k .1)
@@ -59,13 +70,3 @@ box-holds (f ∷ l) = (from-first (ownBox f) l, from-rest (ownBox f) l)
 -- and any box that does holds it
 pub box-least : (f : Place) (l : List Place) (c : Box) → All (λ g. Sub (ownBox g) c) (f ∷ l) → Sub (boxOf (f ∷ l)) c
 box-least f l c h = from-least (ownBox f) c l (h .0) (h .1)
-
--- so two lists with the same faces have the same box
-held : (r s : List Place) → ((f : Place) → elem f r ≡ true → elem f s ≡ true) → All (λ f. Sub (ownBox f) (boxOf s)) r
-held r s h = all-weaken _ _ (λ f e. let g = find (samePlace f) (λ x. Sub (ownBox x) (boxOf s)) s (box-holds s) (h f e) in subst (λ (x : Place). Sub (ownBox x) (boxOf s)) (sym (samePlace→ f (g .0) (g .1))) (g .2)) r (members r)
-
-pub box-same : (f g : Place) (r s : List Place) → ((h : Place) → elem h (f ∷ r) ≡ elem h (g ∷ s)) → boxOf (f ∷ r) ≡ boxOf (g ∷ s)
-box-same f g r s h =
-    eq6 (boxOf (f ∷ r)) (boxOf (g ∷ s))
-    (box-least f r (boxOf (g ∷ s)) (held (f ∷ r) (g ∷ s) (λ k e. sym (h k) ∙ e)))
-    (box-least g s (boxOf (f ∷ r)) (held (g ∷ s) (f ∷ r) (λ k e. h k ∙ e)))

@@ -1,5 +1,5 @@
 -- Each rim leaves every cell even, and together the rims are the odd faces. Assumes nothing.
-use mathlib.Core.Bool.{Bool, cond, false, false≢true, not, true, true≢false, _&&_, _||_}
+use mathlib.Core.Bool.{Bool, cond, false, false≢true, not, or-assoc, true, true≢false, _&&_, _||_}
 use mathlib.Core.List.{List, [], _++_, _∷_}
 use mathlib.Core.Path.{ap, ap₂, fun-ext, refl, sym, _∙_, _≡_}
 use Prim.Native.Nat.{pred, suc, ℕ, _+_, _≤_}
@@ -14,7 +14,7 @@ use Rattle.rules.proofs.Lists.{all-weaken}
 use Rattle.rules.proofs.Oddness.{oddCell-symdiff}
 use Rattle.rules.proofs.Cuts.{samePoint→}
 
--- ---- (R1) the rims together are the list
+-- ---- the rims together are the list
 pub parity-rims : (g : Place → Bool) (l : List Place) → parity (λ r. parity g r) (rimsOf l) ≡ parity g l
 parity-rims g [] = refl
 parity-rims g (f ∷ l) =
@@ -53,7 +53,7 @@ pub cell-sum : (p : Point) (r : List Place) → oddCell (setOf r) p ≡ parity (
 cell-sum p [] = refl
 cell-sum p (f ∷ r) = oddCell-symdiff (λ a q. samePlace f (record { axis = a; at = q })) (setOf r) p ∙ ap₂ _⊕_ (cell-at (f .axis) (f .at) p) (cell-sum p r)
 
--- ---- (R2) at most one rim has faces of a cell
+-- ---- at most one rim has faces of a cell
 or-left : (a b : Bool) → a || b ≡ false → a ≡ false
 or-left true b e = e
 or-left false b e = refl
@@ -113,11 +113,7 @@ module _ {A : Type 0} where
 
 pub any-append : (g : Place → Bool) (l m : List Place) → anyOf g (l ++ m) ≡ anyOf g l || anyOf g m
 any-append g [] m = refl
-any-append g (x ∷ l) m = ap (λ (b : Bool). g x || b) (any-append g l m) ∙ or-assoc (g x) (anyOf g l) (anyOf g m)
-  where
-    or-assoc : (a b c : Bool) → a || (b || c) ≡ a || b || c
-    or-assoc true b c = refl
-    or-assoc false b c = refl
+any-append g (x ∷ l) m = ap (λ (b : Bool). g x || b) (any-append g l m) ∙ sym (or-assoc (g x) (anyOf g l) (anyOf g m))
 
 touch-each : (p : Point) (rs : List (List Place)) → touch p (each (λ r. r) rs) ≡ true → 1 ≤ count (touch p) rs
 touch-each p [] h = absurd (false≢true h)

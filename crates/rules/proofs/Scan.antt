@@ -48,7 +48,7 @@ module _ {R : Type 0} where
 abbrev pub hit : List Place → List Place → Bool
 hit done r = anyOf (λ f. elem f r) done
 
--- (S) the scan's step: a face that no earlier rim has begins a new one
+-- the scan's step: a face that no earlier rim has begins a new one
 pub scan-step : (l : List Place) (done : List Place) (f : Place) → elem f l ≡ true →
     count (hit (f ∷ done)) (rimsOf l) ≡ count (hit done) (rimsOf l) + cond (anyOf (λ r. hit done r && elem f r) (rimsOf l)) 0 1
 scan-step l done f e = count-or-one (elem f) (hit done) (rimsOf l) (one-rim l f e)
@@ -57,7 +57,7 @@ all-length : (w : List Place → Bool) (rs : List (List Place)) → All (λ r. w
 all-length w [] h = refl
 all-length w (r ∷ rs) h = rw (h .0) (ap suc (all-length w rs (h .1)))
 
--- (N) a rim has a face, and it is one of the list
+-- a rim has a face, and it is one of the list
 pub rim-some : (l : List Place) → All (λ r. hit l r ≡ true) (rimsOf l)
 rim-some [] = tt
 rim-some (f ∷ l) = (

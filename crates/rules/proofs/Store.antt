@@ -76,7 +76,7 @@ toggle-has a c b h =
     (at-axis (λ d. turned a d b) (at-axis (λ e. allOf (λ d. turned e d b) axes)
     (at-upto (λ k. allOf (λ e. allOf (λ d. turned e d k) axes) axes ≡ true) 0 256 b (allOf→ (λ k. allOf (λ e. allOf (λ d. turned e d k) axes) axes) (upto 0 256) tested) (omega arith) (omega arith)) a) c)
 
--- (T) turning one bit of the buffer turns one member of the set
+-- turning one bit of the buffer turns one member of the set
 pub stored-toggle : (n : ℕ) (w : List ℕ) (d : Axis) (q : Point) → OfGrid n q → pointCount n ≤ length w → getD w (pointNumber n q) 0 < 256 → (a : Axis) (p : Point) → OfGrid n p →
     stored n (set w (pointNumber n q) (toggle d (getD w (pointNumber n q) 0))) a p ≡ stored n w a p ⊕ (sameAxis d a && samePoint q p)
 stored-toggle n w d q hq l h a p hp = stored-set n w q (toggle d (getD w (pointNumber n q) 0)) hq l a p hp ∙ go (samePoint q p) refl
