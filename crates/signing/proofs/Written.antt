@@ -1,8 +1,8 @@
--- A list written into a buffer from its beginning on, one member after the other. Assumes nothing.
+-- A list written into a buffer, one part after the other; what is behind it keeps its contents. Assumes nothing.
 use mathlib.Core.Path.{_≡_, refl, sym, ap, _∙_}
-use mathlib.Core.List.{List, _∷_, map, _++_}
-use Prim.Native.Nat.{ℕ, suc, _-_, _≤_, _<_}
-use native.Mathlib.Nat.{zero-add}
+use mathlib.Core.List.{List, [], _∷_, map, _++_}
+use Prim.Native.Nat.{ℕ, suc, _+_, _-_, _≤_, _<_}
+use native.Mathlib.Nat.{zero-add, add-zero}
 use native.Mathlib.Omega.{arith}
 use lib.ListN.{length, drop, set}
 use lib.Seq.{sets, sets-eq}
@@ -23,3 +23,8 @@ write-more f s p c h = ap (λ (l : List ℕ). sets s p (map f l)) (sym (upto-mor
 -- none is left
 pub write-end : (f : ℕ → ℕ) (s : List ℕ) (p c : ℕ) → c ≤ p → sets s p (map f (upto p (c - p))) ≡ s
 write-end f s p c h = ap (λ (m : ℕ). sets s p (map f (upto p m))) (let e : c - p ≡ 0 = omega arith in e)
+
+-- two lists, one behind the other
+pub sets-append : (s : List ℕ) (i : ℕ) (l m : List ℕ) → sets (sets s i l) (i + length l) m ≡ sets s i (l ++ m)
+sets-append s i [] m = ap (λ (j : ℕ). sets s j m) (add-zero i)
+sets-append s i (x ∷ l) m = ap (λ (j : ℕ). sets (sets (set s i x) (suc i) l) j m) (let e : i + suc (length l) ≡ suc i + length l = omega arith in e) ∙ sets-append (set s i x) (suc i) l m

@@ -1,2 +1,4 @@
 pub mod Steps
 pub mod Fits
+pub mod Around
+pub mod Quads

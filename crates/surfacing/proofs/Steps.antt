@@ -6,8 +6,10 @@ use native.Mathlib.Omega.{arith}
 use Rattle.rules.specs.declared.Axis.{Axis}
 use Rattle.rules.specs.declared.Axis.the-variants.{X, Y, Z}
 use Rattle.rules.specs.declared.Point.{Point}
-use Rattle.rules.specs.Lattice.{coord, up, origin, pointNumber, pointCount, OfGrid}
+use Rattle.rules.specs.Lattice.{coord, up, origin, pointNumber, pointCount, pointOf, OfGrid}
 use Rattle.rules.proofs.Numbers.{number-below}
+use Rattle.rules.proofs.PointOf.{number-pointOf, pointOf-grid}
+use Rattle.lattice.proofs.Points.{At}
 use Rattle.surfacing.specs.Fit.{pointStep}
 
 pub number-up : (n : ℕ) (a : Axis) (q : Point) → pointNumber n (up a q) ≡ pointNumber n q + pointStep n a
@@ -31,3 +33,7 @@ up-below n a q h l = let e = number-up n a q in let b = below n (up a q) (up-gri
 
 pub count-some : (n : ℕ) → 0 < pointCount n
 count-some n = let b = below n origin (omega arith) in omega arith
+
+-- a number below P stands for its point
+pub at-pointOf : (n p : ℕ) → p < pointCount n → At n p (pointOf n p)
+at-pointOf n p h = let g = pointOf-grid n p h in record { on-i = g .i; on-j = g .j; is = number-pointOf n p }

@@ -1,13 +1,14 @@
 -- The list of quads, as it is written one edge after the other. Assumes nothing.
-use mathlib.Core.Bool.{Bool, cond}
-use mathlib.Core.List.{List, [], _++_}
+use mathlib.Core.Path.{_≡_}
+use mathlib.Core.Bool.{Bool, true, cond}
+use mathlib.Core.List.{List, []}
 use Prim.Native.Nat.{ℕ, suc, _+_, _*_}
 use Rattle.rules.specs.declared.Axis.{Axis}
 use Rattle.rules.specs.declared.Axis.the-variants.{X, Y, Z}
 use Rattle.rules.specs.declared.Point.{Point}
 use Rattle.rules.specs.declared.Place.{Place}
 use Rattle.rules.specs.Lists.{count, each}
-use Rattle.rules.specs.Lattice.{places, placesAt, Set, isIn}
+use Rattle.rules.specs.Lattice.{places, placesAt, Set, isIn, inner}
 use Rattle.rules.specs.Grid.{value, has}
 use Rattle.rules.specs.Quads.{quad}
 
@@ -32,3 +33,7 @@ byteQuads n b inside p = each (byteQuad n b inside) (placesAt p)
 -- how many marks a byte has
 abbrev pub byteMarks : ℕ → ℕ
 byteMarks b = value (has X b) 1 + (value (has Y b) 1 + value (has Z b) 1)
+
+-- each mark of the byte at a point is on an inner edge
+abbrev pub MarksInner : ℕ → ℕ → Point → Type 0
+MarksInner n b q = (a : Axis) → has a b ≡ true → inner n a q ≡ true

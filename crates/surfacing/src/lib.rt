@@ -1,2 +1,3 @@
 // The call surface: the quads between inside and outside.
 pub mod fit;
+pub mod listing;

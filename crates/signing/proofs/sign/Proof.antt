@@ -49,4 +49,3 @@ sign-spec =
     same-length
     returns
     returns-2)
-

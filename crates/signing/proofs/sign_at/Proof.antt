@@ -51,9 +51,10 @@ returns-4 c =
     simp (le-ltb _ _ g, le-ltb _ _ s, holds (c .before .before .before .is-grid .ensures) (c .before .before .if3 .left), fails (c .before .all-even .ensures) (c .if4 .taken))
 
 sign-points-requires : tie.Need-sign-points-requires
-sign-points-requires c κs =
-    ((c .before .before .before .before .before .before .before .before .before .before .pre .1, omega (arith, c .before .before .before .before .before .before .before .point-count .ensures .0), omega (arith, c .before .before .before .before .before .before .before .point-count .ensures .0)),
-     (holds (c .before .before .before .before .is-grid .ensures) (c .before .before .before .if3 .left), holds (c .before .before .all-even .ensures) (c .before .if4 .left)))
+sign-points-requires c κs = (
+  (c .before .before .before .before .before .before .before .before .before .before .pre .1, omega (arith, c .before .before .before .before .before .before .before .point-count .ensures .0), omega (arith, c .before .before .before .before .before .before .before .point-count .ensures .0)),
+  (holds (c .before .before .before .before .is-grid .ensures) (c .before .before .before .if3 .left), holds (c .before .before .all-even .ensures) (c .before .if4 .left)),
+)
 
 same-length : tie.Need-same-length
 same-length c = search needs
@@ -80,4 +81,3 @@ sign-at-spec =
     sign-points-requires
     same-length
     returns-5)
-

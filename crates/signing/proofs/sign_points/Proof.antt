@@ -59,10 +59,13 @@ loop-again c =
     let n = s .args .n in
     let E = marks n (s .args .grid .now) in
     let h : q .p < pointCount n = omega arith in
-    let next = sign-next n (s .args .grid .now) (s .pre .0 .1) (s .pre .1 .0) (s .pre .1 .1) (q .p) h in
-    (q .inv .0, omega arith, simp length-set (q .inv .2),
-     rw (add-one, c .across .ensures, q .inv .3, next),
-     rw (add-one (q .p), c .before .before .sign-byte .ensures, q .inv .3) (write-more (signAt n E) (q .signs) (q .p) (pointCount n) h ∙ q .inv .4))
+    let next = sign-next n (s .args .grid .now) (s .pre .0 .1) (s .pre .1 .0) (s .pre .1 .1) (q .p) h in (
+      q .inv .0,
+      omega arith,
+      simp length-set (q .inv .2),
+      rw (add-one, c .across .ensures, q .inv .3, next),
+      rw (add-one (q .p), c .before .before .sign-byte .ensures, q .inv .3) (write-more (signAt n E) (q .signs) (q .p) (pointCount n) h ∙ q .inv .4),
+    )
 
 same-length : tie.Need-same-length Inv-loop μ-loop
 same-length c = c .before .loop .inv .2

@@ -50,4 +50,3 @@ edge-fits-spec =
     shared-slice-read-bit
     bit-requires
     returns-2)
-

@@ -53,4 +53,3 @@ point-fits-spec =
     returns-3
     edge-fits-requires-3
     returns-4)
-

@@ -88,4 +88,3 @@ signs-fit-spec =
     loop-less
     loop-again
     returns-3)
-

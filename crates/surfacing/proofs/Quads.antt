@@ -1,0 +1,183 @@
+-- The list of quads, point by point: what is before a scan, its length, and how it is written. Assumes nothing.
+use mathlib.Core.Path.{_≡_, refl, sym, ap, ap₂, _∙_}
+use mathlib.Core.Bool.{Bool, true, false, cond}
+use mathlib.Core.List.{List, [], _∷_, _++_, append-assoc, append-nil}
+use Prim.Native.Nat.{ℕ, zero, suc, _+_, _*_, _≤_, _<_}
+use native.Mathlib.Nat.{mul-suc}
+use native.Mathlib.Omega.{arith}
+use lib.Dec.{eqb}
+use lib.ListN.{length, getD, length-append}
+use lib.Seq.{sets, length-sets}
+use Rattle.rules.specs.declared.Axis.{Axis}
+use Rattle.rules.specs.declared.Axis.the-variants.{X, Y, Z}
+use Rattle.rules.specs.declared.Point.{Point}
+use Rattle.rules.specs.declared.Place.{Place}
+use Rattle.rules.specs.Lists.{count, keep, each}
+use Rattle.rules.specs.Lattice.{Set, isIn, OfGrid, pointNumber, pointCount, points, placesAt, places}
+use Rattle.rules.specs.Grid.{value, has, marks, isGrid}
+use Rattle.rules.specs.Quads.{quad, quads}
+use Rattle.lattice.proofs.Points.{pointsFrom, points-start, points-more, points-end, At, at-grid}
+use Rattle.lattice.proofs.GridFacts.{grid-marks}
+use Rattle.signing.specs.SignBytes.{inside}
+use Rattle.signing.proofs.Written.{sets-append}
+use Rattle.surfacing.specs.Fit.{Grids}
+use Rattle.surfacing.specs.Listing.{quadCount, byteQuad, byteQuads, byteMarks}
+
+-- ---- lists
+module _ {A B : Type 0} where
+  each-append : (f : A → List B) (l m : List A) → each f (l ++ m) ≡ each f l ++ each f m
+  each-append f [] m = refl
+  each-append f (x ∷ l) m = ap (λ (r : List B). f x ++ r) (each-append f l m) ∙ sym (append-assoc (f x) (each f l) (each f m))
+
+  -- what is kept, where it stands
+  each-keep : (f : A → List B) (w : A → Bool) (l : List A) → each f (keep w l) ≡ each (λ x. cond (w x) (f x) []) l
+  each-keep f w [] = refl
+  each-keep f w (x ∷ l) = go (w x) (each-keep f w l)
+    where
+      go : (c : Bool) → each f (keep w l) ≡ each (λ y. cond (w y) (f y) []) l → each f (cond c (x ∷ keep w l) (keep w l)) ≡ cond c (f x) [] ++ each (λ y. cond (w y) (f y) []) l
+      go true e = ap (λ (r : List B). f x ++ r) e
+      go false e = e
+
+  -- lists of one length, of each member that is kept
+  pub length-kept : (f : A → List B) (w : A → Bool) (k : ℕ) → ((x : A) → length (f x) ≡ k) → (l : List A) → length (each f (keep w l)) ≡ k * count w l
+  length-kept f w k h [] = omega arith
+  length-kept f w k h (x ∷ l) = go (w x) (length-kept f w k h l)
+    where
+      go : (c : Bool) → length (each f (keep w l)) ≡ k * count w l → length (each f (cond c (x ∷ keep w l) (keep w l))) ≡ k * cond c (suc (count w l)) (count w l)
+      go true e = let a = length-append (f x) (each f (keep w l)) in let m = mul-suc k (count w l) in let g = h x in omega arith
+      go false e = e
+
+module _ {A B C : Type 0} where
+  each-each : (f : B → List C) (g : A → List B) (l : List A) → each f (each g l) ≡ each (λ x. each f (g x)) l
+  each-each f g [] = refl
+  each-each f g (x ∷ l) = each-append f (g x) (each g l) ∙ ap (λ (r : List C). each f (g x) ++ r) (each-each f g l)
+
+module _ {B : Type 0} (f : Point → List B) (n : ℕ) where
+  -- the lists of the points from a number on: that of the first of them, then the others
+  pub each-step : (p : ℕ) (q : Point) → At n p q → p < pointCount n → each f (pointsFrom n p) ≡ f q ++ each f (pointsFrom n (suc p))
+  each-step p q a h =
+      ap (λ (i : ℕ). each f (pointsFrom n i)) (sym (a .is)) ∙ ap (each f) (points-more n q (at-grid n p q a h))
+      ∙ ap (λ (i : ℕ). f q ++ each f (pointsFrom n (suc i))) (a .is)
+
+-- ---- the number of quads
+marks-value : (b : Bool) (k : ℕ) → cond b (suc k) k ≡ value b 1 + k
+marks-value true k = omega arith
+marks-value false k = omega arith
+
+-- a bit is the value of its test
+pub bit-value : (x : ℕ) → x < 2 → x ≡ value (eqb x 1) 1
+bit-value zero h = refl
+bit-value (suc zero) h = refl
+bit-value (suc (suc x)) h = absurd (omega arith)
+
+abbrev pub countFrom : ℕ → Set → ℕ → ℕ
+countFrom n E p = count (isIn E) (each placesAt (pointsFrom n p))
+
+pub count-start : (n : ℕ) (E : Set) → countFrom n E 0 ≡ quadCount n E
+unfolding quadCount
+count-start n E = ap (λ (l : List Point). count (isIn E) (each placesAt l)) (points-start n)
+
+pub count-end : (n : ℕ) (E : Set) (p : ℕ) → pointCount n ≤ p → countFrom n E p ≡ 0
+count-end n E p h = ap (λ (l : List Point). count (isIn E) (each placesAt l)) (points-end n p h)
+
+pub count-step : (n : ℕ) (g : List ℕ) (p : ℕ) (q : Point) → pointCount n ≤ length g → isGrid n g ≡ true → At n p q → p < pointCount n →
+    countFrom n (marks n g) p ≡ byteMarks (getD g p 0) + countFrom n (marks n g) (suc p)
+count-step n g p q long grid a h =
+    ap (count (isIn (marks n g))) (each-step placesAt n p q a h)
+    ∙ three (marks n g X q) (marks n g Y q) (marks n g Z q) (countFrom n (marks n g) (suc p))
+    ∙ ap (λ (k : ℕ). k + countFrom n (marks n g) (suc p)) (ap₂ _+_ (bit X) (ap₂ _+_ (bit Y) (bit Z)))
+  where
+    three : (x y z : Bool) (k : ℕ) → cond x (suc (cond y (suc (cond z (suc k) k)) (cond z (suc k) k))) (cond y (suc (cond z (suc k) k)) (cond z (suc k) k)) ≡ (value x 1 + (value y 1 + value z 1)) + k
+    three x y z k = let a = marks-value x (cond y (suc (cond z (suc k) k)) (cond z (suc k) k)) in let b = marks-value y (cond z (suc k) k) in let c = marks-value z k in omega arith
+
+    bit : (b : Axis) → value (marks n g b q) 1 ≡ value (has b (getD g p 0)) 1
+    bit b = ap (λ (c : Bool). value c 1) (sym (grid-marks n g long grid b q (at-grid n p q a h)) ∙ ap (λ (i : ℕ). has b (getD g i 0)) (a .is))
+
+four-long : (n : ℕ) (s : Point → Bool) (e : Place) → length (quad n s e) ≡ 4
+four-long n s e = go (s (e .at))
+  where
+    go : (c : Bool) → length (quad n (λ p. c) e) ≡ 4
+    go true = refl
+    go false = refl
+
+-- the list has four numbers a quad
+pub quads-length : (n : ℕ) (E : Set) (s : Point → Bool) → length (quads n E s) ≡ 4 * quadCount n E
+unfolding quads quadCount
+quads-length n E s = length-kept (quad n s) (isIn E) 4 (four-long n s) (places (suc n))
+
+-- ---- the quads from a point on
+module _ (n : ℕ) (E : Set) (s : Point → Bool) where
+  abbrev pub quadsAt : Point → List ℕ
+  quadsAt q = each (λ e. cond (isIn E e) (quad n s e) []) (placesAt q)
+
+  abbrev pub quadsFrom : ℕ → List ℕ
+  quadsFrom p = each quadsAt (pointsFrom n p)
+
+  pub quads-start : quadsFrom 0 ≡ quads n E s
+  unfolding quads
+  quads-start =
+      ap (each quadsAt) (points-start n)
+      ∙ sym (each-keep (quad n s) (isIn E) (places (suc n)) ∙ each-each (λ e. cond (isIn E e) (quad n s e) []) placesAt (points (suc n)))
+
+  pub quads-end : (p : ℕ) → pointCount n ≤ p → quadsFrom p ≡ []
+  quads-end p h = ap (each quadsAt) (points-end n p h)
+
+-- the quads of a point, by its bytes
+pub quads-byte : (n : ℕ) (g s : List ℕ) (p : ℕ) (q : Point) → Grids n g s → At n p q → p < pointCount n →
+    byteQuads n (getD g p 0) (eqb (getD s p 0) 1) q ≡ quadsAt n (marks n g) (inside n s) q
+unfolding byteQuads
+quads-byte n g s p q k a h = ap₂ _++_ (one X) (ap₂ _++_ (one Y) (ap₂ _++_ (one Z) refl))
+  where
+    one : (b : Axis) → byteQuad n (getD g p 0) (eqb (getD s p 0) 1) (record { axis = b; at = q }) ≡ cond (marks n g b q) (quad n (inside n s) (record { axis = b; at = q })) []
+    one b = ap₂ (λ (c d : Bool). cond c (quad n (λ r. d) (record { axis = b; at = q })) [])
+        (ap (λ (i : ℕ). has b (getD g i 0)) (sym (a .is)) ∙ grid-marks n g (k .g-long) (k .grid) b q (at-grid n p q a h))
+        (ap (λ (i : ℕ). eqb (getD s i 0) 1) (sym (a .is)))
+
+-- no mark, no quad
+pub quads-none : (n b : ℕ) (inside : Bool) (q : Point) → b ≡ 0 → byteQuads n b inside q ≡ []
+unfolding byteQuads
+quads-none n b inside q e = rw e
+
+-- ---- the quads of the three edges at a point, written one behind the other
+module _ (l : List ℕ) (i : ℕ) (x y z : List ℕ) (room : i + length (x ++ (y ++ (z ++ []))) ≤ length l) where
+  long : length (x ++ (y ++ (z ++ []))) ≡ length x + (length y + length z)
+  long = let a = length-append x (y ++ (z ++ [])) in let b = length-append y (z ++ []) in let c = length-append z [] in omega arith
+
+  pub room-x : i + length x ≤ length l
+  room-x = let a = long in omega arith
+
+  module _ (j : ℕ) (m : List ℕ) (ex : (j ≡ i + length x) × (m ≡ sets l i x)) where
+    pub room-y : j + length y ≤ length m
+    room-y = let a = long in let b = ap length (ex .1) ∙ length-sets l i x in omega arith
+
+    module _ (k : ℕ) (o : List ℕ) (ey : (k ≡ j + length y) × (o ≡ sets m j y)) where
+      pub room-z : k + length z ≤ length o
+      room-z = let a = long in let b = ap length (ex .1) ∙ length-sets l i x in let c = ap length (ey .1) ∙ length-sets m j y in omega arith
+
+      pub three-written : (h : ℕ) (r : List ℕ) → (h ≡ k + length z) × (r ≡ sets o k z) → (h ≡ i + length (x ++ (y ++ (z ++ [])))) × (r ≡ sets l i (x ++ (y ++ (z ++ []))))
+      three-written h r ez =
+          (let a = long in omega arith,
+           ez .1
+           ∙ ap₂ (λ (d : List ℕ) (t : ℕ). sets d t z) (ey .1 ∙ ap₂ (λ (d : List ℕ) (t : ℕ). sets d t y) (ex .1) (ex .0)) (ey .0 ∙ ap (λ (t : ℕ). t + length y) (ex .0))
+           ∙ ap (λ (d : List ℕ). sets d (i + length x + length y) z) (sets-append l i x y)
+           ∙ ap (λ (t : ℕ). sets (sets l i (x ++ y)) t z) (let a = length-append x y in let e : i + length x + length y ≡ i + length (x ++ y) = omega arith in e)
+           ∙ sets-append l i (x ++ y) z
+           ∙ ap (λ (d : List ℕ). sets l i d) (append-assoc x y z ∙ ap (λ (d : List ℕ). x ++ (y ++ d)) (sym (append-nil z))))
+
+-- ---- one turn of the loop that writes: the quads of a point are written, and those behind it are left
+module _ (n : ℕ) (E : Set) (s : Point → Bool) (p : ℕ) (q : Point) (a : At n p q) (h : p < pointCount n) where
+  pub quads-room : (i : ℕ) (l : List ℕ) → i + length (quadsFrom n E s p) ≤ length l → i + length (quadsAt n E s q) ≤ length l
+  quads-room i l r =
+      let e = ap length (each-step (quadsAt n E s) n p q a h) ∙ length-append (quadsAt n E s q) (quadsFrom n E s (suc p)) in
+      omega arith
+
+  pub quads-written : (i j : ℕ) (l m : List ℕ) → (j ≡ i + length (quadsAt n E s q)) × (m ≡ sets l i (quadsAt n E s q)) → i + length (quadsFrom n E s p) ≤ length l →
+      (length m ≡ length l) × (j + length (quadsFrom n E s (suc p)) ≤ length m) × (sets m j (quadsFrom n E s (suc p)) ≡ sets l i (quadsFrom n E s p))
+  quads-written i j l m e r =
+      let t = each-step (quadsAt n E s) n p q a h in
+      let f = ap length t ∙ length-append (quadsAt n E s q) (quadsFrom n E s (suc p)) in
+      let g = ap length (e .1) ∙ length-sets l i (quadsAt n E s q) in
+      (g, omega arith,
+       ap₂ (λ (d : List ℕ) (u : ℕ). sets d u (quadsFrom n E s (suc p))) (e .1) (e .0)
+       ∙ sets-append l i (quadsAt n E s q) (quadsFrom n E s (suc p))
+       ∙ ap (λ (d : List ℕ). sets l i d) (sym t))

@@ -1,0 +1,115 @@
+-- `surfacing::listing::write_quads` meets its contract. The loop's invariant: the scan stands at point q, of number p, and with the
+-- quads from there on written at `at` the list is as with all of them written. Assumes nothing.
+use mathlib.Core.Path.{_≡_, refl, sym, ap, _∙_}
+use mathlib.Core.List.{List}
+use Prim.Native.Nat.{ℕ, _+_, _*_, _-_, _≤_, _<_}
+use native.Mathlib.Numerals.{add-one}
+use native.Mathlib.Omega.{arith}
+use lib.Dec.{eqb}
+use lib.ListN.{length, getD}
+use lib.Seq.{sets}
+use Rattle.rules.specs.Lattice.{pointCount}
+use Rattle.rules.specs.Grid.{marks}
+use Rattle.rules.specs.Quads.{quads}
+use Rattle.lattice.proofs.Points.{At, at-start, at-grid, at-next}
+use Rattle.signing.specs.SignBytes.{inside}
+use Rattle.signing.proofs.Written.{written}
+use Rattle.surfacing.specs.Listing.{quadCount}
+use Rattle.surfacing.proofs.Around.{marks-inner-at}
+use Rattle.surfacing.proofs.Quads.{quadsFrom, quads-start, quads-end, quads-byte, quads-length, quads-room, quads-written}
+use Rattle.surfacing.proofs.listing.write_quads.Statement.{statement}
+use Rattle.surfacing.proofs.listing.write_quads.Tie as tie
+
+abbrev Inv-loop : tie.InvT-loop
+Inv-loop n grid signs list₀ count q₀ p₀ at₀ list q p at =
+    (count ≡ pointCount n)
+    × (p ≤ pointCount n)
+    × At n p q
+    × (length list ≡ length list₀)
+    × (at + length (quadsFrom n (marks n grid) (inside n signs) p) ≤ length list)
+    × (sets list at (quadsFrom n (marks n grid) (inside n signs) p) ≡ sets list₀ 0 (quads n (marks n grid) (inside n signs)))
+
+abbrev μ-loop : tie.MeasureT-loop
+μ-loop n grid signs list₀ count q₀ p₀ at₀ list q p at = count - p
+
+point-count-requires : tie.Need-point-count-requires Inv-loop μ-loop
+point-count-requires c κs = c .before .before .before .pre .0
+
+loop-holds : tie.Need-loop-holds Inv-loop μ-loop
+loop-holds c =
+    let n = c .before .before .before .before .args .n in
+    let E = marks n (c .before .before .before .before .args .grid .now) in
+    let s = inside n (c .before .before .before .before .args .signs .now) in
+    let e = quads-start n E s in
+    (c .point-count .ensures .0, omega arith, at-start _, refl, omega (arith, ap length e, quads-length n E s, c .before .before .before .before .pre .2), ap (sets (c .before .before .before .before .args .list .now) 0) e)
+
+shared-slice-read-put-quads : tie.Need-shared-slice-read-put-quads Inv-loop μ-loop
+shared-slice-read-put-quads c = omega (arith, c .before .before .before .before .before .before .before .pre .1 .g-long)
+
+shared-slice-read-put-quads-2 : tie.Need-shared-slice-read-put-quads-2 Inv-loop μ-loop
+shared-slice-read-put-quads-2 c = omega (arith, c .before .before .before .before .before .before .before .before .pre .1 .s-long)
+
+put-quads-requires : tie.Need-put-quads-requires Inv-loop μ-loop
+put-quads-requires c κs =
+    let l = c .before .before .before .before .loop in
+    let n = c .before .before .before .before .before .before .before .before .before .args .n in
+    let g = c .before .before .before .before .before .before .before .before .before .args .grid .now in
+    let s = c .before .before .before .before .before .before .before .before .before .args .signs .now in
+    let h : l .p < pointCount n = omega (arith, l .inv .0, c .before .before .before .loop-test .taken) in
+    ((c .before .before .before .before .before .before .before .before .before .pre .0, marks-inner-at n g (l .p) (l .q) (c .before .before .before .before .before .before .before .before .before .pre .1 .g-long) (c .before .before .before .before .before .before .before .before .before .pre .1 .grid) (l .inv .2) h),
+     rw (quads-byte n g s (l .p) (l .q) (c .before .before .before .before .before .before .before .before .before .pre .1) (l .inv .2) h) (quads-room n (marks n g) (inside n s) (l .p) (l .q) (l .inv .2) h (l .at) (l .list) (l .inv .4)))
+
+next-point-requires : tie.Need-next-point-requires Inv-loop μ-loop
+next-point-requires c κs =
+    let l = c .before .before .before .before .before .before .before .loop in
+    let h : l .p < pointCount (c .before .before .before .before .before .before .before .before .before .before .before .before .args .n) = omega (arith, l .inv .0, c .before .before .before .before .before .before .loop-test .taken) in
+    (c .before .before .before .before .before .before .before .before .before .before .before .before .pre .0, at-grid _ (l .p) (l .q) (l .inv .2) h)
+
+add-p : tie.Need-add-p Inv-loop μ-loop
+add-p c = omega (arith, c .before .before .before .before .before .before .before .loop-test .taken, c .before .before .before .before .before .before .before .before .before .point-count .ensures .1)
+
+loop-less : tie.Need-loop-less Inv-loop μ-loop
+loop-less c = omega (arith, c .before .before .before .before .before .before .before .loop-test .taken)
+
+loop-again : tie.Need-loop-again Inv-loop μ-loop
+loop-again c =
+    let l = c .before .before .before .before .before .before .before .before .loop in
+    let n = c .before .before .before .before .before .before .before .before .before .before .before .before .before .args .n in
+    let g = c .before .before .before .before .before .before .before .before .before .before .before .before .before .args .grid .now in
+    let s = c .before .before .before .before .before .before .before .before .before .before .before .before .before .args .signs .now in
+    let h : l .p < pointCount n = omega (arith, l .inv .0, c .before .before .before .before .before .before .before .loop-test .taken) in
+    let e = rw (quads-byte n g s (l .p) (l .q) (c .before .before .before .before .before .before .before .before .before .before .before .before .before .pre .1) (l .inv .2) h) at (c .before .before .before .put-quads .ensures) in
+    let w = quads-written n (marks n g) (inside n s) (l .p) (l .q) (l .inv .2) h (l .at) _ (l .list) _ e (l .inv .4) in
+    (l .inv .0, omega arith, rw (add-one, c .next-point .ensures) (at-next n (l .p) (l .q) (l .inv .2) h), w .0 ∙ l .inv .3, rw add-one (w .1), rw add-one (w .2 ∙ l .inv .5))
+
+same-length : tie.Need-same-length Inv-loop μ-loop
+same-length c = c .before .loop .inv .3
+
+returns : tie.Need-returns Inv-loop μ-loop
+returns c =
+    let l = c .before .loop in
+    let n = c .before .before .before .before .before .before .args .n in
+    let E = marks n (c .before .before .before .before .before .before .args .grid .now) in
+    let s = inside n (c .before .before .before .before .before .before .args .signs .now) in
+    sym (ap (sets (l .list) (l .at)) (quads-end n E s (l .p) (omega (arith, l .inv .0, c .loop-test .left))))
+    ∙ l .inv .5
+    ∙ written (c .before .before .before .before .before .before .args .list .now) (quads n E s) (4 * quadCount n E) (quads-length n E s) (c .before .before .before .before .before .before .pre .2)
+
+pub write-quads-spec : {M : Type 1} → statement M
+write-quads-spec =
+    tie.close
+    (tie.spec
+    Inv-loop
+    μ-loop
+    point-count-requires
+    loop-holds
+    shared-slice-read-put-quads
+    shared-slice-read-put-quads-2
+    put-quads-requires
+    next-point-requires
+    add-p
+    loop-less
+    loop-again
+    same-length
+    returns)
+

@@ -1,0 +1,140 @@
+// The list of quads: the four cells around each marked edge, by rising point number, x before y before z at one point.
+use lattice::bit;
+use lattice::level::point_count;
+use lattice::scan::next_point;
+use rules::Axis;
+use rules::Place;
+use rules::Point;
+ghost use mathlib.Core.Path.{_≡_};
+ghost use mathlib.Core.Bool.{true};
+ghost use mathlib.Core.List.{[], _∷_, _++_};
+ghost use Prim.Native.Nat.{_+_, _*_, _≤_, _<_};
+ghost use lib.ListN.{length, drop};
+ghost use lib.Seq.{sets};
+ghost use Rattle.rules.specs.Lattice.{inner, cellNumber, pointCount};
+ghost use Rattle.rules.specs.Grid.{has, marks, isGrid};
+ghost use Rattle.rules.specs.Quads.{next, quads};
+ghost use Rattle.lattice.specs.Cells.{Cell};
+ghost use Rattle.signing.specs.SignBytes.{inside};
+ghost use Rattle.surfacing.specs.Fit.{Grids};
+ghost use Rattle.surfacing.specs.Listing.{quadCount, cellStep, byteQuad, byteQuads, byteMarks, MarksInner};
+
+// The axis after an axis, round: for x the pair is (y,z), for y it is (z,x), for z it is (x,y).
+fn next(a: Axis) -> Axis
+    ensures { λ r. ⌜ r ≡ next a ⌝ }
+{
+    match a {
+        Axis::X => Axis::Y,
+        Axis::Y => Axis::Z,
+        Axis::Z => Axis::X,
+    }
+}
+
+// The step from a cell's number to that of the next cell along an axis.
+fn cell_step(n: usize, a: Axis) -> usize
+    requires { ⌜ n ≤ 32 ⌝ }
+    ensures { λ r. ⌜ r ≡ cellStep n a ⌝ }
+{
+    match a {
+        Axis::X => 1,
+        Axis::Y => n,
+        Axis::Z => n * n,
+    }
+}
+
+// The number of a cell.
+fn cell_number(n: usize, c: Point) -> usize
+    requires { ⌜ (n ≤ 32) × Cell n c ⌝ }
+    ensures { λ r. ⌜ (r ≡ cellNumber n c) × (r < 32768) ⌝ }
+{
+    c.i + n * (c.j + n * c.k)
+}
+
+// Writes four numbers into the list.
+fn put_four(list: &mut [u16], at: usize, a: u16, b: u16, c: u16, d: u16)
+    requires { ⌜ at + 4 ≤ length (now list) ⌝ }
+    ensures { λ _. ⌜ now (list .exit) ≡ sets (now (list .entry)) at (a ∷ (b ∷ (c ∷ (d ∷ [])))) ⌝ }
+{
+    list[at] = a;
+    list[at + 1] = b;
+    list[at + 2] = c;
+    list[at + 3] = d;
+}
+
+// Writes the quad of an edge, if the byte b of its lower end has its mark, and answers where the next one goes.
+fn put_quad(n: usize, b: u8, inside: bool, e: Place, list: &mut [u16], at: usize) -> usize
+    requires { ⌜ (n ≤ 32) × (has (e .axis) b ≡ true → inner n (e .axis) (e .at) ≡ true) ⌝ }
+    requires { ⌜ at + length (byteQuad n b inside e) ≤ length (now list) ⌝ }
+    ensures { λ r. ⌜ (r ≡ at + length (byteQuad n b inside e)) × (now (list .exit) ≡ sets (now (list .entry)) at (byteQuad n b inside e)) ⌝ }
+{
+    let a = e.axis;
+    if !bit(b, a) {
+        return at;
+    }
+    let u = next(a);
+    let along = cell_step(n, u);
+    let across = cell_step(n, next(u));
+    let third = cell_number(n, e.at);
+    let second = third - across;
+    let fourth = third - along;
+    let first = second - along;
+    if inside {
+        put_four(list, at, first as u16, second as u16, third as u16, fourth as u16);
+        return at + 4;
+    }
+    put_four(list, at, first as u16, fourth as u16, third as u16, second as u16);
+    at + 4
+}
+
+// Writes the quads of the three edges at the point q, b being its byte, and answers where the next one goes.
+fn put_quads(n: usize, b: u8, inside: bool, q: Point, list: &mut [u16], at: usize) -> usize
+    requires { ⌜ (n ≤ 32) × MarksInner n b q ⌝ }
+    requires { ⌜ at + length (byteQuads n b inside q) ≤ length (now list) ⌝ }
+    ensures { λ r. ⌜ (r ≡ at + length (byteQuads n b inside q)) × (now (list .exit) ≡ sets (now (list .entry)) at (byteQuads n b inside q)) ⌝ }
+{
+    if b == 0 {
+        return at;
+    }
+    let on_x = put_quad(n, b, inside, Place { axis: Axis::X, at: q }, list, at);
+    let on_y = put_quad(n, b, inside, Place { axis: Axis::Y, at: q }, list, on_x);
+    put_quad(n, b, inside, Place { axis: Axis::Z, at: q }, list, on_y)
+}
+
+// The number of marks of a byte.
+fn marks_in(b: u8) -> usize
+    ensures { λ r. ⌜ (r ≡ byteMarks b) × (r ≤ 3) ⌝ }
+{
+    let k = b % 2 + b / 2 % 2 + b / 4 % 2;
+    k as usize
+}
+
+// The number of quads: one for each marked edge.
+pub fn count_quads(n: usize, grid: &[u8]) -> usize
+    requires { ⌜ (n ≤ 32) × (pointCount n ≤ length (now grid)) × (isGrid n (now grid) ≡ true) ⌝ }
+    ensures { λ r. ⌜ (r ≡ quadCount n (marks n (now (grid .entry)))) × (r ≤ 107811) ⌝ }
+{
+    let count = point_count(n);
+    let mut k: usize = 0;
+    let mut p: usize = 0;
+    while p < count {
+        k += marks_in(grid[p]);
+        p += 1;
+    }
+    k
+}
+
+// Writes the quads into a list that has room for them.
+fn write_quads(n: usize, grid: &[u8], signs: &[u8], list: &mut [u16])
+    requires { ⌜ (n ≤ 32) × Grids n (now grid) (now signs) × (4 * quadCount n (marks n (now grid)) ≤ length (now list)) ⌝ }
+    ensures { λ _. ⌜ now (list .exit) ≡ quads n (marks n (now (grid .entry))) (inside n (now (signs .entry))) ++ drop (4 * quadCount n (marks n (now (grid .entry)))) (now (list .entry)) ⌝ }
+{
+    let count = point_count(n);
+    let mut q = Point { i: 0, j: 0, k: 0 };
+    let mut p: usize = 0;
+    let mut at: usize = 0;
+    while p < count {
+        at = put_quads(n, grid[p], signs[p] == 1, q, list, at);
+        q = next_point(n, q);
+        p += 1;
+    }
+}
