@@ -1,0 +1,3 @@
+// The program's work: a stream of triangles in, a listing of quads out.
+pub mod text;
+pub mod words;
