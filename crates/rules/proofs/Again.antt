@@ -30,7 +30,8 @@ module _ (n : ℕ) (E : Set) (inside : (a : Axis) (p : Point) → E a p ≡ true
   good-byte : (p : Point) → OfGrid n p → goodByte n (bytes n E) p ≡ true
   good-byte p o = go (getD (bytes n E) (pointNumber n p) 0) (bytes-at n E p (o .i) (o .j) (o .k))
     where
-      go : (b : ℕ) → b ≡ byteAt E p → leb b 7 && ((not (has X b) || inner n X p) && ((not (has Y b) || inner n Y p) && (not (has Z b) || inner n Z p))) ≡ true
+      go : (b : ℕ) → b ≡ byteAt E p →
+          leb b 7 && ((not (has X b) || inner n X p) && ((not (has Y b) || inner n Y p) && (not (has Z b) || inner n Z p))) ≡ true
       go b e =
           let x = value-le (E X p) 1 in
           let y = value-le (E Y p) 2 in
@@ -38,7 +39,8 @@ module _ (n : ℕ) (E : Set) (inside : (a : Axis) (p : Point) → E a p ≡ true
           both _ _ (leb-yes b 7 (omega arith)) (both _ _ (marked X) (both _ _ (marked Y) (marked Z)))
         where
           marked : (a : Axis) → not (has a b) || inner n a p ≡ true
-          marked a = imp← (has a b) (inner n a p) (λ h. inside a p (sym (ap (has a) e ∙ has-bit a (E X p) (E Y p) (E Z p) ∙ three-of a E p) ∙ h))
+          marked a =
+              imp← (has a b) (inner n a p) (λ h. inside a p (sym (ap (has a) e ∙ has-bit a (E X p) (E Y p) (E Z p) ∙ three-of a E p) ∙ h))
 
   -- the bytes of marks on inner edges are a grid
   pub bytes-grid : isGrid n (bytes n E) ≡ true
@@ -51,7 +53,8 @@ module _ (n : ℕ) (E : Set) (inside : (a : Axis) (p : Point) → E a p ≡ true
 
 no-flips : (n : ℕ) (E : Set) → patched n E ≡ E → flipCount n E ≡ 0
 unfolding flipCount
-no-flips n E e = count-none (λ f. isIn E f ⊕ isIn (patched n E) f) (λ f. ap (λ (F : Set). isIn E f ⊕ isIn F f) e ∙ ⊕-self (isIn E f)) (places (suc n))
+no-flips n E e =
+    count-none (λ f. isIn E f ⊕ isIn (patched n E) f) (λ f. ap (λ (F : Set). isIn E f ⊕ isIn F f) e ∙ ⊕-self (isIn E f)) (places (suc n))
 
 module _ (n : ℕ) (g : List ℕ) (grid : isGrid n g ≡ true) where
   even : (a : Axis) (p : Point) → oddFace (patched n (marks n g)) a p ≡ false

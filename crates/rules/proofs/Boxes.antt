@@ -16,16 +16,20 @@ within b W a p = faceIn b a p && W a p
 
 -- of the plane's places, those in the box
 abbrev pub inRect : Box → Axis → ℕ → ℕ → Bool
-inRect b a u v = between (coord (earlier a) (b .lo)) (coord (earlier a) (b .hi)) u && between (coord (later a) (b .lo)) (coord (later a) (b .hi)) v
+inRect b a u v =
+    between (coord (earlier a) (b .lo)) (coord (earlier a) (b .hi)) u && between (coord (later a) (b .lo)) (coord (later a) (b .hi)) v
 
 -- the listed sum over a plane of the box
 pub parity-plane : (b : Box) (a : Axis) (g : Spot → Bool) →
-    parity g (plane b a) ≡ parityTo (coord (later a) (b .hi)) (λ v. parityTo (coord (earlier a) (b .hi)) (λ u. inRect b a u v && g (record { u = u; v = v })))
+    parity g (plane b a) ≡ parityTo (coord (later a) (b .hi))
+    (λ v. parityTo (coord (earlier a) (b .hi)) (λ u. inRect b a u v && g (record { u = u; v = v })))
 parity-plane b a g =
     parity-each g _ (upto (coord (later a) (b .lo)) (side b (later a)))
     ∙ parity-range (coord (later a) (b .lo)) (coord (later a) (b .hi)) _
     ∙ parityTo-cong< (coord (later a) (b .hi)) _ _ (λ v hv.
-    ap (λ (c : Bool). leb (coord (later a) (b .lo)) v && c) (parity-map g (λ u. record { u = u; v = v }) (upto (coord (earlier a) (b .lo)) (side b (earlier a))) ∙ parity-range (coord (earlier a) (b .lo)) (coord (earlier a) (b .hi)) (λ u. g (record { u = u; v = v })))
+    ap (λ (c : Bool). leb (coord (later a) (b .lo)) v && c)
+    (parity-map g (λ u. record { u = u; v = v }) (upto (coord (earlier a) (b .lo)) (side b (earlier a)))
+    ∙ parity-range (coord (earlier a) (b .lo)) (coord (earlier a) (b .hi)) (λ u. g (record { u = u; v = v })))
     ∙ &&-sum (leb (coord (later a) (b .lo)) v) (coord (earlier a) (b .hi)) _
     ∙ parityTo-cong< (coord (earlier a) (b .hi)) _ _ (λ u hu.
     rw (leb-yes (suc u) (coord (earlier a) (b .hi)) hu, leb-yes (suc v) (coord (later a) (b .hi)) hv)
@@ -39,11 +43,14 @@ parity-plane b a g =
 
 -- ---- faces and edges in a box
 abbrev pub InBox : Box → Bool → Bool → Bool → Point → Type 0
-InBox b s t r p = Bounds (raise s (b .lo .i)) (b .hi .i) (p .i) × Bounds (raise t (b .lo .j)) (b .hi .j) (p .j) × Bounds (raise r (b .lo .k)) (b .hi .k) (p .k)
+InBox b s t r p =
+    Bounds (raise s (b .lo .i)) (b .hi .i) (p .i) × Bounds (raise t (b .lo .j)) (b .hi .j) (p .j)
+    × Bounds (raise r (b .lo .k)) (b .hi .k) (p .k)
 
 pub inBox→ : (b : Box) (s t r : Bool) (p : Point) → inBox b s t r p ≡ true → InBox b s t r p
 inBox→ b s t r p e =
-    let k = three→ (between (raise s (b .lo .i)) (b .hi .i) (p .i)) (between (raise t (b .lo .j)) (b .hi .j) (p .j)) (between (raise r (b .lo .k)) (b .hi .k) (p .k)) e in
+    let k = three→ (between (raise s (b .lo .i)) (b .hi .i) (p .i)) (between (raise t (b .lo .j)) (b .hi .j) (p .j))
+    (between (raise r (b .lo .k)) (b .hi .k) (p .k)) e in
     (between→ _ _ _ (k .0), between→ _ _ _ (k .1), between→ _ _ _ (k .2))
 
 pub inBox← : (b : Box) (s t r : Bool) (p : Point) → InBox b s t r p → inBox b s t r p ≡ true
@@ -61,7 +68,9 @@ faceIn← b a p e = inBox← b (sameAxis a X) (sameAxis a Y) (sameAxis a Z) p e
 -- in the frame of axis a: bounds on a and on the two others
 abbrev pub In : Box → Axis → Bool → Bool → Bool → Point → Type 0
 In b a s t r p =
-    Bounds (raise s (coord a (b .lo))) (coord a (b .hi)) (coord a p) × Bounds (raise t (coord (earlier a) (b .lo))) (coord (earlier a) (b .hi)) (coord (earlier a) p) × Bounds (raise r (coord (later a) (b .lo))) (coord (later a) (b .hi)) (coord (later a) p)
+    Bounds (raise s (coord a (b .lo))) (coord a (b .hi)) (coord a p)
+    × Bounds (raise t (coord (earlier a) (b .lo))) (coord (earlier a) (b .hi)) (coord (earlier a) p)
+    × Bounds (raise r (coord (later a) (b .lo))) (coord (later a) (b .hi)) (coord (later a) p)
 
 pub face→ : (b : Box) (a : Axis) (p : Point) → faceIn b a p ≡ true → In b a true false false p
 face→ b X p e = let c = faceIn→ b X p e in (c .0, c .1, c .2)
@@ -104,23 +113,31 @@ frame← b X s p c = c
 frame← b Y s p c = (c .1, c .0, c .2)
 frame← b Z s p c = (c .1, c .2, c .0)
 
-pub with-coord : (a : Axis) (m : ℕ) (p : Point) → (coord a (withCoord a m p) ≡ m) × (coord (earlier a) (withCoord a m p) ≡ coord (earlier a) p) × (coord (later a) (withCoord a m p) ≡ coord (later a) p)
+pub with-coord : (a : Axis) (m : ℕ) (p : Point) →
+    (coord a (withCoord a m p) ≡ m) × (coord (earlier a) (withCoord a m p) ≡ coord (earlier a) p) ×
+    (coord (later a) (withCoord a m p) ≡ coord (later a) p)
 with-coord X m p = (refl, refl, refl)
 with-coord Y m p = (refl, refl, refl)
 with-coord Z m p = (refl, refl, refl)
 
 -- a point one step up an axis
-pub up-own-coord : (a : Axis) (p : Point) → (coord a (up a p) ≡ suc (coord a p)) × (coord (earlier a) (up a p) ≡ coord (earlier a) p) × (coord (later a) (up a p) ≡ coord (later a) p)
+pub up-own-coord : (a : Axis) (p : Point) →
+    (coord a (up a p) ≡ suc (coord a p)) × (coord (earlier a) (up a p) ≡ coord (earlier a) p) ×
+    (coord (later a) (up a p) ≡ coord (later a) p)
 up-own-coord X p = (refl, refl, refl)
 up-own-coord Y p = (refl, refl, refl)
 up-own-coord Z p = (refl, refl, refl)
 
-pub up-earlier-coord : (a : Axis) (p : Point) → (coord a (up (earlier a) p) ≡ coord a p) × (coord (earlier a) (up (earlier a) p) ≡ suc (coord (earlier a) p)) × (coord (later a) (up (earlier a) p) ≡ coord (later a) p)
+pub up-earlier-coord : (a : Axis) (p : Point) →
+    (coord a (up (earlier a) p) ≡ coord a p) × (coord (earlier a) (up (earlier a) p) ≡ suc (coord (earlier a) p)) ×
+    (coord (later a) (up (earlier a) p) ≡ coord (later a) p)
 up-earlier-coord X p = (refl, refl, refl)
 up-earlier-coord Y p = (refl, refl, refl)
 up-earlier-coord Z p = (refl, refl, refl)
 
-pub up-later-coord : (a : Axis) (p : Point) → (coord a (up (later a) p) ≡ coord a p) × (coord (earlier a) (up (later a) p) ≡ coord (earlier a) p) × (coord (later a) (up (later a) p) ≡ suc (coord (later a) p))
+pub up-later-coord : (a : Axis) (p : Point) →
+    (coord a (up (later a) p) ≡ coord a p) × (coord (earlier a) (up (later a) p) ≡ coord (earlier a) p) ×
+    (coord (later a) (up (later a) p) ≡ suc (coord (later a) p))
 up-later-coord X p = (refl, refl, refl)
 up-later-coord Y p = (refl, refl, refl)
 up-later-coord Z p = (refl, refl, refl)

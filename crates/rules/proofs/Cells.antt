@@ -9,15 +9,18 @@ use Rattle.rules.proofs.Boxes.{inBox→, inBox←, In, face→, face←
 
 -- the coordinates of the cell below
 pub down-coord : (a : Axis) (p : Point) →
-    (coord a (down a p) ≡ pred (coord a p)) × (coord (earlier a) (down a p) ≡ coord (earlier a) p) × (coord (later a) (down a p) ≡ coord (later a) p)
+    (coord a (down a p) ≡ pred (coord a p)) × (coord (earlier a) (down a p) ≡ coord (earlier a) p)
+    × (coord (later a) (down a p) ≡ coord (later a) p)
 down-coord X p = (refl, refl, refl)
 down-coord Y p = (refl, refl, refl)
 down-coord Z p = (refl, refl, refl)
 
 -- the coordinates of the three cells below an edge
 edge-coord : (a : Axis) (p : Point) →
-    ((coord a (down (earlier a) p) ≡ coord a p) × (coord (earlier a) (down (earlier a) p) ≡ pred (coord (earlier a) p)) × (coord (later a) (down (earlier a) p) ≡ coord (later a) p))
-    × ((coord a (down (later a) p) ≡ coord a p) × (coord (earlier a) (down (later a) p) ≡ coord (earlier a) p) × (coord (later a) (down (later a) p) ≡ pred (coord (later a) p)))
+    ((coord a (down (earlier a) p) ≡ coord a p) × (coord (earlier a) (down (earlier a) p) ≡ pred (coord (earlier a) p))
+    × (coord (later a) (down (earlier a) p) ≡ coord (later a) p))
+    × ((coord a (down (later a) p) ≡ coord a p) × (coord (earlier a) (down (later a) p) ≡ coord (earlier a) p)
+    × (coord (later a) (down (later a) p) ≡ pred (coord (later a) p)))
 edge-coord X p = ((refl, refl, refl), (refl, refl, refl))
 edge-coord Y p = ((refl, refl, refl), (refl, refl, refl))
 edge-coord Z p = ((refl, refl, refl), (refl, refl, refl))
@@ -38,7 +41,12 @@ pub record BothCells (b : Box) (a : Axis) (p : Point) : Type 0 where
 pub face-cells : (b : Box) (a : Axis) (p : Point) → (faceIn b a p ≡ true) ↔ BothCells b a p
 face-cells b a p =
     let d = down-coord a p in (
-      λ e. let k = face→ b a p e in record { apart = omega arith; below = cell← b a (down a p) (omega arith); above = cell← b a p (omega arith) },
+      λ e. let k = face→ b a p e in record {
+        apart = omega arith;
+        below = cell← b a (down a p) (omega arith);
+        above = cell← b a p
+            (omega arith);
+      },
       λ c. let l = cell→ b a (down a p) (c .below) in let h = cell→ b a p (c .above) in let z = c .apart in face← b a p (omega arith),
     )
 
@@ -74,7 +82,8 @@ edge-cells b a p =
             third = cell← b a (down (earlier a) p) (omega arith);
             fourth = cell← b a p (omega arith);
           },
-      λ c. let l = cell→ b a (down (earlier a) (down (later a) p)) (c .first) in let h = cell→ b a p (c .fourth) in let z = c .apart in edge← b a p (omega arith),
+      λ c. let l = cell→ b a (down (earlier a) (down (later a) p)) (c .first) in let h = cell→ b a p (c .fourth) in let z = c .apart in
+          edge← b a p (omega arith),
     )
 
 -- only an inner edge has four cells around it

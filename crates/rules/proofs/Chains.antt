@@ -84,8 +84,12 @@ pub own-lower : (f : Place) → ofCell (down (f .axis) (f .at)) f ≡ true
 own-lower f = go (down-cases (f .axis) (f .at))
   where
     go : (f .at ≡ down (f .axis) (f .at)) ⊎ (f .at ≡ up (f .axis) (down (f .axis) (f .at))) → ofCell (down (f .axis) (f .at)) f ≡ true
-    go (inl e) = or-left-true (samePoint (f .at) (down (f .axis) (f .at))) (samePoint (f .at) (up (f .axis) (down (f .axis) (f .at)))) (same-eq (f .at) (down (f .axis) (f .at)) e)
-    go (inr e) = or-true (samePoint (f .at) (down (f .axis) (f .at))) (samePoint (f .at) (up (f .axis) (down (f .axis) (f .at)))) (same-eq (f .at) (up (f .axis) (down (f .axis) (f .at))) e)
+    go (inl e) =
+        or-left-true (samePoint (f .at) (down (f .axis) (f .at))) (samePoint (f .at) (up (f .axis) (down (f .axis) (f .at))))
+        (same-eq (f .at) (down (f .axis) (f .at)) e)
+    go (inr e) =
+        or-true (samePoint (f .at) (down (f .axis) (f .at))) (samePoint (f .at) (up (f .axis) (down (f .axis) (f .at))))
+        (same-eq (f .at) (up (f .axis) (down (f .axis) (f .at))) e)
 
 -- two faces are faces of one cell
 abbrev pub OneCell : Place → Place → Type 0
@@ -118,7 +122,8 @@ module _ {A : Type 0} where
   count-mono g h f [] = omega arith
   count-mono g h f (x ∷ l) = go (g x) (h x) (f x) (count-mono g h f l)
     where
-      go : (c d : Bool) → (c ≡ true → d ≡ true) → count g l ≤ count h l → cond c (suc (count g l)) (count g l) ≤ cond d (suc (count h l)) (count h l)
+      go : (c d : Bool) → (c ≡ true → d ≡ true) → count g l ≤ count h l →
+          cond c (suc (count g l)) (count g l) ≤ cond d (suc (count h l)) (count h l)
       go true true k i = omega arith
       go true false k i = absurd (false≢true (k refl))
       go false true k i = omega arith
@@ -138,7 +143,8 @@ module _ {A : Type 0} where
   any-split g w (x ∷ l) = go (w x) (any-split g w l)
     where
       go : (c : Bool) → anyOf g (keep w l) || anyOf g (keep (λ y. not (w y)) l) ≡ anyOf g l →
-          anyOf g (cond c (x ∷ keep w l) (keep w l)) || anyOf g (cond (not c) (x ∷ keep (λ y. not (w y)) l) (keep (λ y. not (w y)) l)) ≡ g x || anyOf g l
+          anyOf g (cond c (x ∷ keep w l) (keep w l)) || anyOf g (cond (not c) (x ∷ keep (λ y. not (w y)) l) (keep (λ y. not (w y)) l))
+          ≡ g x || anyOf g l
       go true i = or-assoc (g x) (anyOf g (keep w l)) (anyOf g (keep (λ y. not (w y)) l)) ∙ ap (λ (b : Bool). g x || b) i
       go false i = or-left (anyOf g (keep w l)) (g x) (anyOf g (keep (λ y. not (w y)) l)) ∙ ap (λ (b : Bool). g x || b) i
 
@@ -147,7 +153,8 @@ module _ {A : Type 0} where
   zero-none g [] z = tt
   zero-none g (x ∷ l) z = go (g x) refl z (zero-none g l)
     where
-      go : (c : Bool) → g x ≡ c → cond c (suc (count g l)) (count g l) ≡ 0 → (count g l ≡ 0 → All (λ y. g y ≡ true → ⊥) l) → All (λ y. g y ≡ true → ⊥) (x ∷ l)
+      go : (c : Bool) → g x ≡ c → cond c (suc (count g l)) (count g l) ≡ 0 → (count g l ≡ 0 → All (λ y. g y ≡ true → ⊥) l) →
+          All (λ y. g y ≡ true → ⊥) (x ∷ l)
       go true e i k = absurd (omega arith)
       go false e i k = (λ t. true≢false (sym t ∙ e), k i)
 
@@ -186,7 +193,8 @@ one-rim l f e =
     omega arith
 
 -- a rim is closed: a neighbour in the list of one of its faces is one of its faces
-closed-in : (c : Point) (h : Place) → ofCell c h ≡ true → (rs : List (List Place)) → count (touch c) rs ≤ 1 → anyOf (elem h) rs ≡ true → All (λ r. touch c r ≡ true → elem h r ≡ true) rs
+closed-in : (c : Point) (h : Place) → ofCell c h ≡ true → (rs : List (List Place)) → count (touch c) rs ≤ 1 → anyOf (elem h) rs ≡ true →
+    All (λ r. touch c r ≡ true → elem h r ≡ true) rs
 closed-in c h k [] n e = tt
 closed-in c h k (r ∷ rs) n e = go (touch c r) refl n (closed-in c h k rs)
   where
@@ -197,7 +205,8 @@ closed-in c h k (r ∷ rs) n e = go (touch c r) refl n (closed-in c h k rs)
     idle ss z = all-weaken _ _ (λ s f t. absurd (f t)) ss (zero-none (touch c) ss z)
 
     go : (t : Bool) → touch c r ≡ t → cond t (suc (count (touch c) rs)) (count (touch c) rs) ≤ 1 →
-        (count (touch c) rs ≤ 1 → anyOf (elem h) rs ≡ true → All (λ s. touch c s ≡ true → elem h s ≡ true) rs) → All (λ s. touch c s ≡ true → elem h s ≡ true) (r ∷ rs)
+        (count (touch c) rs ≤ 1 → anyOf (elem h) rs ≡ true → All (λ s. touch c s ≡ true → elem h s ≡ true) rs) →
+        All (λ s. touch c s ≡ true → elem h s ≡ true) (r ∷ rs)
     go true q i f = ((λ _. one (or-cases (elem h r) (anyOf (elem h) rs) e)), idle rs (omega arith))
       where
         one : (elem h r ≡ true) ⊎ (anyOf (elem h) rs ≡ true) → elem h r ≡ true
@@ -209,7 +218,8 @@ closed-in c h k (r ∷ rs) n e = go (touch c r) refl n (closed-in c h k rs)
         two (inl x) = absurd (true≢false (sym (elem-touch h c k r x) ∙ q))
         two (inr x) = x
 
-pub rim-closed : (l : List Place) (g h : Place) → neighbours g h ≡ true → elem h l ≡ true → All (λ r. elem g r ≡ true → elem h r ≡ true) (rimsOf l)
+pub rim-closed : (l : List Place) (g h : Place) → neighbours g h ≡ true → elem h l ≡ true →
+    All (λ r. elem g r ≡ true → elem h r ≡ true) (rimsOf l)
 rim-closed l g h e k =
     let c = neighbours-cells g h e in
     all-weaken _ _ (λ r f x. f (elem-touch g (c .0) (c .1) r x)) (rimsOf l)
@@ -223,7 +233,8 @@ chain-in l f g (link {g = h} e k w) = all-pair _ _ _ (λ r p q x. q (p x)) (rims
 
 pub members : (r : List Place) → All (λ g. elem g r ≡ true) r
 members [] = tt
-members (f ∷ r) = (or-left-true (samePlace f f) (elem f r) (same-self f), all-weaken _ _ (λ g e. or-true (samePlace g f) (elem g r) e) r (members r))
+members (f ∷ r) =
+    (or-left-true (samePlace f f) (elem f r) (same-self f), all-weaken _ _ (λ g e. or-true (samePlace g f) (elem g r) e) r (members r))
 
 -- what is closed under neighbours and has one face of a rim has them all
 abbrev Spread : List Place → (Place → Type 0) → Type 0
@@ -236,7 +247,8 @@ pub rim-whole : (S : Place → Type 0) (l : List Place) → Spread l S → All (
 rim-whole S [] h = tt
 rim-whole S (f ∷ l) h =
     let i = rim-whole S l (λ g k n m. h g k n (or-true (samePlace k f) (elem k l) m)) in (
-      (λ x y hx hy sx. leave y (or-cases (samePlace y f) (elem y (each (λ r. r) (keep (joins f) (rimsOf l)))) hy) (arrive x (or-cases (samePlace x f) (elem x (each (λ r. r) (keep (joins f) (rimsOf l)))) hx) sx i) i),
+      (λ x y hx hy sx. leave y (or-cases (samePlace y f) (elem y (each (λ r. r) (keep (joins f) (rimsOf l)))) hy)
+          (arrive x (or-cases (samePlace x f) (elem x (each (λ r. r) (keep (joins f) (rimsOf l)))) hx) sx i) i),
       all-keep (Whole S) (λ r. not (joins f r)) (rimsOf l) i,
     )
   where
@@ -249,8 +261,10 @@ rim-whole S (f ∷ l) h =
 
     all-q : All (Whole S) (rimsOf l) → All Q ks
     all-q i =
-        all-pair (Whole S) (λ r. (joins f r ≡ true) × All (λ g. elem g l ≡ true) r) Q (λ r a b. (a, b .0, b .1)) ks (all-keep (Whole S) (joins f) (rimsOf l) i)
-        (all-pair _ _ _ (λ r a b. (a, b)) ks (all-kept (joins f) (rimsOf l)) (all-keep (All (λ g. elem g l ≡ true)) (joins f) (rimsOf l) (rims-all (λ g. elem g l ≡ true) l (members l))))
+        all-pair (Whole S) (λ r. (joins f r ≡ true) × All (λ g. elem g l ≡ true) r) Q (λ r a b. (a, b .0, b .1)) ks
+        (all-keep (Whole S) (joins f) (rimsOf l) i)
+        (all-pair _ _ _ (λ r a b. (a, b)) ks (all-kept (joins f) (rimsOf l))
+        (all-keep (All (λ g. elem g l ≡ true)) (joins f) (rimsOf l) (rims-all (λ g. elem g l ≡ true) l (members l))))
 
     -- the face of such a rim that is f's neighbour
     beside : (r : List Place) → Q r → (g : Place) × (neighbours f g ≡ true) × ((elem g r ≡ true) × (elem g l ≡ true))
@@ -261,7 +275,8 @@ rim-whole S (f ∷ l) h =
     arrive x (inr e) sx i =
         let r = find (elem x) Q ks (all-q i) (sym (any-each (samePlace x) ks) ∙ e) in
         let g = beside (r .0) (r .2) in
-        h (g .0) f (neighbours-sym f (g .0) (g .1)) (or-left-true (samePlace f f) (elem f l) (same-self f)) (r .2 .0 x (g .0) (r .1) (g .2 .0) sx)
+        h (g .0) f (neighbours-sym f (g .0) (g .1)) (or-left-true (samePlace f f) (elem f l) (same-self f))
+        (r .2 .0 x (g .0) (r .1) (g .2 .0) sx)
 
     leave : (y : Place) → (samePlace y f ≡ true) ⊎ (elem y (each (λ r. r) ks) ≡ true) → S f → All (Whole S) (rimsOf l) → S y
     leave y (inl e) sf i = subst S (sym (samePlace→ y f e)) sf

@@ -19,8 +19,11 @@ unfolding patched
 patched-repaired n E inside =
     record {
       even = patched-even n E inside;
-      route = λ p q l r. let e = route-parity (patched n E) (patched-even n E inside) n p q l r in
-          (λ o. differ (sign (patched n E) p) (sign (patched n E) q) .0 (sym e ∙ o), λ d. e ∙ differ (sign (patched n E) p) (sign (patched n E) q) .1 d);
+      route = λ p q l r. let e = route-parity (patched n E) (patched-even n E inside) n p q l r in (
+        λ o. differ (sign (patched n E) p) (sign (patched n E) q) .0 (sym e ∙ o),
+        λ d. e
+            ∙ differ (sign (patched n E) p) (sign (patched n E) q) .1 d,
+      );
       boxed = λ a p d. altered-in n E inside a p (sym (⊕-cancel (E a p) (setOf (flips n E) a p)) ∙ differ (E a p) (patched n E a p) .1 d);
     }
 

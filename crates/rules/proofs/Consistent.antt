@@ -37,20 +37,23 @@ face-corner n Y p e = let k = faceIn→ (whole n) Y p e in omega arith
 face-corner n Z p e = let k = faceIn→ (whole n) Z p e in omega arith
 
 -- round a face every corner counts twice
-pub consistent-even : (n : ℕ) (E : Set) (s : Point → Bool) → Consistent n E s → (a : Axis) (p : Point) → FaceOfGrid n a p → oddFace E a p ≡ false
+pub consistent-even : (n : ℕ) (E : Set) (s : Point → Bool) → Consistent n E s → (a : Axis) (p : Point) → FaceOfGrid n a p →
+    oddFace E a p ≡ false
 consistent-even n E s c a p h =
     let k = corners n a p h in
     ap₂ _⊕_
     (ap₂ _⊕_ (sym (c .differ (earlier a) p (k .0))) (sym (c .differ (earlier a) (up (later a) p) h)))
     (ap₂ _⊕_ (sym (c .differ (later a) p (k .1)))
-    (sym (c .differ (later a) (up (earlier a) p) (subst (OfGrid n) (sym (up-up a p)) h)) ∙ ap (λ (q : Point). s (up (earlier a) p) ⊕ s q) (up-up a p)))
+    (sym (c .differ (later a) (up (earlier a) p) (subst (OfGrid n) (sym (up-up a p)) h))
+    ∙ ap (λ (q : Point). s (up (earlier a) p) ⊕ s q) (up-up a p)))
     ∙ round (s p) (s (up (earlier a) p)) (s (up (later a) p)) (s (up (earlier a) (up (later a) p)))
   where
     round : (x y z t : Bool) → ((x ⊕ y) ⊕ (z ⊕ t)) ⊕ ((x ⊕ z) ⊕ (y ⊕ t)) ≡ false
     round x y z t = simp xors (⊕-self x)
 
 -- consistent signs exist exactly when no face of the grid is odd
-pub signs-exist : (n : ℕ) (E : Set) → ((s : Point → Bool) × Consistent n E s) ↔ ((a : Axis) (p : Point) → FaceOfGrid n a p → oddFace E a p ≡ false)
+pub signs-exist : (n : ℕ) (E : Set) →
+    ((s : Point → Bool) × Consistent n E s) ↔ ((a : Axis) (p : Point) → FaceOfGrid n a p → oddFace E a p ≡ false)
 signs-exist n E = (λ c. consistent-even n E (c .0) (c .1), λ h. (sign E, sign-consistent n E h))
 
 -- and there is only one such assignment
@@ -68,7 +71,8 @@ module _ (n : ℕ) (E : Set) (inside : (a : Axis) (p : Point) → E a p ≡ true
 
   module _ (even : (a : Axis) (p : Point) → oddFace E a p ≡ false) where
     -- along a row of unmarked edges the sign stays
-    same-along : (b : Axis) (q : ℕ → Point) → ((i : ℕ) → up b (q i) ≡ q (suc i)) → ((i : ℕ) → E b (q i) ≡ false) → (k : ℕ) → sign E (q k) ≡ sign E (q 0)
+    same-along : (b : Axis) (q : ℕ → Point) → ((i : ℕ) → up b (q i) ≡ q (suc i)) → ((i : ℕ) → E b (q i) ≡ false) → (k : ℕ) →
+        sign E (q k) ≡ sign E (q 0)
     same-along b q up-q bare zero = refl
     same-along b q up-q bare (suc k) =
         ap (sign E) (sym (up-q k))
@@ -91,10 +95,12 @@ module _ (n : ℕ) (E : Set) (inside : (a : Axis) (p : Point) → E a p ≡ true
         ap (sign E) (sym (pointAt-coord a p))
         ∙ same-along (later a) (λ v. pointAt a m (coord (earlier a) p) v) (up-later a m (coord (earlier a) p))
         (λ v. let c = coord-own a m (coord (earlier a) p) v in let w = whole-coord a in
-        is-false _ (λ e. let k = later→ (whole n) a (pointAt a m (coord (earlier a) p) v) (inside _ _ e) in off o (omega arith) (omega arith))) (coord (later a) p)
+        is-false _ (λ e. let k = later→ (whole n) a (pointAt a m (coord (earlier a) p) v) (inside _ _ e) in
+        off o (omega arith) (omega arith))) (coord (later a) p)
         ∙ same-along (earlier a) (λ u. pointAt a m u 0) (λ u. up-earlier a m u 0)
         (λ u. let c = coord-own a m u 0 in let w = whole-coord a in
-        is-false _ (λ e. let k = earlier→ (whole n) a (pointAt a m u 0) (inside _ _ e) in off o (omega arith) (omega arith))) (coord (earlier a) p)
+        is-false _ (λ e. let k = earlier→ (whole n) a (pointAt a m u 0) (inside _ _ e) in off o (omega arith) (omega arith)))
+        (coord (earlier a) p)
         ∙ same-along a (λ i. pointAt a i 0 0) (λ i. up-own a i 0 0)
         (λ i. let c = coord-earlier a i 0 0 in
         is-false _ (λ e. let k = edge→ (whole n) a (pointAt a i 0 0) (inside _ _ e) in omega arith)) m

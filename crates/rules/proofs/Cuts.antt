@@ -46,11 +46,13 @@ samePlace→ e f h =
     λ i. record { axis = ea i; at = ep i }
 
 -- what holds of each member holds of what stands in the list an odd number of times
-pub setOf-all : (P : Place → Type 0) (l : List Place) → All P l → (a : Axis) (p : Point) → setOf l a p ≡ true → P (record { axis = a; at = p })
+pub setOf-all : (P : Place → Type 0) (l : List Place) → All P l → (a : Axis) (p : Point) → setOf l a p ≡ true →
+    P (record { axis = a; at = p })
 setOf-all P [] h a p e = absurd (false≢true e)
 setOf-all P (f ∷ l) h a p e = go (samePlace f (record { axis = a; at = p })) refl e (setOf-all P l (h .1) a p)
   where
-    go : (c : Bool) → samePlace f (record { axis = a; at = p }) ≡ c → c ⊕ setOf l a p ≡ true → (setOf l a p ≡ true → P (record { axis = a; at = p })) → P (record { axis = a; at = p })
+    go : (c : Bool) → samePlace f (record { axis = a; at = p }) ≡ c → c ⊕ setOf l a p ≡ true →
+        (setOf l a p ≡ true → P (record { axis = a; at = p })) → P (record { axis = a; at = p })
     go true q r k = subst P (samePlace→ f (record { axis = a; at = p }) q) (h .0)
     go false q r k = k r
 
@@ -58,7 +60,8 @@ pub setOf-in : (b : Box) (l : List Place) → All (EdgeIn b) l → (a : Axis) (p
 setOf-in b l h a p e = setOf-all (EdgeIn b) l h a p e
 
 -- the odd faces of edges in the box lie in the box
-pub oddFace-set : (b : Box) (E : Set) → ((a : Axis) (p : Point) → E a p ≡ true → edgeIn b a p ≡ true) → (a : Axis) (p : Point) → faceIn b a p && oddFace E a p ≡ oddFace E a p
+pub oddFace-set : (b : Box) (E : Set) → ((a : Axis) (p : Point) → E a p ≡ true → edgeIn b a p ≡ true) → (a : Axis) (p : Point) →
+    faceIn b a p && oddFace E a p ≡ oddFace E a p
 oddFace-set b E h a p = go (faceIn b a p) refl
   where
     go : (c : Bool) → faceIn b a p ≡ c → c && oddFace E a p ≡ oddFace E a p
@@ -70,23 +73,28 @@ oddFace-set b E h a p = go (faceIn b a p) refl
         (is-false _ (λ e. false≢true (sym q ∙ of-later b a p (h _ _ e))))
         (is-false _ (λ e. false≢true (sym q ∙ of-later-up b a p (h _ _ e)))))
 
-pub oddFace-in : (b : Box) (l : List Place) → All (EdgeIn b) l → (a : Axis) (p : Point) → faceIn b a p && oddFace (setOf l) a p ≡ oddFace (setOf l) a p
+pub oddFace-in : (b : Box) (l : List Place) → All (EdgeIn b) l → (a : Axis) (p : Point) →
+    faceIn b a p && oddFace (setOf l) a p ≡ oddFace (setOf l) a p
 oddFace-in b l h a p = oddFace-set b (setOf l) (setOf-in b l h) a p
 
 -- ---- the flips of a cut lie in the box
 abbrev pub InRect : Box → Axis → Spot → Type 0
-InRect b a q = Bounds (coord (earlier a) (b .lo)) (coord (earlier a) (b .hi)) (q .u) × Bounds (coord (later a) (b .lo)) (coord (later a) (b .hi)) (q .v)
+InRect b a q =
+    Bounds (coord (earlier a) (b .lo)) (coord (earlier a) (b .hi)) (q .u)
+    × Bounds (coord (later a) (b .lo)) (coord (later a) (b .hi)) (q .v)
 
 pub plane-in : (b : Box) (a : Axis) → All (InRect b a) (plane b a)
 plane-in b a =
     all-each (InRect b a) _ (upto (coord (later a) (b .lo)) (side b (later a)))
     (all-weaken _ _
     (λ v hv. all-map (InRect b a) (λ u. record { u = u; v = v }) (upto (coord (earlier a) (b .lo)) (side b (earlier a)))
-    (all-weaken _ _ (λ u hu. omega arith) (upto (coord (earlier a) (b .lo)) (side b (earlier a))) (all-upto (coord (earlier a) (b .lo)) (side b (earlier a)))))
+    (all-weaken _ _ (λ u hu. omega arith) (upto (coord (earlier a) (b .lo)) (side b (earlier a)))
+    (all-upto (coord (earlier a) (b .lo)) (side b (earlier a)))))
     (upto (coord (later a) (b .lo)) (side b (later a)))
     (all-upto (coord (later a) (b .lo)) (side b (later a))))
 
-all-steps : (P : Place → Type 0) (e : ℕ → Place) (i j : ℕ) → ((k : ℕ) → Bounds (suc (min i j)) (suc (max i j)) k → P (e k)) → All P (steps e i j)
+all-steps : (P : Place → Type 0) (e : ℕ → Place) (i j : ℕ) → ((k : ℕ) → Bounds (suc (min i j)) (suc (max i j)) k → P (e k)) →
+    All P (steps e i j)
 all-steps P e i j f =
     all-map P e (upto (suc (min i j)) (max i j - min i j))
     (all-weaken _ _ (λ k h. f k (omega arith)) (upto (suc (min i j)) (max i j - min i j)) (all-upto (suc (min i j)) (max i j - min i j)))
@@ -96,9 +104,11 @@ module _ (b : Box) (a : Axis) (m : ℕ) (c : Bounds (suc (coord a (b .lo))) (coo
   path-in p q hp hq =
       all-append (EdgeIn b) (steps _ (p .u) (q .u)) (steps _ (p .v) (q .v))
       (all-steps (EdgeIn b) _ (p .u) (q .u)
-      (λ i k. let x = coord-own a m i (p .v) in let y = coord-earlier a m i (p .v) in let z = coord-later a m i (p .v) in later← b a (pointAt a m i (p .v)) (omega arith)))
+      (λ i k. let x = coord-own a m i (p .v) in let y = coord-earlier a m i (p .v) in let z = coord-later a m i (p .v) in
+      later← b a (pointAt a m i (p .v)) (omega arith)))
       (all-steps (EdgeIn b) _ (p .v) (q .v)
-      (λ i k. let x = coord-own a m (q .u) i in let y = coord-earlier a m (q .u) i in let z = coord-later a m (q .u) i in earlier← b a (pointAt a m (q .u) i) (omega arith)))
+      (λ i k. let x = coord-own a m (q .u) i in let y = coord-earlier a m (q .u) i in let z = coord-later a m (q .u) i in
+      earlier← b a (pointAt a m (q .u) i) (omega arith)))
 
   paths-in : (l : List Spot) → All (InRect b a) l → All (EdgeIn b) (paths a m l)
   paths-in [] h = tt
@@ -124,10 +134,15 @@ module _ (b : Box) (W : Set) (a : Axis) (m : ℕ) (c : Bounds (suc (coord a (b .
   pub face-rect : (u v : ℕ) → faceIn b a (pointAt a m u v) ≡ inRect b a u v
   face-rect u v = same-test (faceIn b a (pointAt a m u v)) (inRect b a u v)
       (λ e. let k = face→ b a (pointAt a m u v) e in let y = coord-earlier a m u v in let z = coord-later a m u v in
-      both _ _ (between← (coord (earlier a) (b .lo)) (coord (earlier a) (b .hi)) u (omega arith)) (between← (coord (later a) (b .lo)) (coord (later a) (b .hi)) v (omega arith)))
+      both _ _ (between← (coord (earlier a) (b .lo)) (coord (earlier a) (b .hi)) u (omega arith))
+      (between← (coord (later a) (b .lo)) (coord (later a) (b .hi)) v (omega arith)))
       (λ e. let x = coord-own a m u v in let y = coord-earlier a m u v in let z = coord-later a m u v in
-      let k = between→ (coord (earlier a) (b .lo)) (coord (earlier a) (b .hi)) u (and-left (between (coord (earlier a) (b .lo)) (coord (earlier a) (b .hi)) u) (between (coord (later a) (b .lo)) (coord (later a) (b .hi)) v) e) in
-      let l = between→ (coord (later a) (b .lo)) (coord (later a) (b .hi)) v (and-right (between (coord (earlier a) (b .lo)) (coord (earlier a) (b .hi)) u) (between (coord (later a) (b .lo)) (coord (later a) (b .hi)) v) e) in
+      let k = between→ (coord (earlier a) (b .lo)) (coord (earlier a) (b .hi)) u
+      (and-left (between (coord (earlier a) (b .lo)) (coord (earlier a) (b .hi)) u)
+      (between (coord (later a) (b .lo)) (coord (later a) (b .hi)) v) e) in
+      let l = between→ (coord (later a) (b .lo)) (coord (later a) (b .hi)) v
+      (and-right (between (coord (earlier a) (b .lo)) (coord (earlier a) (b .hi)) u)
+      (between (coord (later a) (b .lo)) (coord (later a) (b .hi)) v) e) in
       face← b a (pointAt a m u v) (omega arith))
 
   module _ (h : (p : Point) → oddCell (within b W) p ≡ false) where
@@ -146,10 +161,14 @@ module _ (b : Box) (W : Set) (a : Axis) (m : ℕ) (c : Bounds (suc (coord a (b .
         paths-ends a m (keep (inPlane W a m) (plane b a)) cut-even u v
         ∙ parity-keep _ (inPlane W a m) (plane b a)
         ∙ parity-plane b a _
-        ∙ parityTo-cong (coord (later a) (b .hi)) _ _ (λ j. parityTo-cong (coord (earlier a) (b .hi)) _ _ (λ i. turn (inRect b a i j) (W a (pointAt a m i j)) (eqb i u) (eqb j v)) ∙ sym (&&-sum (eqb j v) (coord (earlier a) (b .hi)) _))
+        ∙ parityTo-cong (coord (later a) (b .hi)) _ _
+        (λ j. parityTo-cong (coord (earlier a) (b .hi)) _ _ (λ i. turn (inRect b a i j) (W a (pointAt a m i j)) (eqb i u) (eqb j v))
+        ∙ sym (&&-sum (eqb j v) (coord (earlier a) (b .hi)) _))
         ∙ parityTo-one (coord (later a) (b .hi)) v _
-        ∙ ap (λ (x : Bool). ltb v (coord (later a) (b .hi)) && x) (parityTo-one (coord (earlier a) (b .hi)) u (λ i. inRect b a i v && W a (pointAt a m i v)))
-        ∙ again (leb (coord (earlier a) (b .lo)) u) (ltb u (coord (earlier a) (b .hi))) (leb (coord (later a) (b .lo)) v) (ltb v (coord (later a) (b .hi))) (W a (pointAt a m u v))
+        ∙ ap (λ (x : Bool). ltb v (coord (later a) (b .hi)) && x)
+        (parityTo-one (coord (earlier a) (b .hi)) u (λ i. inRect b a i v && W a (pointAt a m i v)))
+        ∙ again (leb (coord (earlier a) (b .lo)) u) (ltb u (coord (earlier a) (b .hi))) (leb (coord (later a) (b .lo)) v)
+        (ltb v (coord (later a) (b .hi))) (W a (pointAt a m u v))
         ∙ ap (λ (x : Bool). x && W a (pointAt a m u v)) (sym (face-rect u v))
       where
         turn : (r w x y : Bool) → r && (w && (x && y)) ≡ y && (x && (r && w))
@@ -164,11 +183,15 @@ module _ (b : Box) (W : Set) (a : Axis) (m : ℕ) (c : Bounds (suc (coord a (b .
 
     -- each flip reverses membership of its edge's four faces
     pub within-after : (d : Axis) (p : Point) → within b afterCut d p ≡ within b W d p ⊕ oddFace (setOf (cut b W a m)) d p
-    within-after d p = &&-⊕ (faceIn b d p) (W d p) (oddFace (setOf (cut b W a m)) d p) ∙ ap (λ (x : Bool). within b W d p ⊕ x) (oddFace-in b (cut b W a m) (cut-in b a m c W) d p)
+    within-after d p =
+        &&-⊕ (faceIn b d p) (W d p) (oddFace (setOf (cut b W a m)) d p)
+        ∙ ap (λ (x : Bool). within b W d p ⊕ x) (oddFace-in b (cut b W a m) (cut-in b a m c W) d p)
 
     -- after the pairs are joined none is left in the plane
     pub cleared : (u v : ℕ) → within b afterCut a (pointAt a m u v) ≡ false
-    cleared u v = within-after a (pointAt a m u v) ∙ ap (λ (x : Bool). within b W a (pointAt a m u v) ⊕ x) (cut-ends u v) ∙ ⊕-self (within b W a (pointAt a m u v))
+    cleared u v =
+        within-after a (pointAt a m u v) ∙ ap (λ (x : Bool). within b W a (pointAt a m u v) ⊕ x) (cut-ends u v)
+        ∙ ⊕-self (within b W a (pointAt a m u v))
 
     -- and every cell still has an even number of working faces
     pub after-even : (p : Point) → oddCell (within b afterCut) p ≡ false

@@ -11,7 +11,8 @@ use Rattle.rules.proofs.Chains.{chain-in, rim-whole}
 
 -- a set that has f, that only chains from f reach, and that is closed under neighbours, is f's rim
 pub fill-rim : (l : List Place) (f : Place) (S : Place → Bool) → S f ≡ true → ((g : Place) → S g ≡ true → Chain l f g) →
-    ((g h : Place) → neighbours g h ≡ true → elem h l ≡ true → S g ≡ true → S h ≡ true) → All (λ r. elem f r ≡ true → (g : Place) → S g ≡ elem g r) (rimsOf l)
+    ((g h : Place) → neighbours g h ≡ true → elem h l ≡ true → S g ≡ true → S h ≡ true) →
+    All (λ r. elem f r ≡ true → (g : Place) → S g ≡ elem g r) (rimsOf l)
 fill-rim l f S s₀ reach spread =
     all-pair _ _ _
     (λ r w c e g. same-test (S g) (elem g r) (λ s. c g s e) (λ k. w f g e k s₀))

@@ -48,7 +48,9 @@ smallest (f ∷ l) s h = record {
 
 -- ---- so two lists with the same faces have the same box
 held : (r s : List Face) → ((f : Face) → elem f r ≡ true → elem f s ≡ true) → All (λ f. Sub (ownBox f) (boxOf s)) r
-held r s h = all-weaken _ _ (λ f e. let g = find (samePlace f) (λ x. Sub (ownBox x) (boxOf s)) s (box-holds s) (h f e) in subst (λ (x : Face). Sub (ownBox x) (boxOf s)) (sym (samePlace→ f (g .0) (g .1))) (g .2)) r (members r)
+held r s h =
+    all-weaken _ _ (λ f e. let g = find (samePlace f) (λ x. Sub (ownBox x) (boxOf s)) s (box-holds s) (h f e) in
+    subst (λ (x : Face). Sub (ownBox x) (boxOf s)) (sym (samePlace→ f (g .0) (g .1))) (g .2)) r (members r)
 
 pub box-same : (f g : Face) (r s : List Face) → ((h : Face) → elem h (f ∷ r) ≡ elem h (g ∷ s)) → boxOf (f ∷ r) ≡ boxOf (g ∷ s)
 box-same f g r s h =

@@ -31,7 +31,8 @@ six : (c x x₁ y y₁ z z₁ : Bool) →
 six true x x₁ y y₁ z z₁ = refl
 six false x x₁ y y₁ z z₁ = refl
 
-pub oddCell-where : (c : Point → Bool) (G : Set) → ((d : Axis) (p : Point) → c (up d p) && G d (up d p) ≡ c p && G d (up d p)) → (p : Point) →
+pub oddCell-where : (c : Point → Bool) (G : Set) → ((d : Axis) (p : Point) → c (up d p) && G d (up d p) ≡ c p && G d (up d p)) →
+    (p : Point) →
     oddCell (λ d q. c q && G d q) p ≡ c p && oddCell G p
 oddCell-where c G h p =
     rw (h X p, h Y p, h Z p) (six (c p) (G X p) (G X (up X p)) (G Y p) (G Y (up Y p)) (G Z p) (G Z (up Z p)))
@@ -65,17 +66,20 @@ with-raise Y m q s = (refl, refl, refl)
 with-raise Z m q s = (refl, refl, refl)
 
 -- a face in the frame of axis a
-pub face-frame→ : (b : Box) (a d : Axis) (p : Point) → faceIn b d p ≡ true → In b a (sameAxis d a) (sameAxis d (earlier a)) (sameAxis d (later a)) p
+pub face-frame→ : (b : Box) (a d : Axis) (p : Point) → faceIn b d p ≡ true →
+    In b a (sameAxis d a) (sameAxis d (earlier a)) (sameAxis d (later a)) p
 face-frame→ b a d p e = frame→ b a (sameAxis d) p (faceIn→ b d p e)
 
-pub face-frame← : (b : Box) (a d : Axis) (p : Point) → In b a (sameAxis d a) (sameAxis d (earlier a)) (sameAxis d (later a)) p → faceIn b d p ≡ true
+pub face-frame← : (b : Box) (a d : Axis) (p : Point) → In b a (sameAxis d a) (sameAxis d (earlier a)) (sameAxis d (later a)) p →
+    faceIn b d p ≡ true
 face-frame← b a d p c = faceIn← b d p (frame← b a (sameAxis d) p c)
 
 module _ (b : Box) (a : Axis) (m : ℕ) (c : Bounds (suc (coord a (b .lo))) (coord a (b .hi)) m) where
   -- a face in the lower half is one in the box below the plane
   pub lower-face : (d : Axis) (p : Point) → faceIn (lower b a m) d p ≡ ltb (coord a p) m && faceIn b d p
   lower-face d p = let w = with-coord a m (b .hi) in same-test _ _
-      (λ e. let k = face-frame→ (lower b a m) a d p e in both _ _ (leb-yes (suc (coord a p)) m (omega arith)) (face-frame← b a d p (omega arith)))
+      (λ e. let k = face-frame→ (lower b a m) a d p e in
+      both _ _ (leb-yes (suc (coord a p)) m (omega arith)) (face-frame← b a d p (omega arith)))
       (λ e. let k = face-frame→ b a d p (and-right (ltb (coord a p) m) (faceIn b d p) e) in
       let l = leb→ (suc (coord a p)) m (and-left (ltb (coord a p) m) (faceIn b d p) e) in
       face-frame← (lower b a m) a d p (omega arith))
@@ -90,15 +94,18 @@ module _ (b : Box) (a : Axis) (m : ℕ) (c : Bounds (suc (coord a (b .lo))) (coo
       both _ _ (ap not (leb-no (suc (coord a p)) m (omega arith))) (face-frame← b a d p (omega arith))
 
   upper-face← : (d : Axis) (p : Point) → raise (sameAxis d a) m ≤ coord a p → faceIn b d p ≡ true → faceIn (upper b a m) d p ≡ true
-  upper-face← d p h e = let w = with-raise a m (b .lo) (sameAxis d) in let k = face-frame→ b a d p e in face-frame← (upper b a m) a d p (omega arith)
+  upper-face← d p h e =
+      let w = with-raise a m (b .lo) (sameAxis d) in let k = face-frame→ b a d p e in face-frame← (upper b a m) a d p (omega arith)
 
-  module _ (W : Set) (even : (p : Point) → oddCell (within b W) p ≡ false) (clear : (u v : ℕ) → within b W a (pointAt a m u v) ≡ false) where
+  module _ (W : Set) (even : (p : Point) → oddCell (within b W) p ≡ false)
+      (clear : (u v : ℕ) → within b W a (pointAt a m u v) ≡ false) where
     -- no face of the box stands in the plane
     off : (d : Axis) (p : Point) → sameAxis d a ≡ true → within b W d p ≡ true → coord a p ≡ m → ⊥
     off d p s e q =
         let f = sameAxis→ d a s in
         let g : within b W a p ≡ true = rw f at e in
-        let r : p ≡ pointAt a m (coord (earlier a) p) (coord (later a) p) = sym (pointAt-coord a p) ∙ ap (λ (i : ℕ). pointAt a i (coord (earlier a) p) (coord (later a) p)) q in
+        let r : p ≡ pointAt a m (coord (earlier a) p) (coord (later a) p) = sym (pointAt-coord a p)
+        ∙ ap (λ (i : ℕ). pointAt a i (coord (earlier a) p) (coord (later a) p)) q in
         true≢false (sym g ∙ ap (within b W a) r ∙ clear (coord (earlier a) p) (coord (later a) p))
 
     lower-within : (d : Axis) (p : Point) → within (lower b a m) W d p ≡ ltb (coord a p) m && within b W d p
@@ -107,9 +114,14 @@ module _ (b : Box) (a : Axis) (m : ℕ) (c : Bounds (suc (coord a (b .lo))) (coo
     upper-within : (d : Axis) (p : Point) → within (upper b a m) W d p ≡ not (ltb (coord a p) m) && within b W d p
     upper-within d p = same-test _ _
         (λ e. let k = upper-face→ d p (and-left (faceIn (upper b a m) d p) (W d p) e) in
-        both _ _ (and-left (not (ltb (coord a p) m)) (faceIn b d p) k) (both _ _ (and-right (not (ltb (coord a p) m)) (faceIn b d p) k) (and-right (faceIn (upper b a m) d p) (W d p) e)))
+        both _ _ (and-left (not (ltb (coord a p) m)) (faceIn b d p) k)
+        (both _ _ (and-right (not (ltb (coord a p) m)) (faceIn b d p) k) (and-right (faceIn (upper b a m) d p) (W d p) e)))
         (λ e. let g = and-right (not (ltb (coord a p) m)) (within b W d p) e in
-        let l : m ≤ coord a p = omega (arith, leb-false→ (suc (coord a p)) m (not→ (ltb (coord a p) m) (and-left (not (ltb (coord a p) m)) (within b W d p) e))) in
+        let l : m ≤ coord a p = omega (
+          arith,
+          leb-false→ (suc (coord a p)) m
+              (not→ (ltb (coord a p) m) (and-left (not (ltb (coord a p) m)) (within b W d p) e)),
+        ) in
         both _ _ (upper-face← d p (above (sameAxis d a) refl l g) (and-left (faceIn b d p) (W d p) g)) (and-right (faceIn b d p) (W d p) g))
       where
         above : (s : Bool) → sameAxis d a ≡ s → m ≤ coord a p → within b W d p ≡ true → raise s m ≤ coord a p
@@ -130,7 +142,8 @@ module _ (b : Box) (a : Axis) (m : ℕ) (c : Bounds (suc (coord a (b .lo))) (coo
             (λ h. let l = leb→ (suc (coord a (up d p))) m h in leb-yes (suc (coord a p)) m (omega arith))
             (λ h. let l = leb→ (suc (coord a p)) m h in leb-yes (suc (coord a (up d p))) m (omega arith)))
 
-    step-not-below : (d : Axis) (p : Point) → not (ltb (coord a (up d p)) m) && within b W d (up d p) ≡ not (ltb (coord a p) m) && within b W d (up d p)
+    step-not-below : (d : Axis) (p : Point) →
+        not (ltb (coord a (up d p)) m) && within b W d (up d p) ≡ not (ltb (coord a p) m) && within b W d (up d p)
     step-not-below d p = flip (ltb (coord a (up d p)) m) (ltb (coord a p) m) (within b W d (up d p)) (step-below d p)
       where
         flip : (x y g : Bool) → x && g ≡ y && g → not x && g ≡ not y && g

@@ -30,8 +30,12 @@ upper-size b Z m c = omega arith
 
 one-cell→ : (b : Box) → oneCell b ≡ true → (d : Axis) → side b d ≤ 1
 one-cell→ b h X = leb→ (side b X) 1 (and-left (leb (side b X) 1) (leb (side b Y) 1 && leb (side b Z) 1) h)
-one-cell→ b h Y = leb→ (side b Y) 1 (and-left (leb (side b Y) 1) (leb (side b Z) 1) (and-right (leb (side b X) 1) (leb (side b Y) 1 && leb (side b Z) 1) h))
-one-cell→ b h Z = leb→ (side b Z) 1 (and-right (leb (side b Y) 1) (leb (side b Z) 1) (and-right (leb (side b X) 1) (leb (side b Y) 1 && leb (side b Z) 1) h))
+one-cell→ b h Y =
+    leb→ (side b Y) 1 (and-left (leb (side b Y) 1) (leb (side b Z) 1)
+    (and-right (leb (side b X) 1) (leb (side b Y) 1 && leb (side b Z) 1) h))
+one-cell→ b h Z =
+    leb→ (side b Z) 1 (and-right (leb (side b Y) 1) (leb (side b Z) 1)
+    (and-right (leb (side b X) 1) (leb (side b Y) 1 && leb (side b Z) 1) h))
 
 pub one-cell← : (b : Box) → ((d : Axis) → side b d ≤ 1) → oneCell b ≡ true
 one-cell← b h = both _ _ (leb-yes (side b X) 1 (h X)) (both _ _ (leb-yes (side b Y) 1 (h Y)) (leb-yes (side b Z) 1 (h Z)))
@@ -84,9 +88,12 @@ patch-cut n b W e = rw (e, patch)
 
 -- what the recursion keeps
 abbrev Ends : ℕ → Type 0
-Ends n = (b : Box) (W : Set) → size b ≤ n → ((p : Point) → oddCell (within b W) p ≡ false) → (a : Axis) (p : Point) → oddFace (setOf (patch n b W)) a p ≡ within b W a p
+Ends n =
+    (b : Box) (W : Set) → size b ≤ n → ((p : Point) → oddCell (within b W) p ≡ false) → (a : Axis) (p : Point) →
+    oddFace (setOf (patch n b W)) a p ≡ within b W a p
 
-cut-case : (n : ℕ) → Ends n → (b : Box) (W : Set) → size b ≤ suc n → ((p : Point) → oddCell (within b W) p ≡ false) → (d : Axis) (p : Point) → oneCell b ≡ false →
+cut-case : (n : ℕ) → Ends n → (b : Box) (W : Set) → size b ≤ suc n → ((p : Point) → oddCell (within b W) p ≡ false) →
+    (d : Axis) (p : Point) → oneCell b ≡ false →
     oddFace (setOf (halve (λ c U. patch n c U) b W)) d p ≡ within b W d p
 cut-case n ih b W s h d p e =
     let a = longest b in
@@ -98,8 +105,10 @@ cut-case n ih b W s h d p e =
     ∙ ap (λ (x : Bool). oddFace (setOf fl) d p ⊕ x)
     (oddFace-append (patch n (lower b a m) U) (patch n (upper b a m) U) d p
     ∙ ap₂ _⊕_
-    (ih (lower b a m) U (let l = lower-size b a m c in omega arith) (lower-even b a m c U (after-even b W a m c h) (cleared b W a m c h)) d p)
-    (ih (upper b a m) U (let l = upper-size b a m c in omega arith) (upper-even b a m c U (after-even b W a m c h) (cleared b W a m c h)) d p)
+    (ih (lower b a m) U (let l = lower-size b a m c in omega arith)
+    (lower-even b a m c U (after-even b W a m c h) (cleared b W a m c h)) d p)
+    (ih (upper b a m) U (let l = upper-size b a m c in omega arith)
+    (upper-even b a m c U (after-even b W a m c h) (cleared b W a m c h)) d p)
     ∙ halves b a m c U (after-even b W a m c h) (cleared b W a m c h) d p
     ∙ within-after b W a m c h d p)
     ∙ ⊕-left (oddFace (setOf fl) d p) (within b W d p) (oddFace (setOf fl) d p)
@@ -116,10 +125,12 @@ patch-ends (suc n) b W s h a p = go (λ c U t k q r. patch-ends n c U t k q r) (
     go ih false e = ap (λ (l : List Place). oddFace (setOf l) a p) (patch-cut n b W e) ∙ cut-case n ih b W s h a p e
 
 -- ---- the flips of a patch lie in its box
-edge-frame→ : (b : Box) (a d : Axis) (p : Point) → edgeIn b d p ≡ true → In b a (not (sameAxis d a)) (not (sameAxis d (earlier a))) (not (sameAxis d (later a))) p
+edge-frame→ : (b : Box) (a d : Axis) (p : Point) → edgeIn b d p ≡ true →
+    In b a (not (sameAxis d a)) (not (sameAxis d (earlier a))) (not (sameAxis d (later a))) p
 edge-frame→ b a d p e = frame→ b a (λ c. not (sameAxis d c)) p (inBox→ b (not (sameAxis d X)) (not (sameAxis d Y)) (not (sameAxis d Z)) p e)
 
-edge-frame← : (b : Box) (a d : Axis) (p : Point) → In b a (not (sameAxis d a)) (not (sameAxis d (earlier a))) (not (sameAxis d (later a))) p → edgeIn b d p ≡ true
+edge-frame← : (b : Box) (a d : Axis) (p : Point) →
+    In b a (not (sameAxis d a)) (not (sameAxis d (earlier a))) (not (sameAxis d (later a))) p → edgeIn b d p ≡ true
 edge-frame← b a d p c = inBox← b (not (sameAxis d X)) (not (sameAxis d Y)) (not (sameAxis d Z)) p (frame← b a (λ e. not (sameAxis d e)) p c)
 
 module _ (b : Box) (a : Axis) (m : ℕ) (c : Bounds (suc (coord a (b .lo))) (coord a (b .hi)) m) where

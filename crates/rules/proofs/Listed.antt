@@ -13,7 +13,8 @@ parity-below : (n : ℕ) (f : ℕ → Bool) → parity f (upto 0 n) ≡ parityTo
 parity-below n f = parity-upto 0 n f ∙ parityTo-cong n (λ j. f (0 + j)) f (λ j. ap f (zero-add j))
 
 -- of the listed points, p stands there once
-pub parity-points : (n : ℕ) (G : Point → Bool) (p : Point) → parity (λ q. G q && samePoint q p) (points n) ≡ ltb (p .k) n && (ltb (p .j) n && (ltb (p .i) n && G p))
+pub parity-points : (n : ℕ) (G : Point → Bool) (p : Point) →
+    parity (λ q. G q && samePoint q p) (points n) ≡ ltb (p .k) n && (ltb (p .j) n && (ltb (p .i) n && G p))
 parity-points n G p =
     parity-each _ _ (upto 0 n) ∙ parity-below n _
     ∙ parityTo-cong n _ _ (λ k. parity-each _ _ (upto 0 n) ∙ parity-below n _
@@ -39,7 +40,8 @@ three-places F Y p q = rw (&&-false (F X q), &&-false (F Z q)) (⊕-false (F Y q
 three-places F Z p q = rw (&&-false (F X q), &&-false (F Y q)) (⊕-false (F Z q && samePoint q p))
 
 -- the members that are listed are all, if none lies beyond n
-pub listed : (n : ℕ) (F : Set) → ((a : Axis) (p : Point) → F a p ≡ true → (p .i < n) × (p .j < n) × (p .k < n)) → (a : Axis) (p : Point) → setOf (keep (isIn F) (places n)) a p ≡ F a p
+pub listed : (n : ℕ) (F : Set) → ((a : Axis) (p : Point) → F a p ≡ true → (p .i < n) × (p .j < n) × (p .k < n)) → (a : Axis) (p : Point) →
+    setOf (keep (isIn F) (places n)) a p ≡ F a p
 listed n F h a p =
     parity-keep (λ e. samePlace e (record { axis = a; at = p })) (isIn F) (places n)
     ∙ parity-each _ _ (points n)

@@ -57,7 +57,8 @@ module _ {A : Type 0} where
   none-kept w [] = (λ e. refl, λ e. refl)
   none-kept w (x ∷ l) = go (w x) (none-kept w l)
     where
-      go : (c : Bool) → (allOf (λ y. not (w y)) l ≡ true) ↔ (keep w l ≡ []) → (not c && allOf (λ y. not (w y)) l ≡ true) ↔ (cond c (x ∷ keep w l) (keep w l) ≡ [])
+      go : (c : Bool) → (allOf (λ y. not (w y)) l ≡ true) ↔ (keep w l ≡ []) →
+          (not c && allOf (λ y. not (w y)) l ≡ true) ↔ (cond c (x ∷ keep w l) (keep w l) ≡ [])
       go true i = (λ e. absurd (false≢true e), λ e. absurd (cons-nil e))
         where
           cons-nil : x ∷ keep w l ≡ [] → ⊥
@@ -116,7 +117,8 @@ module _ {A B : Type 0} where
   keep-map f g [] = refl
   keep-map f g (x ∷ l) = go (f (g x)) (keep-map f g l)
     where
-      go : (c : Bool) → keep f (map g l) ≡ map g (keep (λ y. f (g y)) l) → cond c (g x ∷ keep f (map g l)) (keep f (map g l)) ≡ map g (cond c (x ∷ keep (λ y. f (g y)) l) (keep (λ y. f (g y)) l))
+      go : (c : Bool) → keep f (map g l) ≡ map g (keep (λ y. f (g y)) l) →
+          cond c (g x ∷ keep f (map g l)) (keep f (map g l)) ≡ map g (cond c (x ∷ keep (λ y. f (g y)) l) (keep (λ y. f (g y)) l))
       go true i = ap (λ (m : List B). g x ∷ m) i
       go false i = i
 
@@ -135,7 +137,11 @@ module _ {A B C : Type 0} where
 
 pub all-upto : (i k : ℕ) → All (λ j. Bounds i (i + k) j) (upto i k)
 all-upto i zero = tt
-all-upto i (suc k) = (record { low = omega arith; high = omega arith }, all-weaken _ _ (λ j c. record { low = omega arith; high = omega arith }) (upto (suc i) k) (all-upto (suc i) k))
+all-upto i (suc k) = (
+  record { low = omega arith; high = omega arith },
+  all-weaken _ _ (λ j c. record { low = omega arith; high = omega arith })
+      (upto (suc i) k) (all-upto (suc i) k),
+)
 
 pub all-below : {P : ℕ → Type 0} (k : ℕ) → ((i : ℕ) → i < k → P i) → All P (upto 0 k)
 all-below {P} k h = all-weaken _ P (λ i c. h i (omega arith)) (upto 0 k) (all-upto 0 k)

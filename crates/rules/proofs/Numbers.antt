@@ -27,7 +27,8 @@ getD-upto i (suc k) (suc j) d h = getD-upto (suc i) k j d (le-of-suc-le-suc h) �
 module _ {A B : Type 0} where
   length-each : (g : A → List B) (k : ℕ) → ((a : A) → length (g a) ≡ k) → (l : List A) → length (each g l) ≡ k * length l
   length-each g k h [] = sym (mul-zero k)
-  length-each g k h (a ∷ l) = length-append (g a) (each g l) ∙ ap₂ _+_ (h a) (length-each g k h l) ∙ (let e = mul-suc k (length l) in omega arith)
+  length-each g k h (a ∷ l) =
+      length-append (g a) (each g l) ∙ ap₂ _+_ (h a) (length-each g k h l) ∙ (let e = mul-suc k (length l) in omega arith)
 
   -- blocks of one length: the x-th of the y-th block
   each-at : (g : A → List B) (k : ℕ) → ((a : A) → length (g a) ≡ k) → (l : List A) (y x : ℕ) (c : A) (d : B) → y < length l → x < k →
@@ -37,7 +38,8 @@ module _ {A B : Type 0} where
       ap (λ (i : ℕ). getD (g a ++ each g l) i d) (let e = mul-zero k in let r : x + k * 0 ≡ x = omega arith in r)
       ∙ List·getD-append (g a) (each g l) d x (let e = h a in omega arith)
   each-at g k h (a ∷ l) (suc y) x c d p q =
-      ap (λ (i : ℕ). getD (g a ++ each g l) i d) (let e = mul-suc k y in let f = h a in let r : x + k * suc y ≡ length (g a) + (x + k * y) = omega arith in r)
+      ap (λ (i : ℕ). getD (g a ++ each g l) i d)
+      (let e = mul-suc k y in let f = h a in let r : x + k * suc y ≡ length (g a) + (x + k * y) = omega arith in r)
       ∙ getD-append-add (g a) (each g l) (x + k * y) d
       ∙ each-at g k h l y x c d (le-of-suc-le-suc p) q
 
@@ -69,7 +71,8 @@ module _ (k : ℕ) where
   unfolding layer row
   points-at p q hx hy hz =
       ap (λ (i : ℕ). getD (points k) i q) (let r : p .i + k * (p .j + k * p .k) ≡ (p .i + k * p .j) + (k * k) * p .k = omega arith in r)
-      ∙ each-at layer (k * k) layer-length (upto 0 k) (p .k) (p .i + k * p .j) 0 q (let e = length-upto 0 k in omega arith) (let e = mul-le-mul-left k hy in let f = mul-suc k (p .j) in omega arith)
+      ∙ each-at layer (k * k) layer-length (upto 0 k) (p .k) (p .i + k * p .j) 0 q (let e = length-upto 0 k in omega arith)
+      (let e = mul-le-mul-left k hy in let f = mul-suc k (p .j) in omega arith)
       ∙ ap (λ (i : ℕ). getD (layer i) (p .i + k * p .j) q) (getD-upto 0 k (p .k) 0 hz ∙ omega arith)
       ∙ each-at (row (p .k)) k (row-length (p .k)) (upto 0 k) (p .j) (p .i) 0 q (let e = length-upto 0 k in omega arith) hx
       ∙ ap (λ (i : ℕ). getD (row (p .k) i) (p .i) q) (getD-upto 0 k (p .j) 0 hy ∙ omega arith)
@@ -91,7 +94,8 @@ pub bytes-at : (n : ℕ) (E : Set) (p : Point) → p .i ≤ n → p .j ≤ n →
 unfolding bytes
 bytes-at n E p hx hy hz =
     getD-map< (byteAt E) (points (suc n)) (pointNumber n p) p 0
-    (let a = points-length (suc n) in let b = number-below (suc n) (p .i) (p .j) (p .k) (omega arith) (omega arith) (omega arith) in subst (λ (i : ℕ). pointNumber n p < i) (sym a) b)
+    (let a = points-length (suc n) in let b = number-below (suc n) (p .i) (p .j) (p .k) (omega arith) (omega arith) (omega arith) in
+    subst (λ (i : ℕ). pointNumber n p < i) (sym a) b)
     ∙ ap (byteAt E) (points-at (suc n) p p (omega arith) (omega arith) (omega arith))
 
 -- ---- the bits of a byte
@@ -119,11 +123,14 @@ value-bit false = refl
 pub has-bit : (a : Axis) (x y z : Bool) → has a (value x 1 + (value y 2 + value z 4)) ≡ three a x y z
 has-bit a x y z = go a (value-cases x 1) (value-cases y 2) (value-cases z 4)
   where
-    go : (a : Axis) → (value x 1 ≡ 1 * value x 1) × (value x 1 ≤ 1) → (value y 2 ≡ 2 * value y 1) × (value y 1 ≤ 1) → (value z 4 ≡ 4 * value z 1) × (value z 1 ≤ 1) →
+    go : (a : Axis) → (value x 1 ≡ 1 * value x 1) × (value x 1 ≤ 1) → (value y 2 ≡ 2 * value y 1) × (value y 1 ≤ 1) →
+        (value z 4 ≡ 4 * value z 1) × (value z 1 ≤ 1) →
         has a (value x 1 + (value y 2 + value z 4)) ≡ three a x y z
     go X p q r = ap (λ (k : ℕ). eqb k 1) (let e : (value x 1 + (value y 2 + value z 4)) % 2 ≡ value x 1 = omega arith in e) ∙ value-bit x
-    go Y p q r = ap (λ (k : ℕ). eqb k 1) (let e : (value x 1 + (value y 2 + value z 4)) / 2 % 2 ≡ value y 1 = omega arith in e) ∙ value-bit y
-    go Z p q r = ap (λ (k : ℕ). eqb k 1) (let e : (value x 1 + (value y 2 + value z 4)) / 4 % 2 ≡ value z 1 = omega arith in e) ∙ value-bit z
+    go Y p q r =
+        ap (λ (k : ℕ). eqb k 1) (let e : (value x 1 + (value y 2 + value z 4)) / 2 % 2 ≡ value y 1 = omega arith in e) ∙ value-bit y
+    go Z p q r =
+        ap (λ (k : ℕ). eqb k 1) (let e : (value x 1 + (value y 2 + value z 4)) / 4 % 2 ≡ value z 1 = omega arith in e) ∙ value-bit z
 
 -- only inner edges are marked
 pub marks-inner : (n : ℕ) (g : List ℕ) (a : Axis) (p : Point) → marks n g a p ≡ true → inner n a p ≡ true
@@ -131,7 +138,8 @@ unfolding marks
 marks-inner n g a p e = and-left (inner n a p) (has a (getD g (pointNumber n p) 0)) e
 
 -- what is written is read back
-pub marks-bytes : (n : ℕ) (E : Set) → ((a : Axis) (p : Point) → E a p ≡ true → edgeIn (whole n) a p ≡ true) → (a : Axis) (p : Point) → marks n (bytes n E) a p ≡ E a p
+pub marks-bytes : (n : ℕ) (E : Set) → ((a : Axis) (p : Point) → E a p ≡ true → edgeIn (whole n) a p ≡ true) → (a : Axis) (p : Point) →
+    marks n (bytes n E) a p ≡ E a p
 unfolding marks
 marks-bytes n E inner a p = go (edgeIn (whole n) a p) refl
   where
@@ -144,7 +152,9 @@ marks-bytes n E inner a p = go (edgeIn (whole n) a p) refl
 -- ---- the points are listed by rising number, none left out
 upto-append : (i a b : ℕ) → upto i a ++ upto (i + a) b ≡ upto i (a + b)
 upto-append i zero b = ap₂ upto (add-zero i) (sym (zero-add b))
-upto-append i (suc a) b = ap (λ (l : List ℕ). i ∷ l) (ap (λ (k : ℕ). upto (suc i) a ++ upto k b) (let r : i + suc a ≡ suc i + a = omega arith in r) ∙ upto-append (suc i) a b) ∙ ap (upto i) (sym (suc-add a b))
+upto-append i (suc a) b =
+    ap (λ (l : List ℕ). i ∷ l) (ap (λ (k : ℕ). upto (suc i) a ++ upto k b) (let r : i + suc a ≡ suc i + a = omega arith in r)
+    ∙ upto-append (suc i) a b) ∙ ap (upto i) (sym (suc-add a b))
 
 map-shift : (c i k : ℕ) → map (λ x. x + c) (upto i k) ≡ upto (i + c) k
 map-shift c i zero = refl
@@ -153,7 +163,8 @@ map-shift c i (suc k) = ap (λ (l : List ℕ). (i + c) ∷ l) (map-shift c (suc 
 blocks : (k i j : ℕ) → each (λ y. upto (k * y) k) (upto i j) ≡ upto (k * i) (k * j)
 blocks k i zero = ap (upto (k * i)) (sym (mul-zero k))
 blocks k i (suc j) =
-    ap (λ (l : List ℕ). upto (k * i) k ++ l) (blocks k (suc i) j ∙ ap (λ (n : ℕ). upto n (k * j)) (let e = mul-suc k i in let r : k * suc i ≡ k * i + k = omega arith in r))
+    ap (λ (l : List ℕ). upto (k * i) k ++ l)
+    (blocks k (suc i) j ∙ ap (λ (n : ℕ). upto n (k * j)) (let e = mul-suc k i in let r : k * suc i ≡ k * i + k = omega arith in r))
     ∙ upto-append (k * i) k (k * j) ∙ ap (upto (k * i)) (let e = mul-suc k j in let r : k + k * j ≡ k * suc j = omega arith in r)
 
 abbrev numberOf : ℕ → Point → ℕ
@@ -165,7 +176,9 @@ rising-at k =
     map-each (numberOf k) (layer k) (upto 0 k)
     ∙ ap (λ (g : ℕ → List ℕ). each g (upto 0 k)) (fun-ext (λ z.
     map-each (numberOf k) (row k z) (upto 0 k)
-    ∙ ap (λ (g : ℕ → List ℕ). each g (upto 0 k)) (fun-ext (λ y. map-map (numberOf k) (λ x. record { i = x; j = y; k = z }) (upto 0 k) ∙ map-shift (k * (y + k * z)) 0 k ∙ ap (λ (i : ℕ). upto i k) (zero-add (k * (y + k * z)))))
+    ∙ ap (λ (g : ℕ → List ℕ). each g (upto 0 k))
+    (fun-ext (λ y. map-map (numberOf k) (λ x. record { i = x; j = y; k = z }) (upto 0 k) ∙ map-shift (k * (y + k * z)) 0 k
+    ∙ ap (λ (i : ℕ). upto i k) (zero-add (k * (y + k * z)))))
     ∙ sym (each-map (λ y. upto (k * y) k) (λ y. y + k * z) (upto 0 k))
     ∙ ap (each (λ y. upto (k * y) k)) (map-shift (k * z) 0 k ∙ ap (λ (i : ℕ). upto i k) (zero-add (k * z)))
     ∙ blocks k (k * z) k
@@ -197,18 +210,24 @@ good→ : (n : ℕ) (g : List ℕ) (p : Point) → goodByte n g p ≡ true → b
 unfolding marks
 good→ n g p e = go (getD g (pointNumber n p) 0) e
   where
-    go : (b : ℕ) → leb b 7 && ((not (has X b) || edgeIn (whole n) X p) && ((not (has Y b) || edgeIn (whole n) Y p) && (not (has Z b) || edgeIn (whole n) Z p))) ≡ true →
-        value (edgeIn (whole n) X p && has X b) 1 + (value (edgeIn (whole n) Y p && has Y b) 2 + value (edgeIn (whole n) Z p && has Z b) 4) ≡ b
+    go : (b : ℕ) →
+        leb b 7 && ((not (has X b) || edgeIn (whole n) X p) &&
+        ((not (has Y b) || edgeIn (whole n) Y p) && (not (has Z b) || edgeIn (whole n) Z p))) ≡ true →
+        value (edgeIn (whole n) X p && has X b) 1 + (value (edgeIn (whole n) Y p && has Y b) 2 + value (edgeIn (whole n) Z p && has Z b) 4)
+        ≡ b
     go b h =
         let r = and-right (leb b 7) _ h in
         let x = imp→ (has X b) (edgeIn (whole n) X p) (and-left (not (has X b) || edgeIn (whole n) X p) _ r) in
         let r₂ = and-right (not (has X b) || edgeIn (whole n) X p) _ r in
-        let y = imp→ (has Y b) (edgeIn (whole n) Y p) (and-left (not (has Y b) || edgeIn (whole n) Y p) (not (has Z b) || edgeIn (whole n) Z p) r₂) in
-        let z = imp→ (has Z b) (edgeIn (whole n) Z p) (and-right (not (has Y b) || edgeIn (whole n) Y p) (not (has Z b) || edgeIn (whole n) Z p) r₂) in
+        let y = imp→ (has Y b) (edgeIn (whole n) Y p)
+        (and-left (not (has Y b) || edgeIn (whole n) Y p) (not (has Z b) || edgeIn (whole n) Z p) r₂) in
+        let z = imp→ (has Z b) (edgeIn (whole n) Z p)
+        (and-right (not (has Y b) || edgeIn (whole n) Y p) (not (has Z b) || edgeIn (whole n) Z p) r₂) in
         rw (x, y, z) (small-byte b (leb→ b 7 (and-left (leb b 7) _ h)))
 
 module _ {A : Type 0} where
-  map-where : {B : Type 0} (w : A → Bool) (f g : A → B) → ((x : A) → w x ≡ true → f x ≡ g x) → (l : List A) → allOf w l ≡ true → map f l ≡ map g l
+  map-where : {B : Type 0} (w : A → Bool) (f g : A → B) → ((x : A) → w x ≡ true → f x ≡ g x) → (l : List A) → allOf w l ≡ true →
+      map f l ≡ map g l
   map-where w f g h [] e = refl
   map-where w f g h (x ∷ l) e = ap₂ _∷_ (h x (and-left (w x) (allOf w l) e)) (map-where w f g h l (and-right (w x) (allOf w l) e))
 
@@ -216,7 +235,8 @@ pub take-upto : (g : List ℕ) (k : ℕ) → k ≤ length g → map (λ i. getD 
 take-upto g k h = ext-getD 0 _ _
     (length-map (upto 0 k) _ ∙ length-upto 0 k ∙ sym (length-take k g ∙ omega arith))
     (λ i l. let e = length-map (upto 0 k) (λ j. getD g j 0) in let e₂ = length-upto 0 k in
-    getD-map< (λ j. getD g j 0) (upto 0 k) i 0 0 (omega arith) ∙ ap (λ j. getD g j 0) (getD-upto 0 k i 0 (omega arith) ∙ zero-add i) ∙ sym (getD-take k g i 0 (omega arith)))
+    getD-map< (λ j. getD g j 0) (upto 0 k) i 0 0 (omega arith) ∙ ap (λ j. getD g j 0) (getD-upto 0 k i 0 (omega arith) ∙ zero-add i)
+    ∙ sym (getD-take k g i 0 (omega arith)))
 
 pub bytes-marks : (n : ℕ) (g : List ℕ) → pointCount n ≤ length g → isGrid n g ≡ true → bytes n (marks n g) ≡ take (pointCount n) g
 unfolding bytes isGrid

@@ -21,7 +21,8 @@ module _ (n : ℕ) (E : Set) (inner : (a : Axis) (p : Point) → E a p ≡ true 
   pub elem-odd : (f : Place) → elem f (oddFaces n E) ≡ oddFace E (f .axis) (f .at)
   unfolding oddFaces
   elem-odd f = same-test (elem f (oddFaces n E)) (oddFace E (f .axis) (f .at))
-      (λ e. let g = find (samePlace f) (λ x. isIn (oddFace E) x ≡ true) (oddFaces n E) (all-kept (isIn (oddFace E)) (places n)) e in subst (λ (x : Place). isIn (oddFace E) x ≡ true) (sym (samePlace→ f (g .0) (g .1))) (g .2))
+      (λ e. let g = find (samePlace f) (λ x. isIn (oddFace E) x ≡ true) (oddFaces n E) (all-kept (isIn (oddFace E)) (places n)) e in
+      subst (λ (x : Place). isIn (oddFace E) x ≡ true) (sym (samePlace→ f (g .0) (g .1))) (g .2))
       (λ e. setOf-elem f (oddFaces n E) (odd-listed n E inner (f .axis) (f .at) ∙ e))
 
   -- a rim's faces as a set

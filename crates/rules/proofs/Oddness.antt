@@ -16,12 +16,14 @@ oddFace-symdiff E F a p = simp xors
 pub setOf-append : (l m : List Place) (a : Axis) (p : Point) → setOf (l ++ m) a p ≡ symdiff (setOf l) (setOf m) a p
 setOf-append l m a p = parity-append (λ e. samePlace e (record { axis = a; at = p })) l m
 
-pub oddFace-append : (l m : List Place) (a : Axis) (p : Point) → oddFace (setOf (l ++ m)) a p ≡ oddFace (setOf l) a p ⊕ oddFace (setOf m) a p
+pub oddFace-append : (l m : List Place) (a : Axis) (p : Point) →
+    oddFace (setOf (l ++ m)) a p ≡ oddFace (setOf l) a p ⊕ oddFace (setOf m) a p
 oddFace-append l m a p = simp (setOf-append l m, xors)
 
 -- each of a cell's twelve edges lies in two of its six faces
 twelve : (a b c d e f g h i j k l : Bool) →
-    (((a ⊕ b) ⊕ (c ⊕ d)) ⊕ ((e ⊕ f) ⊕ (g ⊕ h))) ⊕ ((((i ⊕ j) ⊕ (c ⊕ g)) ⊕ ((k ⊕ l) ⊕ (d ⊕ h))) ⊕ (((i ⊕ k) ⊕ (a ⊕ e)) ⊕ ((j ⊕ l) ⊕ (b ⊕ f)))) ≡ false
+    (((a ⊕ b) ⊕ (c ⊕ d)) ⊕ ((e ⊕ f) ⊕ (g ⊕ h))) ⊕
+    ((((i ⊕ j) ⊕ (c ⊕ g)) ⊕ ((k ⊕ l) ⊕ (d ⊕ h))) ⊕ (((i ⊕ k) ⊕ (a ⊕ e)) ⊕ ((j ⊕ l) ⊕ (b ⊕ f)))) ≡ false
 twelve a b c d e f g h i j k l = simp xors (⊕-self a)
 
 -- ---- every cell has an even number of odd faces
@@ -103,19 +105,24 @@ solve x y z e = zero-sum y (x ⊕ z) (let r : y ⊕ (x ⊕ z) ≡ (x ⊕ y) ⊕ 
 
 module _ (F : Set) (h : Point) (c : Closed F h) where
   plane-step : (a : Axis) (m u v : ℕ) →
-      F a (pointAt a (suc m) u v) ≡ F a (pointAt a m u v) ⊕ ((F (earlier a) (pointAt a m u v) ⊕ F (earlier a) (pointAt a m (suc u) v)) ⊕ (F (later a) (pointAt a m u v) ⊕ F (later a) (pointAt a m u (suc v))))
+      F a (pointAt a (suc m) u v) ≡ F a (pointAt a m u v) ⊕
+      ((F (earlier a) (pointAt a m u v) ⊕ F (earlier a) (pointAt a m (suc u) v)) ⊕
+      (F (later a) (pointAt a m u v) ⊕ F (later a) (pointAt a m u (suc v))))
   plane-step a m u v =
       solve (F a (pointAt a m u v)) (F a (pointAt a (suc m) u v)) _
       (rw (up-own a m u v, up-earlier a m u v, up-later a m u v) at (sym (oddCell-from F a (pointAt a m u v)) ∙ c .even (pointAt a m u v)))
 
   pub plane-even : (a : Axis) (m : ℕ) → overPlane F h a m ≡ false
-  plane-even a zero = parityTo-zero (coord (later a) h) _ (λ v. parityTo-zero (coord (earlier a) h) _ (λ u. c .bottom a (pointAt a 0 u v) (coord-own a 0 u v)))
+  plane-even a zero =
+      parityTo-zero (coord (later a) h) _
+      (λ v. parityTo-zero (coord (earlier a) h) _ (λ u. c .bottom a (pointAt a 0 u v) (coord-own a 0 u v)))
   plane-even a (suc m) =
       parityTo-cong (coord (later a) h) _ _ (λ v. parityTo-cong (coord (earlier a) h) _ _ (λ u. plane-step a m u v))
       ∙ parityTo-cong (coord (later a) h) _ _ (λ v. parityTo-plus (coord (earlier a) h) _ _)
       ∙ parityTo-plus (coord (later a) h) _ _
       ∙ ap₂ _⊕_ (plane-even a m)
-      (parityTo-around (coord (earlier a) h) (coord (later a) h) (λ u v. F (earlier a) (pointAt a m u v)) (λ u v. F (later a) (pointAt a m u v))
+      (parityTo-around (coord (earlier a) h) (coord (later a) h) (λ u v. F (earlier a) (pointAt a m u v))
+      (λ u v. F (later a) (pointAt a m u v))
       (λ v. c .bottom (earlier a) _ (coord-earlier a m 0 v))
       (λ v. c .top (earlier a) _ (coord-earlier a m (coord (earlier a) h) v))
       (λ u. c .bottom (later a) _ (coord-later a m u 0))

@@ -21,8 +21,10 @@ use Rattle.rules.proofs.Recursion.{patch-cong}
 
 -- ---- in one plane
 -- a path leaves every face of the plane but its two ends as it was, so the list of working faces may be made before or between the paths
-pub listed-once : (w : Set) (a : Axis) (m : ℕ) (p q s : Spot) → sameSpot p s ≡ false → sameSpot q s ≡ false → inPlane (after w (path a m p q)) a m s ≡ inPlane w a m s
-listed-once w a m p q s e f = ap (λ (x : Bool). inPlane w a m s ⊕ x) (path-ends a m p q (s .u) (s .v) ∙ ap₂ _⊕_ e f) ∙ ⊕-false (inPlane w a m s)
+pub listed-once : (w : Set) (a : Axis) (m : ℕ) (p q s : Spot) → sameSpot p s ≡ false → sameSpot q s ≡ false →
+    inPlane (after w (path a m p q)) a m s ≡ inPlane w a m s
+listed-once w a m p q s e f =
+    ap (λ (x : Bool). inPlane w a m s ⊕ x) (path-ends a m p q (s .u) (s .v) ∙ ap₂ _⊕_ e f) ∙ ⊕-false (inPlane w a m s)
 
 -- ---- the two halves
 -- the flips of one box leave alone what a box with no face in common reads
@@ -30,24 +32,28 @@ pub apart-after : (n : ℕ) (b c : Box) (W : Set) → size c ≤ n → ((d : Axi
     patch n c (after W (patch n b W)) ≡ patch n c W
 apart-after n b c W s h =
     patch-cong n n c _ W s s (λ d p e.
-    ap (λ (x : Bool). W d p ⊕ x) (sym (oddFace-in b (patch n b W) (patch-in n b W) d p) ∙ ap (λ (x : Bool). x && oddFace (setOf (patch n b W)) d p) (h d p e))
+    ap (λ (x : Bool). W d p ⊕ x) (sym (oddFace-in b (patch n b W) (patch-in n b W) d p)
+    ∙ ap (λ (x : Bool). x && oddFace (setOf (patch n b W)) d p) (h d p e))
     ∙ ⊕-false (W d p))
 
 module _ (b : Box) (a : Axis) (m : ℕ) (c : Bounds (suc (coord a (b .lo))) (coord a (b .hi)) m) where
   -- the two halves have no face in common
   halves-apart : (d : Axis) (p : Point) → faceIn (lower b a m) d p ≡ true → faceIn (upper b a m) d p ≡ true → ⊥
   halves-apart d p l u =
-      clash (ltb (coord a p) m) (and-left (ltb (coord a p) m) (faceIn b d p) (sym (lower-face b a m c d p) ∙ l)) (and-left (not (ltb (coord a p) m)) (faceIn b d p) (upper-face→ b a m c d p u))
+      clash (ltb (coord a p) m) (and-left (ltb (coord a p) m) (faceIn b d p) (sym (lower-face b a m c d p) ∙ l))
+      (and-left (not (ltb (coord a p) m)) (faceIn b d p) (upper-face→ b a m c d p u))
     where
       clash : (x : Bool) → x ≡ true → not x ≡ true → ⊥
       clash true e f = false≢true f
       clash false e f = false≢true e
 
   -- so each half's patch is the same before the other's flips and after them
-  pub upper-after : (n : ℕ) (W : Set) → size (upper b a m) ≤ n → patch n (upper b a m) (after W (patch n (lower b a m) W)) ≡ patch n (upper b a m) W
+  pub upper-after : (n : ℕ) (W : Set) → size (upper b a m) ≤ n →
+      patch n (upper b a m) (after W (patch n (lower b a m) W)) ≡ patch n (upper b a m) W
   upper-after n W s = apart-after n (lower b a m) (upper b a m) W s (λ d p u. is-false _ (λ l. halves-apart d p l u))
 
-  pub lower-after : (n : ℕ) (W : Set) → size (lower b a m) ≤ n → patch n (lower b a m) (after W (patch n (upper b a m) W)) ≡ patch n (lower b a m) W
+  pub lower-after : (n : ℕ) (W : Set) → size (lower b a m) ≤ n →
+      patch n (lower b a m) (after W (patch n (upper b a m) W)) ≡ patch n (lower b a m) W
   lower-after n W s = apart-after n (upper b a m) (lower b a m) W s (λ d p l. is-false _ (λ u. halves-apart d p l u))
 
   -- lower half before upper half, or upper before lower: the same edges are flipped
@@ -62,7 +68,8 @@ module _ (b : Box) (a : Axis) (m : ℕ) (c : Bounds (suc (coord a (b .lo))) (coo
       ∙ setOf-append (patch n (upper b a m) W) (patch n (lower b a m) W) d p)
 
 -- after its patch nothing is left to work on in the box
-pub box-cleared : (n : ℕ) (b : Box) (W : Set) → size b ≤ n → ((p : Point) → oddCell (within b W) p ≡ false) → (a : Axis) (p : Point) → faceIn b a p ≡ true →
+pub box-cleared : (n : ℕ) (b : Box) (W : Set) → size b ≤ n → ((p : Point) → oddCell (within b W) p ≡ false) → (a : Axis) (p : Point) →
+    faceIn b a p ≡ true →
     symdiff W (oddFace (setOf (patch n b W))) a p ≡ false
 box-cleared n b W s h a p e = ap (λ (x : Bool). W a p ⊕ x) (patch-ends n b W s h a p ∙ ap (λ (x : Bool). x && W a p) e) ∙ ⊕-self (W a p)
 
@@ -87,11 +94,14 @@ oneByOne E (r ∷ rs) = oneByOne (symdiff E (setOf (patchRim r))) rs
 
 pub by-one : (E : Set) (rs : List (List Place)) (a : Axis) (p : Point) → oneByOne E rs a p ≡ E a p ⊕ parity (λ r. setOf (patchRim r) a p) rs
 by-one E [] a p = sym (⊕-false (E a p))
-by-one E (r ∷ rs) a p = by-one (symdiff E (setOf (patchRim r))) rs a p ∙ ⊕-assoc (E a p) (setOf (patchRim r) a p) (parity (λ s. setOf (patchRim s) a p) rs)
+by-one E (r ∷ rs) a p =
+    by-one (symdiff E (setOf (patchRim r))) rs a p ∙ ⊕-assoc (E a p) (setOf (patchRim r) a p) (parity (λ s. setOf (patchRim s) a p) rs)
 
 -- in whatever order the rims are patched, the patched grid is the same
-pub any-order : (n : ℕ) (E : Set) (rs : List (List Place)) → Perm rs (rims n E) → (a : Axis) (p : Point) → oneByOne E rs a p ≡ patched n E a p
+pub any-order : (n : ℕ) (E : Set) (rs : List (List Place)) → Perm rs (rims n E) → (a : Axis) (p : Point) →
+    oneByOne E rs a p ≡ patched n E a p
 unfolding patched flips
 any-order n E rs h a p =
     by-one E rs a p
-    ∙ ap (λ (b : Bool). E a p ⊕ b) (parity-perm (λ r. setOf (patchRim r) a p) rs (rims n E) h ∙ sym (parity-each (λ e. samePlace e (record { axis = a; at = p })) patchRim (rims n E)))
+    ∙ ap (λ (b : Bool). E a p ⊕ b) (parity-perm (λ r. setOf (patchRim r) a p) rs (rims n E) h
+    ∙ sym (parity-each (λ e. samePlace e (record { axis = a; at = p })) patchRim (rims n E)))

@@ -43,15 +43,22 @@ patchOf-cut b W e = go (size b) refl
     U : Set
     U = symdiff W (oddFace (setOf (cut b W a m)))
 
-    go : (n : ℕ) → size b ≡ n → patch n b W ≡ cut b W a m ++ (patch (size (lower b a m)) (lower b a m) U ++ patch (size (upper b a m)) (upper b a m) (symdiff U (oddFace (setOf (patch (size (lower b a m)) (lower b a m) U)))))
+    go : (n : ℕ) → size b ≡ n →
+        patch n b W ≡ cut b W a m ++
+        (patch (size (lower b a m)) (lower b a m) U ++ patch (size (upper b a m)) (upper b a m)
+        (symdiff U (oddFace (setOf (patch (size (lower b a m)) (lower b a m) U)))))
     go zero q = absurd (true≢false (sym (one-cell← b (λ d. let l = side-size b d in omega arith)) ∙ e))
     go (suc n) q =
         let c = middle-in b e in
         let ls = lower-size b a m c in
         let us = upper-size b a m c in
-        let el : patch n (lower b a m) U ≡ patch (size (lower b a m)) (lower b a m) U = patch-cong n (size (lower b a m)) (lower b a m) U U (omega arith) (omega arith) (λ d p k. refl) in
-        let eu : patch n (upper b a m) U ≡ patch (size (upper b a m)) (upper b a m) (symdiff U (oddFace (setOf (patch n (lower b a m) U)))) =
-        sym (upper-after b a m c n U (omega arith)) ∙ patch-cong n (size (upper b a m)) (upper b a m) _ _ (omega arith) (omega arith) (λ d p k. refl) in
+        let el : patch n (lower b a m) U ≡ patch (size (lower b a m)) (lower b a m) U = patch-cong n (size (lower b a m)) (lower b a m) U U
+        (omega arith) (omega arith) (λ d p k. refl) in
+        let eu : patch n (upper b a m) U ≡ patch (size (upper b a m)) (upper b a m)
+        (symdiff U (oddFace (setOf (patch n (lower b a m) U)))) =
+        sym (upper-after b a m c n U (omega arith))
+        ∙ patch-cong n (size (upper b a m)) (upper b a m) _ _ (omega arith) (omega arith) (λ d p k. refl) in
         patch-cut n b W e
         ∙ ap (λ (l : List Place). cut b W a m ++ l)
-        (ap₂ (λ (x y : List Place). x ++ y) el (eu ∙ ap (λ (l : List Place). patch (size (upper b a m)) (upper b a m) (symdiff U (oddFace (setOf l)))) el))
+        (ap₂ (λ (x y : List Place). x ++ y) el
+        (eu ∙ ap (λ (l : List Place). patch (size (upper b a m)) (upper b a m) (symdiff U (oddFace (setOf l)))) el))

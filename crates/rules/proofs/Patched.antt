@@ -43,7 +43,9 @@ own-at f h =
     face← (ownBox f) (f .axis) (f .at) (omega arith)
 
 pub box-all : (r : List Place) → All Inner r → All (FaceOf (boxOf r)) r
-box-all r h = all-pair _ _ _ (λ f s i. sub-in (ownBox f) (boxOf r) s (sameAxis (f .axis) X) (sameAxis (f .axis) Y) (sameAxis (f .axis) Z) (f .at) (own-at f i)) r (box-holds r) h
+box-all r h =
+    all-pair _ _ _ (λ f s i. sub-in (ownBox f) (boxOf r) s (sameAxis (f .axis) X) (sameAxis (f .axis) Y) (sameAxis (f .axis) Z) (f .at)
+    (own-at f i)) r (box-holds r) h
 
 within-own : (b : Box) (r : List Place) → All (FaceOf b) r → (a : Axis) (p : Point) → within b (setOf r) a p ≡ setOf r a p
 within-own b r h a p = go (setOf r a p) refl
@@ -53,29 +55,37 @@ within-own b r h a p = go (setOf r a p) refl
     go false e = &&-false (faceIn b a p)
 
 -- the odd faces of a rim's patch are the rim
-pub rim-ends : (r : List Place) → All Inner r → ((p : Point) → oddCell (setOf r) p ≡ false) → (a : Axis) (p : Point) → oddFace (setOf (patchRim r)) a p ≡ setOf r a p
+pub rim-ends : (r : List Place) → All Inner r → ((p : Point) → oddCell (setOf r) p ≡ false) → (a : Axis) (p : Point) →
+    oddFace (setOf (patchRim r)) a p ≡ setOf r a p
 unfolding patchRim
 rim-ends r h e a p =
     let w = within-own (boxOf r) r (box-all r h) in
-    patch-ends (size (boxOf r)) (boxOf r) (setOf r) (omega arith) (λ q. ap (λ (F : Set). oddCell F q) (fun-ext (λ d. fun-ext (λ s. w d s))) ∙ e q) a p ∙ w a p
+    patch-ends (size (boxOf r)) (boxOf r) (setOf r) (omega arith)
+    (λ q. ap (λ (F : Set). oddCell F q) (fun-ext (λ d. fun-ext (λ s. w d s))) ∙ e q) a p ∙ w a p
 
 -- what holds of each face of a list holds of each face of its rims
 pub rims-all : (P : Place → Type 0) (l : List Place) → All P l → All (All P) (rimsOf l)
 rims-all P [] h = tt
 rims-all P (f ∷ l) h =
-    let i = rims-all P l (h .1) in
-    ((h .0, all-each P (λ r. r) (keep (joins f) (rimsOf l)) (all-keep (All P) (joins f) (rimsOf l) i)), all-keep (All P) (λ r. not (joins f r)) (rimsOf l) i)
+    let i = rims-all P l (h .1) in (
+      (h .0, all-each P (λ r. r) (keep (joins f) (rimsOf l)) (all-keep (All P) (joins f) (rimsOf l) i)),
+      all-keep (All P)
+          (λ r. not (joins f r)) (rimsOf l) i,
+    )
 
 -- the odd faces of lists put together
-oddFace-each : (g : List Place → List Place) (rs : List (List Place)) (a : Axis) (p : Point) → oddFace (setOf (each g rs)) a p ≡ parity (λ r. oddFace (setOf (g r)) a p) rs
+oddFace-each : (g : List Place → List Place) (rs : List (List Place)) (a : Axis) (p : Point) →
+    oddFace (setOf (each g rs)) a p ≡ parity (λ r. oddFace (setOf (g r)) a p) rs
 oddFace-each g [] a p = refl
-oddFace-each g (r ∷ rs) a p = oddFace-append (g r) (each g rs) a p ∙ ap (λ (x : Bool). oddFace (setOf (g r)) a p ⊕ x) (oddFace-each g rs a p)
+oddFace-each g (r ∷ rs) a p =
+    oddFace-append (g r) (each g rs) a p ∙ ap (λ (x : Bool). oddFace (setOf (g r)) a p ⊕ x) (oddFace-each g rs a p)
 
 parity-same : (f g : List Place → Bool) (rs : List (List Place)) → All (λ r. f r ≡ g r) rs → parity f rs ≡ parity g rs
 parity-same f g [] h = refl
 parity-same f g (r ∷ rs) h = ap₂ _⊕_ (h .0) (parity-same f g rs (h .1))
 
-any-of-parity : (f g : List Place → Bool) (rs : List (List Place)) → All (λ r. f r ≡ true → g r ≡ true) rs → parity f rs ≡ true → anyOf g rs ≡ true
+any-of-parity : (f g : List Place → Bool) (rs : List (List Place)) → All (λ r. f r ≡ true → g r ≡ true) rs → parity f rs ≡ true →
+    anyOf g rs ≡ true
 any-of-parity f g [] h e = absurd (false≢true e)
 any-of-parity f g (r ∷ rs) h e = go (f r) refl e (any-of-parity f g rs (h .1))
   where
@@ -123,7 +133,8 @@ module _ (n : ℕ) (E : Set) (inner : (a : Axis) (p : Point) → E a p ≡ true 
   pub odd-inner : All Inner (oddFaces n E)
   unfolding oddFaces
   odd-inner =
-      all-weaken _ _ (λ f e. let k = face→ (whole n) (f .axis) (f .at) (odd-in (f .axis) (f .at) e) in omega arith) (oddFaces n E) (all-kept (isIn (oddFace E)) (places n))
+      all-weaken _ _ (λ f e. let k = face→ (whole n) (f .axis) (f .at) (odd-in (f .axis) (f .at) e) in omega arith) (oddFaces n E)
+      (all-kept (isIn (oddFace E)) (places n))
 
   -- the odd faces of a rim's patch are exactly the rim
   pub rims-ends : All (λ r. (a : Axis) (p : Point) → oddFace (setOf (patchRim r)) a p ≡ setOf r a p) (rims n E)
@@ -141,7 +152,8 @@ module _ (n : ℕ) (E : Set) (inner : (a : Axis) (p : Point) → E a p ≡ true 
       oddFace-symdiff E (setOf (flips n E)) a p
       ∙ ap (λ (x : Bool). oddFace E a p ⊕ x)
       (oddFace-each patchRim (rims n E) a p
-      ∙ parity-same (λ r. oddFace (setOf (patchRim r)) a p) (λ r. setOf r a p) (rims n E) (all-weaken _ _ (λ r h. h a p) (rims n E) rims-ends)
+      ∙ parity-same (λ r. oddFace (setOf (patchRim r)) a p) (λ r. setOf r a p) (rims n E)
+      (all-weaken _ _ (λ r h. h a p) (rims n E) rims-ends)
       ∙ parity-rims (λ e. samePlace e (record { axis = a; at = p })) (oddFaces n E)
       ∙ odd-listed a p)
       ∙ ⊕-self (oddFace E a p)
@@ -156,14 +168,17 @@ module _ (n : ℕ) (E : Set) (inner : (a : Axis) (p : Point) → E a p ≡ true 
 
   odd-low : All (Low n) (oddFaces n E)
   unfolding oddFaces
-  odd-low = all-weaken _ _ (λ f e. let k = faceIn→ (whole n) (f .axis) (f .at) (odd-in (f .axis) (f .at) e) in omega arith) (oddFaces n E) (all-kept (isIn (oddFace E)) (places n))
+  odd-low =
+      all-weaken _ _ (λ f e. let k = faceIn→ (whole n) (f .axis) (f .at) (odd-in (f .axis) (f .at) e) in omega arith) (oddFaces n E)
+      (all-kept (isIn (oddFace E)) (places n))
 
   -- the patched grid has marks on inner edges only
   pub flips-inner : All (EdgeIn (whole n)) (flips n E)
   unfolding flips rims patchRim
   flips-inner =
       all-each (EdgeIn (whole n)) patchRim (rims n E)
-      (all-weaken _ _ (λ r h. all-weaken _ _ (λ e k. sub-in (boxOf r) (whole n) (box-under n r h) (not (sameAxis (e .axis) X)) (not (sameAxis (e .axis) Y)) (not (sameAxis (e .axis) Z)) (e .at) k) (patchRim r) (patch-in (size (boxOf r)) (boxOf r) (setOf r)))
+      (all-weaken _ _ (λ r h. all-weaken _ _ (λ e k. sub-in (boxOf r) (whole n) (box-under n r h) (not (sameAxis (e .axis) X))
+      (not (sameAxis (e .axis) Y)) (not (sameAxis (e .axis) Z)) (e .at) k) (patchRim r) (patch-in (size (boxOf r)) (boxOf r) (setOf r)))
       (rims n E) (rims-all (Low n) (oddFaces n E) odd-low))
 
   pub patched-inner : (a : Axis) (p : Point) → patched n E a p ≡ true → edgeIn (whole n) a p ≡ true

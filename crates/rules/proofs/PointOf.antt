@@ -37,7 +37,8 @@ pub pointOf-grid : (n p : ℕ) → p < pointCount n → OfGrid n (pointOf n p)
 pointOf-grid n p h =
     let x = mod-lt p {m = suc n} (omega arith) in
     let y = mod-lt (p / suc n) {m = suc n} (omega arith) in
-    let z = div-lt-iff-lt-mul {k = suc n} {x = p / suc n} {y = suc n} (omega arith) .1 (div-lt-iff-lt-mul {k = suc n} {x = p} {y = suc n * suc n} (omega arith) .1 h) in
+    let z = div-lt-iff-lt-mul {k = suc n} {x = p / suc n} {y = suc n} (omega arith) .1
+    (div-lt-iff-lt-mul {k = suc n} {x = p} {y = suc n * suc n} (omega arith) .1 h) in
     omega arith
 
 -- what holds of each point with coordinates below k holds of each listed one
@@ -59,7 +60,8 @@ points-by-number n =
     ∙ ap (map (pointOf n)) (rising n)
 
 -- what is said of all points is said of all numbers below P; with the laws `-map` of Lists for the second argument
-pub over-points : {A : Type 0} (n : ℕ) (f : List Point → A) (g : List ℕ → A) → ((l : List ℕ) → f (map (pointOf n) l) ≡ g l) → f (points (suc n)) ≡ g (upto 0 (pointCount n))
+pub over-points : {A : Type 0} (n : ℕ) (f : List Point → A) (g : List ℕ → A) → ((l : List ℕ) → f (map (pointOf n) l) ≡ g l) →
+    f (points (suc n)) ≡ g (upto 0 (pointCount n))
 over-points n f g h = ap f (points-by-number n) ∙ h (upto 0 (pointCount n))
 
 -- the places by rising point number

@@ -23,10 +23,12 @@ keep-cong w v (x ∷ l) h = ap₂ (λ (b : Bool) (r : List Spot). cond b (x ∷ 
 abbrev pub Agree : Box → Set → Set → Type 0
 Agree b W U = (a : Axis) (p : Point) → faceIn b a p ≡ true → W a p ≡ U a p
 
-pub cut-cong : (b : Box) (W U : Set) (a : Axis) (m : ℕ) → Bounds (suc (coord a (b .lo))) (coord a (b .hi)) m → Agree b W U → cut b W a m ≡ cut b U a m
+pub cut-cong : (b : Box) (W U : Set) (a : Axis) (m : ℕ) → Bounds (suc (coord a (b .lo))) (coord a (b .hi)) m → Agree b W U →
+    cut b W a m ≡ cut b U a m
 cut-cong b W U a m c h =
     ap (paths a m) (keep-cong (inPlane W a m) (inPlane U a m) (plane b a)
-    (all-weaken (InRect b a) _ (λ q k. h a (pointAt a m (q .u) (q .v)) (face-rect b W a m c (q .u) (q .v) ∙ both _ _ (between← _ _ _ (k .0)) (between← _ _ _ (k .1)))) (plane b a) (plane-in b a)))
+    (all-weaken (InRect b a) _ (λ q k. h a (pointAt a m (q .u) (q .v))
+    (face-rect b W a m c (q .u) (q .v) ∙ both _ _ (between← _ _ _ (k .0)) (between← _ _ _ (k .1)))) (plane b a) (plane-in b a)))
 
 module _ (b : Box) (a : Axis) (m : ℕ) (c : Bounds (suc (coord a (b .lo))) (coord a (b .hi)) m) (W U : Set) (h : Agree b W U) where
   pub agree-lower : Agree (lower b a m) W U
@@ -42,7 +44,8 @@ patch-cong zero (suc k) b W U s t h = sym (patch-one k b U (one-cell← b (λ d.
 patch-cong (suc n) zero b W U s t h = patch-one n b W (one-cell← b (λ d. let l = side-size b d in omega arith))
 patch-cong (suc n) (suc k) b W U s t h = go (oneCell b) refl (λ c V₁ V₂ x y g. patch-cong n k c V₁ V₂ x y g)
   where
-    go : (o : Bool) → oneCell b ≡ o → ((c : Box) (V₁ V₂ : Set) → size c ≤ n → size c ≤ k → Agree c V₁ V₂ → patch n c V₁ ≡ patch k c V₂) → patch (suc n) b W ≡ patch (suc k) b U
+    go : (o : Bool) → oneCell b ≡ o → ((c : Box) (V₁ V₂ : Set) → size c ≤ n → size c ≤ k → Agree c V₁ V₂ → patch n c V₁ ≡ patch k c V₂) →
+        patch (suc n) b W ≡ patch (suc k) b U
     go true e ih = patch-one n b W e ∙ sym (patch-one k b U e)
     go false e ih =
         let a = longest b in

@@ -35,8 +35,20 @@ join-right b c = omega arith
 -- two boxes each in the other are the same
 pub eq6 : (a b : Box) → Sub a b → Sub b a → a ≡ b
 eq6 a b h k = λ i. record {
-  lo = record { i = (let q : a .lo .i ≡ b .lo .i = omega arith in q) i; j = (let q : a .lo .j ≡ b .lo .j = omega arith in q) i; k = (let q : a .lo .k ≡ b .lo .k = omega arith in q) i };
-  hi = record { i = (let q : a .hi .i ≡ b .hi .i = omega arith in q) i; j = (let q : a .hi .j ≡ b .hi .j = omega arith in q) i; k = (let q : a .hi .k ≡ b .hi .k = omega arith in q) i };
+  lo =
+      record {
+        i = (let q : a .lo .i ≡ b .lo .i = omega arith in q) i;
+        j = (let q : a .lo .j ≡ b .lo .j = omega arith in q) i;
+        k =
+            (let q : a .lo .k ≡ b .lo .k = omega arith in q) i;
+      };
+  hi =
+      record {
+        i = (let q : a .hi .i ≡ b .hi .i = omega arith in q) i;
+        j = (let q : a .hi .j ≡ b .hi .j = omega arith in q) i;
+        k =
+            (let q : a .hi .k ≡ b .hi .k = omega arith in q) i;
+      };
 }
 
 -- what lies in a box lies in a box around it
@@ -55,12 +67,16 @@ from-least b c (f ∷ l) h k = from-least (joinBox b (ownBox f)) c l (sub-join b
 
 from-first : (b : Box) (l : List Place) → Sub b (boxFrom b l)
 from-first b [] = omega arith
-from-first b (f ∷ l) = sub-trans b (joinBox b (ownBox f)) (boxFrom (joinBox b (ownBox f)) l) (join-left b (ownBox f)) (from-first (joinBox b (ownBox f)) l)
+from-first b (f ∷ l) =
+    sub-trans b (joinBox b (ownBox f)) (boxFrom (joinBox b (ownBox f)) l) (join-left b (ownBox f)) (from-first (joinBox b (ownBox f)) l)
 
 from-rest : (b : Box) (l : List Place) → All (λ f. Sub (ownBox f) (boxFrom b l)) l
 from-rest b [] = tt
-from-rest b (f ∷ l) =
-    (sub-trans (ownBox f) (joinBox b (ownBox f)) (boxFrom (joinBox b (ownBox f)) l) (join-right b (ownBox f)) (from-first (joinBox b (ownBox f)) l), from-rest (joinBox b (ownBox f)) l)
+from-rest b (f ∷ l) = (
+  sub-trans (ownBox f) (joinBox b (ownBox f)) (boxFrom (joinBox b (ownBox f)) l) (join-right b (ownBox f))
+      (from-first (joinBox b (ownBox f)) l),
+  from-rest (joinBox b (ownBox f)) l,
+)
 
 -- it holds each face's cells
 pub box-holds : (r : List Place) → All (λ f. Sub (ownBox f) (boxOf r)) r

@@ -19,7 +19,8 @@ pub parity-rims : (g : Place → Bool) (l : List Place) → parity (λ r. parity
 parity-rims g [] = refl
 parity-rims g (f ∷ l) =
     let rs = rimsOf l in
-    ap₂ _⊕_ (ap (λ (x : Bool). g f ⊕ x) (parity-each g (λ r. r) (keep (joins f) rs) ∙ parity-keep (λ r. parity g r) (joins f) rs)) (parity-keep (λ r. parity g r) (λ r. not (joins f r)) rs)
+    ap₂ _⊕_ (ap (λ (x : Bool). g f ⊕ x) (parity-each g (λ r. r) (keep (joins f) rs) ∙ parity-keep (λ r. parity g r) (joins f) rs))
+    (parity-keep (λ r. parity g r) (λ r. not (joins f r)) rs)
     ∙ ⊕-assoc (g f) (parity (λ r. joins f r && parity g r) rs) (parity (λ r. not (joins f r) && parity g r) rs)
     ∙ ap (λ (x : Bool). g f ⊕ x)
     (sym (parity-plus (λ r. joins f r && parity g r) (λ r. not (joins f r) && parity g r) rs)
@@ -51,7 +52,8 @@ cell-at Z q p = two-faces Z q p
 
 pub cell-sum : (p : Point) (r : List Place) → oddCell (setOf r) p ≡ parity (ofCell p) r
 cell-sum p [] = refl
-cell-sum p (f ∷ r) = oddCell-symdiff (λ a q. samePlace f (record { axis = a; at = q })) (setOf r) p ∙ ap₂ _⊕_ (cell-at (f .axis) (f .at) p) (cell-sum p r)
+cell-sum p (f ∷ r) =
+    oddCell-symdiff (λ a q. samePlace f (record { axis = a; at = q })) (setOf r) p ∙ ap₂ _⊕_ (cell-at (f .axis) (f .at) p) (cell-sum p r)
 
 -- ---- at most one rim has faces of a cell
 or-left : (a b : Bool) → a || b ≡ false → a ≡ false
@@ -86,7 +88,9 @@ neighbours-cell p f g h k = go (samePoint (f .at) p) refl h
   where
     go : (c : Bool) → samePoint (f .at) p ≡ c → c || samePoint (f .at) (up (f .axis) p) ≡ true → neighbours f g ≡ true
     go true e i = ap (λ (x : Bool). x || ofCell (down (f .axis) (f .at)) g) (ap (λ (q : Point). ofCell q g) (samePoint→ (f .at) p e) ∙ k)
-    go false e i = or-true (ofCell (f .at) g) (ofCell (down (f .axis) (f .at)) g) (ap (λ (q : Point). ofCell q g) (ap (down (f .axis)) (samePoint→ (f .at) (up (f .axis) p) i) ∙ down-up (f .axis) p) ∙ k)
+    go false e i =
+        or-true (ofCell (f .at) g) (ofCell (down (f .axis) (f .at)) g)
+        (ap (λ (q : Point). ofCell q g) (ap (down (f .axis)) (samePoint→ (f .at) (up (f .axis) p) i) ∙ down-up (f .axis) p) ∙ k)
 
 module _ {A : Type 0} where
   count-cond : (t : A → Bool) (x : A) (l : List A) (c : Bool) → count t (cond c (x ∷ l) l) ≡ cond c (cond (t x) 1 0) 0 + count t l
@@ -119,7 +123,8 @@ touch-each : (p : Point) (rs : List (List Place)) → touch p (each (λ r. r) rs
 touch-each p [] h = absurd (false≢true h)
 touch-each p (r ∷ rs) h = go (touch p r) (sym (any-append (ofCell p) r (each (λ s. s) rs)) ∙ h) (touch-each p rs)
   where
-    go : (c : Bool) → c || touch p (each (λ s. s) rs) ≡ true → (touch p (each (λ s. s) rs) ≡ true → 1 ≤ count (touch p) rs) → 1 ≤ cond c (suc (count (touch p) rs)) (count (touch p) rs)
+    go : (c : Bool) → c || touch p (each (λ s. s) rs) ≡ true → (touch p (each (λ s. s) rs) ≡ true → 1 ≤ count (touch p) rs) →
+        1 ≤ cond c (suc (count (touch p) rs)) (count (touch p) rs)
     go true e i = omega arith
     go false e i = i e
 
@@ -140,18 +145,24 @@ touch-new p f h (r ∷ rs) = go (joins f r) refl (touch p r) refl (touch-new p f
         count (touch p) (cond (not c) (r ∷ keep (λ s. not (joins f s)) rs) (keep (λ s. not (joins f s)) rs)) ≡ 0
     go true e d q i = i
     go false e true q i = absurd (true≢false (sym (touch-joins p f h r q) ∙ e))
-    go false e false q i = ap (λ (b : Bool). cond b (suc (count (touch p) (keep (λ s. not (joins f s)) rs))) (count (touch p) (keep (λ s. not (joins f s)) rs))) q ∙ i
+    go false e false q i =
+        ap (λ (b : Bool). cond b (suc (count (touch p) (keep (λ s. not (joins f s)) rs)))
+        (count (touch p) (keep (λ s. not (joins f s)) rs))) q ∙ i
 
 pub apart : (p : Point) (l : List Place) → count (touch p) (rimsOf l) ≤ 1
 apart p [] = omega arith
 apart p (f ∷ l) = go (touch p (joined f (rimsOf l))) refl (apart p l)
   where
-    go : (c : Bool) → touch p (joined f (rimsOf l)) ≡ c → count (touch p) (rimsOf l) ≤ 1 → cond c (suc (count (touch p) (keep (λ r. not (joins f r)) (rimsOf l)))) (count (touch p) (keep (λ r. not (joins f r)) (rimsOf l))) ≤ 1
+    go : (c : Bool) → touch p (joined f (rimsOf l)) ≡ c → count (touch p) (rimsOf l) ≤ 1 →
+        cond c (suc (count (touch p) (keep (λ r. not (joins f r)) (rimsOf l))))
+        (count (touch p) (keep (λ r. not (joins f r)) (rimsOf l))) ≤ 1
     go true e i = own (ofCell p f) refl e
       where
-        own : (d : Bool) → ofCell p f ≡ d → d || touch p (each (λ r. r) (keep (joins f) (rimsOf l))) ≡ true → suc (count (touch p) (keep (λ r. not (joins f r)) (rimsOf l))) ≤ 1
+        own : (d : Bool) → ofCell p f ≡ d → d || touch p (each (λ r. r) (keep (joins f) (rimsOf l))) ≡ true →
+            suc (count (touch p) (keep (λ r. not (joins f r)) (rimsOf l))) ≤ 1
         own true q k = let z = touch-new p f q (rimsOf l) in omega arith
-        own false q k = let z = touch-each p (keep (joins f) (rimsOf l)) k in let s = count-keep (touch p) (joins f) (rimsOf l) in omega arith
+        own false q k =
+            let z = touch-each p (keep (joins f) (rimsOf l)) k in let s = count-keep (touch p) (joins f) (rimsOf l) in omega arith
     go false e i = let s = count-keep (touch p) (joins f) (rimsOf l) in omega arith
 
 -- a rim leaves every cell even where the whole list does
@@ -159,7 +170,8 @@ none-touch : (p : Point) (rs : List (List Place)) → count (touch p) rs ≡ 0 �
 none-touch p [] h = tt
 none-touch p (r ∷ rs) h = go (touch p r) refl h (none-touch p rs)
   where
-    go : (c : Bool) → touch p r ≡ c → cond c (suc (count (touch p) rs)) (count (touch p) rs) ≡ 0 → (count (touch p) rs ≡ 0 → All (λ s. parity (ofCell p) s ≡ false) rs) → All (λ s. parity (ofCell p) s ≡ false) (r ∷ rs)
+    go : (c : Bool) → touch p r ≡ c → cond c (suc (count (touch p) rs)) (count (touch p) rs) ≡ 0 →
+        (count (touch p) rs ≡ 0 → All (λ s. parity (ofCell p) s ≡ false) rs) → All (λ s. parity (ofCell p) s ≡ false) (r ∷ rs)
     go true e i k = absurd (omega arith)
     go false e i k = (touch-zero p r e, k i)
 
@@ -167,21 +179,27 @@ parity-all : (g : List Place → Bool) (rs : List (List Place)) → All (λ r. g
 parity-all g [] h = refl
 parity-all g (r ∷ rs) h = rw (h .0, parity-all g rs (h .1))
 
-pub rim-even : (p : Point) (rs : List (List Place)) → count (touch p) rs ≤ 1 → parity (λ r. parity (ofCell p) r) rs ≡ false → All (λ r. parity (ofCell p) r ≡ false) rs
+pub rim-even : (p : Point) (rs : List (List Place)) → count (touch p) rs ≤ 1 → parity (λ r. parity (ofCell p) r) rs ≡ false →
+    All (λ r. parity (ofCell p) r ≡ false) rs
 rim-even p [] h e = tt
 rim-even p (r ∷ rs) h e = go (touch p r) refl h (rim-even p rs)
   where
     go : (c : Bool) → touch p r ≡ c → cond c (suc (count (touch p) rs)) (count (touch p) rs) ≤ 1 →
-        (count (touch p) rs ≤ 1 → parity (λ s. parity (ofCell p) s) rs ≡ false → All (λ s. parity (ofCell p) s ≡ false) rs) → All (λ s. parity (ofCell p) s ≡ false) (r ∷ rs)
+        (count (touch p) rs ≤ 1 → parity (λ s. parity (ofCell p) s) rs ≡ false → All (λ s. parity (ofCell p) s ≡ false) rs) →
+        All (λ s. parity (ofCell p) s ≡ false) (r ∷ rs)
     go true q i k =
-        let n = none-touch p rs (omega arith) in
-        (sym (⊕-false (parity (ofCell p) r)) ∙ ap (λ (x : Bool). parity (ofCell p) r ⊕ x) (sym (parity-all (λ s. parity (ofCell p) s) rs n)) ∙ e, n)
+        let n = none-touch p rs (omega arith) in (
+          sym (⊕-false (parity (ofCell p) r)) ∙ ap (λ (x : Bool). parity (ofCell p) r ⊕ x) (sym (parity-all (λ s. parity (ofCell p) s) rs n))
+              ∙ e,
+          n,
+        )
     go false q i k =
         let z = touch-zero p r q in
         (z, k i (ap (λ (x : Bool). x ⊕ parity (λ s. parity (ofCell p) s) rs) (sym z) ∙ e))
 
 -- ---- what was wanted: where the whole list leaves every cell even, so does each rim
-pub rims-even : (l : List Place) → ((p : Point) → oddCell (setOf l) p ≡ false) → (p : Point) → All (λ r. oddCell (setOf r) p ≡ false) (rimsOf l)
+pub rims-even : (l : List Place) → ((p : Point) → oddCell (setOf l) p ≡ false) → (p : Point) →
+    All (λ r. oddCell (setOf r) p ≡ false) (rimsOf l)
 rims-even l h p =
     all-weaken _ _ (λ r e. cell-sum p r ∙ e) (rimsOf l)
     (rim-even p (rimsOf l) (apart p l) (parity-rims (ofCell p) l ∙ sym (cell-sum p l) ∙ h p))

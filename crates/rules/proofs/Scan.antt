@@ -28,17 +28,21 @@ module _ {R : Type 0} where
   any-none x y [] h = refl
   any-none x y (r ∷ rs) h = go (x r) h (any-none x y rs)
     where
-      go : (c : Bool) → cond c (suc (count x rs)) (count x rs) ≡ 0 → (count x rs ≡ 0 → anyOf (λ s. y s && x s) rs ≡ false) → (y r && c) || anyOf (λ s. y s && x s) rs ≡ false
+      go : (c : Bool) → cond c (suc (count x rs)) (count x rs) ≡ 0 → (count x rs ≡ 0 → anyOf (λ s. y s && x s) rs ≡ false) →
+          (y r && c) || anyOf (λ s. y s && x s) rs ≡ false
       go true e k = absurd (omega arith)
       go false e k = rw (&&-false (y r)) (k e)
 
   -- one more class is hit where the new member's class was not yet
-  pub count-or-one : (x y : R → Bool) (rs : List R) → count x rs ≡ 1 → count (λ r. x r || y r) rs ≡ count y rs + cond (anyOf (λ r. y r && x r) rs) 0 1
+  pub count-or-one : (x y : R → Bool) (rs : List R) → count x rs ≡ 1 →
+      count (λ r. x r || y r) rs ≡ count y rs + cond (anyOf (λ r. y r && x r) rs) 0 1
   count-or-one x y [] h = absurd (omega arith)
   count-or-one x y (r ∷ rs) h = go (x r) (y r) h (count-or-one x y rs)
     where
-      go : (c d : Bool) → cond c (suc (count x rs)) (count x rs) ≡ 1 → (count x rs ≡ 1 → count (λ s. x s || y s) rs ≡ count y rs + cond (anyOf (λ s. y s && x s) rs) 0 1) →
-          cond (c || d) (suc (count (λ s. x s || y s) rs)) (count (λ s. x s || y s) rs) ≡ cond d (suc (count y rs)) (count y rs) + cond ((d && c) || anyOf (λ s. y s && x s) rs) 0 1
+      go : (c d : Bool) → cond c (suc (count x rs)) (count x rs) ≡ 1 →
+          (count x rs ≡ 1 → count (λ s. x s || y s) rs ≡ count y rs + cond (anyOf (λ s. y s && x s) rs) 0 1) →
+          cond (c || d) (suc (count (λ s. x s || y s) rs)) (count (λ s. x s || y s) rs)
+          ≡ cond d (suc (count y rs)) (count y rs) + cond ((d && c) || anyOf (λ s. y s && x s) rs) 0 1
       go true true e k = let z : count x rs ≡ 0 = omega arith in let q = count-or-none x y rs z in omega arith
       go true false e k = let z : count x rs ≡ 0 = omega arith in let q = count-or-none x y rs z in rw (any-none x y rs z) (omega arith)
       go false true e k = let q = k e in omega arith
@@ -61,8 +65,10 @@ all-length w (r ∷ rs) h = rw (h .0) (ap suc (all-length w rs (h .1)))
 pub rim-some : (l : List Place) → All (λ r. hit l r ≡ true) (rimsOf l)
 rim-some [] = tt
 rim-some (f ∷ l) = (
-  or-left-true (elem f (joined f (rimsOf l))) (hit l (joined f (rimsOf l))) (or-left-true (samePlace f f) (elem f (each (λ r. r) (keep (joins f) (rimsOf l)))) (same-self f)),
-  all-keep (λ r. hit (f ∷ l) r ≡ true) (λ r. not (joins f r)) (rimsOf l) (all-weaken _ _ (λ r e. or-true (elem f r) (hit l r) e) (rimsOf l) (rim-some l)),
+  or-left-true (elem f (joined f (rimsOf l))) (hit l (joined f (rimsOf l)))
+      (or-left-true (samePlace f f) (elem f (each (λ r. r) (keep (joins f) (rimsOf l)))) (same-self f)),
+  all-keep (λ r. hit (f ∷ l) r ≡ true) (λ r. not (joins f r)) (rimsOf l)
+      (all-weaken _ _ (λ r e. or-true (elem f r) (hit l r) e) (rimsOf l) (rim-some l)),
 )
 
 -- at the end every rim has been hit
@@ -75,15 +81,20 @@ module _ {R : Type 0} where
   all-zero x [] h = refl
   all-zero x (r ∷ rs) h = rw (h .0, all-zero x rs (h .1))
 
-  one-of : (x y : R → Bool) → ((r : R) → x r ≡ true → y r ≡ true) → (rs : List R) → count y rs ≡ 1 → parity x rs ≡ true → All (λ r. x r ≡ y r) rs
+  one-of : (x y : R → Bool) → ((r : R) → x r ≡ true → y r ≡ true) → (rs : List R) → count y rs ≡ 1 → parity x rs ≡ true →
+      All (λ r. x r ≡ y r) rs
   one-of x y f [] h e = tt
   one-of x y f (r ∷ rs) h e = go (y r) refl h (one-of x y f rs)
     where
-      go : (c : Bool) → y r ≡ c → cond c (suc (count y rs)) (count y rs) ≡ 1 → (count y rs ≡ 1 → parity x rs ≡ true → All (λ s. x s ≡ y s) rs) → All (λ s. x s ≡ y s) (r ∷ rs)
+      go : (c : Bool) → y r ≡ c → cond c (suc (count y rs)) (count y rs) ≡ 1 →
+          (count y rs ≡ 1 → parity x rs ≡ true → All (λ s. x s ≡ y s) rs) → All (λ s. x s ≡ y s) (r ∷ rs)
       go true q i k =
           let n = zero-none y rs (omega arith) in
-          let z = all-zero x rs (all-weaken _ _ (λ s m. is-false (x s) (λ t. m (f s t))) rs n) in
-          (sym (⊕-false (x r)) ∙ ap (λ (b : Bool). x r ⊕ b) (sym z) ∙ e ∙ sym q, all-weaken _ _ (λ s m. same-test (x s) (y s) (f s) (λ t. absurd (m t))) rs n)
+          let z = all-zero x rs (all-weaken _ _ (λ s m. is-false (x s) (λ t. m (f s t))) rs n) in (
+            sym (⊕-false (x r)) ∙ ap (λ (b : Bool). x r ⊕ b) (sym z) ∙ e
+                ∙ sym q,
+            all-weaken _ _ (λ s m. same-test (x s) (y s) (f s) (λ t. absurd (m t))) rs n,
+          )
       go false q i k =
           let z = is-false (x r) (λ t. true≢false (sym (f r t) ∙ q)) in
           (z ∙ sym q, k i (ap (λ (b : Bool). b ⊕ parity x rs) (sym z) ∙ e))
@@ -97,9 +108,12 @@ module _ {R : Type 0} where
 pub setOf-elem : (f : Place) (r : List Place) → setOf r (f .axis) (f .at) ≡ true → elem f r ≡ true
 setOf-elem f r e = setOf-all (λ g. elem g r ≡ true) r (members r) (f .axis) (f .at) e
 
-pub set-rims : (l : List Place) → ((f : Place) → setOf l (f .axis) (f .at) ≡ elem f l) → (f : Place) → All (λ r. setOf r (f .axis) (f .at) ≡ elem f r) (rimsOf l)
+pub set-rims : (l : List Place) → ((f : Place) → setOf l (f .axis) (f .at) ≡ elem f l) → (f : Place) →
+    All (λ r. setOf r (f .axis) (f .at) ≡ elem f r) (rimsOf l)
 set-rims l h f = go (elem f l) refl
   where
     go : (c : Bool) → elem f l ≡ c → All (λ r. setOf r (f .axis) (f .at) ≡ elem f r) (rimsOf l)
-    go true e = one-of (λ r. setOf r (f .axis) (f .at)) (elem f) (setOf-elem f) (rimsOf l) (one-rim l f e) (parity-rims (λ g. samePlace g f) l ∙ h f ∙ e)
+    go true e =
+        one-of (λ r. setOf r (f .axis) (f .at)) (elem f) (setOf-elem f) (rimsOf l) (one-rim l f e)
+        (parity-rims (λ g. samePlace g f) l ∙ h f ∙ e)
     go false e = one-of-none (λ r. setOf r (f .axis) (f .at)) (elem f) (setOf-elem f) (rimsOf l) (any-rims (samePlace f) l ∙ e)

@@ -28,19 +28,26 @@ module _ (n : ℕ) (E : Set) (even : (a : Axis) (p : Point) → FaceOfGrid n a p
       last : (a b c e : Bool) → (a ⊕ (b ⊕ c)) ⊕ (a ⊕ (b ⊕ (c ⊕ e))) ≡ e
       last a b c e = simp xors
   sign-differs Y p o =
-      mid (parityTo (p .i) (λ i. E X (record { i = i; j = 0; k = 0 }))) (parityTo (p .j) (λ j. E Y (record { i = p .i; j = j; k = 0 }))) (E Y (record { i = p .i; j = p .j; k = 0 }))
-      (parityTo (p .k) (λ k. E Z (record { i = p .i; j = p .j; k = k }))) (parityTo (p .k) (λ k. E Z (record { i = p .i; j = suc (p .j); k = k }))) (E Y p)
-      (ribbon (λ k. E Y (record { i = p .i; j = p .j; k = k })) _ _ (p .k) (λ k l. even X (record { i = p .i; j = p .j; k = k }) (omega arith)))
+      mid (parityTo (p .i) (λ i. E X (record { i = i; j = 0; k = 0 }))) (parityTo (p .j) (λ j. E Y (record { i = p .i; j = j; k = 0 })))
+      (E Y (record { i = p .i; j = p .j; k = 0 }))
+      (parityTo (p .k) (λ k. E Z (record { i = p .i; j = p .j; k = k })))
+      (parityTo (p .k) (λ k. E Z (record { i = p .i; j = suc (p .j); k = k }))) (E Y p)
+      (ribbon (λ k. E Y (record { i = p .i; j = p .j; k = k })) _ _ (p .k)
+      (λ k l. even X (record { i = p .i; j = p .j; k = k }) (omega arith)))
     where
       mid : (a b c g h e : Bool) → g ⊕ h ≡ c ⊕ e → (a ⊕ (b ⊕ g)) ⊕ (a ⊕ ((b ⊕ c) ⊕ h)) ≡ e
-      mid a b c g h e q = let r : (a ⊕ (b ⊕ g)) ⊕ (a ⊕ ((b ⊕ c) ⊕ h)) ≡ c ⊕ (g ⊕ h) = simp xors in r ∙ ap (λ (t : Bool). c ⊕ t) q ∙ ⊕-cancel c e
+      mid a b c g h e q =
+          let r : (a ⊕ (b ⊕ g)) ⊕ (a ⊕ ((b ⊕ c) ⊕ h)) ≡ c ⊕ (g ⊕ h) = simp xors in r ∙ ap (λ (t : Bool). c ⊕ t) q ∙ ⊕-cancel c e
   sign-differs X p o =
       one (parityTo (p .i) (λ i. E X (record { i = i; j = 0; k = 0 }))) (E X (record { i = p .i; j = 0; k = 0 }))
-      (parityTo (p .j) (λ j. E Y (record { i = p .i; j = j; k = 0 }))) (parityTo (p .j) (λ j. E Y (record { i = suc (p .i); j = j; k = 0 })))
-      (parityTo (p .k) (λ k. E Z (record { i = p .i; j = p .j; k = k }))) (parityTo (p .k) (λ k. E Z (record { i = suc (p .i); j = p .j; k = k })))
+      (parityTo (p .j) (λ j. E Y (record { i = p .i; j = j; k = 0 })))
+      (parityTo (p .j) (λ j. E Y (record { i = suc (p .i); j = j; k = 0 })))
+      (parityTo (p .k) (λ k. E Z (record { i = p .i; j = p .j; k = k })))
+      (parityTo (p .k) (λ k. E Z (record { i = suc (p .i); j = p .j; k = k })))
       (E X (record { i = p .i; j = p .j; k = 0 })) (E X p)
       (ribbon (λ j. E X (record { i = p .i; j = j; k = 0 })) _ _ (p .j) (λ j l. even Z (record { i = p .i; j = j; k = 0 }) (omega arith)))
-      (ribbon (λ k. E X (record { i = p .i; j = p .j; k = k })) _ _ (p .k) (λ k l. even Y (record { i = p .i; j = p .j; k = k }) (omega arith)))
+      (ribbon (λ k. E X (record { i = p .i; j = p .j; k = k })) _ _ (p .k)
+      (λ k l. even Y (record { i = p .i; j = p .j; k = k }) (omega arith)))
     where
       one : (a c g h g₂ h₂ d e : Bool) → g ⊕ h ≡ c ⊕ d → g₂ ⊕ h₂ ≡ d ⊕ e → (a ⊕ (g ⊕ g₂)) ⊕ ((a ⊕ c) ⊕ (h ⊕ h₂)) ≡ e
       one a c g h g₂ h₂ d e q r =
@@ -64,11 +71,13 @@ module _ (E : Set) (even : (a : Axis) (p : Point) → oddFace E a p ≡ false) w
   -- along any route the marked edges met are odd in number exactly when the signs of its ends differ
   pub route-parity : (n : ℕ) (p q : Point) (l : List Place) → Route n p q l → parity (isIn E) l ≡ sign E p ⊕ sign E q
   route-parity n p q l (stop g) = sym (⊕-self (sign E p))
-  route-parity n p q l (upward {p = r} {l = m} a g w) = ap₂ _⊕_ (sym (sign-up a r)) (route-parity n (up a r) q m w) ∙ out (sign E r) (sign E (up a r)) (sign E q)
+  route-parity n p q l (upward {p = r} {l = m} a g w) =
+      ap₂ _⊕_ (sym (sign-up a r)) (route-parity n (up a r) q m w) ∙ out (sign E r) (sign E (up a r)) (sign E q)
     where
       out : (s t u : Bool) → (s ⊕ t) ⊕ (t ⊕ u) ≡ s ⊕ u
       out s t u = simp xors
-  route-parity n p q l (downward {p = r} {l = m} a g w) = ap₂ _⊕_ (sym (sign-up a r)) (route-parity n r q m w) ∙ out (sign E r) (sign E (up a r)) (sign E q)
+  route-parity n p q l (downward {p = r} {l = m} a g w) =
+      ap₂ _⊕_ (sym (sign-up a r)) (route-parity n r q m w) ∙ out (sign E r) (sign E (up a r)) (sign E q)
     where
       out : (s t u : Bool) → (s ⊕ t) ⊕ (s ⊕ u) ≡ t ⊕ u
       out s t u = simp xors
@@ -85,7 +94,8 @@ sign-unique n E s c p u = sym (
     ∙ ap (λ (b : Bool). b ⊕ s p) (c .outside))
   where
     -- along one leg the steps add up to the difference of the ends
-    leg : (k : ℕ) (q : ℕ → Point) (a : Axis) → ((i : ℕ) → i < k → s (q i) ⊕ s (q (suc i)) ≡ E a (q i)) → parityTo k (λ i. E a (q i)) ≡ s (q 0) ⊕ s (q k)
+    leg : (k : ℕ) (q : ℕ → Point) (a : Axis) → ((i : ℕ) → i < k → s (q i) ⊕ s (q (suc i)) ≡ E a (q i)) →
+        parityTo k (λ i. E a (q i)) ≡ s (q 0) ⊕ s (q k)
     leg k q a f = sym (parityTo-cong< k (λ i. s (q i) ⊕ s (q (suc i))) (λ i. E a (q i)) f) ∙ parityTo-steps k (λ i. s (q i))
 
     out : (a b c d : Bool) → (a ⊕ b) ⊕ ((b ⊕ c) ⊕ (c ⊕ d)) ≡ a ⊕ d

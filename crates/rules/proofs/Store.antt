@@ -34,8 +34,11 @@ stored-set n w q v hq l a p hp = go (samePoint q p) refl
     go : (c : Bool) → samePoint q p ≡ c → has a (getD (set w (pointNumber n q) v) (pointNumber n p) 0) ≡ cond c (has a v) (stored n w a p)
     go true e =
         let b = number-below (suc n) (q .i) (q .j) (q .k) (omega arith) (omega arith) (omega arith) in
-        ap (λ (r : Point). has a (getD (set w (pointNumber n q) v) (pointNumber n r) 0)) (sym (samePoint→ q p e)) ∙ ap (has a) (getD-set-same w (pointNumber n q) v 0 (omega arith))
-    go false e = ap (has a) (getD-set-other w (pointNumber n q) (pointNumber n p) v 0 (λ k. true≢false (sym (same-point q) ∙ ap (samePoint q) (number-inj n q p hq hp (sym k)) ∙ e)))
+        ap (λ (r : Point). has a (getD (set w (pointNumber n q) v) (pointNumber n r) 0)) (sym (samePoint→ q p e))
+        ∙ ap (has a) (getD-set-same w (pointNumber n q) v 0 (omega arith))
+    go false e =
+        ap (has a) (getD-set-other w (pointNumber n q) (pointNumber n p) v 0
+        (λ k. true≢false (sym (same-point q) ∙ ap (samePoint q) (number-inj n q p hq hp (sym k)) ∙ e)))
 
 -- the bit of an axis turned
 abbrev pub toggle : Axis → ℕ → ℕ
@@ -74,13 +77,18 @@ pub toggle-has : (a c : Axis) (b : ℕ) → b < 256 → has c (toggle a b) ≡ h
 toggle-has a c b h =
     beq→ (has c (toggle a b)) (has c b ⊕ sameAxis a c)
     (at-axis (λ d. turned a d b) (at-axis (λ e. allOf (λ d. turned e d b) axes)
-    (at-upto (λ k. allOf (λ e. allOf (λ d. turned e d k) axes) axes ≡ true) 0 256 b (allOf→ (λ k. allOf (λ e. allOf (λ d. turned e d k) axes) axes) (upto 0 256) tested) (omega arith) (omega arith)) a) c)
+    (at-upto (λ k. allOf (λ e. allOf (λ d. turned e d k) axes) axes ≡ true) 0 256 b
+    (allOf→ (λ k. allOf (λ e. allOf (λ d. turned e d k) axes) axes) (upto 0 256) tested) (omega arith) (omega arith)) a) c)
 
 -- turning one bit of the buffer turns one member of the set
-pub stored-toggle : (n : ℕ) (w : List ℕ) (d : Axis) (q : Point) → OfGrid n q → pointCount n ≤ length w → getD w (pointNumber n q) 0 < 256 → (a : Axis) (p : Point) → OfGrid n p →
+pub stored-toggle : (n : ℕ) (w : List ℕ) (d : Axis) (q : Point) → OfGrid n q → pointCount n ≤ length w → getD w (pointNumber n q) 0 < 256 →
+    (a : Axis) (p : Point) → OfGrid n p →
     stored n (set w (pointNumber n q) (toggle d (getD w (pointNumber n q) 0))) a p ≡ stored n w a p ⊕ (sameAxis d a && samePoint q p)
 stored-toggle n w d q hq l h a p hp = stored-set n w q (toggle d (getD w (pointNumber n q) 0)) hq l a p hp ∙ go (samePoint q p) refl
   where
-    go : (c : Bool) → samePoint q p ≡ c → cond c (has a (toggle d (getD w (pointNumber n q) 0))) (stored n w a p) ≡ stored n w a p ⊕ (sameAxis d a && c)
-    go true e = toggle-has d a (getD w (pointNumber n q) 0) h ∙ ap₂ _⊕_ (ap (λ (r : Point). stored n w a r) (samePoint→ q p e)) (sym (&&-true (sameAxis d a)))
+    go : (c : Bool) → samePoint q p ≡ c →
+        cond c (has a (toggle d (getD w (pointNumber n q) 0))) (stored n w a p) ≡ stored n w a p ⊕ (sameAxis d a && c)
+    go true e =
+        toggle-has d a (getD w (pointNumber n q) 0) h
+        ∙ ap₂ _⊕_ (ap (λ (r : Point). stored n w a r) (samePoint→ q p e)) (sym (&&-true (sameAxis d a)))
     go false e = sym (ap (λ (b : Bool). stored n w a p ⊕ b) (&&-false (sameAxis d a)) ∙ ⊕-false (stored n w a p))

@@ -85,7 +85,9 @@ parityTo-first (suc k) f = rw (parityTo-first k f) (⊕-assoc (f 0) (parityTo k 
 
 pub parity-upto : (i k : ℕ) (f : ℕ → Bool) → parity f (upto i k) ≡ parityTo k (λ j. f (i + j))
 parity-upto i zero f = refl
-parity-upto i (suc k) f = rw (parityTo-first k (λ j. f (i + j)), add-zero i, parity-upto (suc i) k f) (ap (λ (b : Bool). f i ⊕ b) (parityTo-cong k (λ j. f (suc i + j)) (λ j. f (i + suc j)) (λ j. ap f (suc-add i j ∙ sym (add-suc i j)))))
+parity-upto i (suc k) f =
+    rw (parityTo-first k (λ j. f (i + j)), add-zero i, parity-upto (suc i) k f)
+    (ap (λ (b : Bool). f i ⊕ b) (parityTo-cong k (λ j. f (suc i + j)) (λ j. f (i + suc j)) (λ j. ap f (suc-add i j ∙ sym (add-suc i j)))))
 
 -- below the bound only
 pub parityTo-cong< : (k : ℕ) (f g : ℕ → Bool) → ((i : ℕ) → i < k → f i ≡ g i) → parityTo k f ≡ parityTo k g
@@ -126,7 +128,8 @@ parityTo-one (suc k) c f = ap (λ (b : Bool). b ⊕ (eqb k c && f k)) (parityTo-
     go (no n) (no p) = rw (eqb-no k c n, leb-yes (suc c) k (omega arith), leb-yes (suc c) (suc k) (omega arith)) (⊕-false (f c))
 
 -- steps along two axes, over a rectangle at whose sides nothing stands
-pub parityTo-around : (k l : ℕ) (f g : ℕ → ℕ → Bool) → ((v : ℕ) → f 0 v ≡ false) → ((v : ℕ) → f k v ≡ false) → ((u : ℕ) → g u 0 ≡ false) → ((u : ℕ) → g u l ≡ false) →
+pub parityTo-around : (k l : ℕ) (f g : ℕ → ℕ → Bool) → ((v : ℕ) → f 0 v ≡ false) → ((v : ℕ) → f k v ≡ false) → ((u : ℕ) → g u 0 ≡ false) →
+    ((u : ℕ) → g u l ≡ false) →
     parityTo l (λ v. parityTo k (λ u. (f u v ⊕ f (suc u) v) ⊕ (g u v ⊕ g u (suc v)))) ≡ false
 parityTo-around k l f g f0 fk g0 gl =
     parityTo-cong l _ _ (λ v. parityTo-plus k _ _) ∙ parityTo-plus l _ _

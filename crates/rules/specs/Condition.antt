@@ -14,7 +14,8 @@ use Rattle.rules.specs.Signs.{sign}
 pub data Route (n : ℕ) : Point → Point → List Edge → Type 0 where
   stop : {p : Point} → OfGrid n p → Route n p p []
   upward : {p q : Point} {l : List Edge} (a : Axis) → OfGrid n p → Route n (up a p) q l → Route n p q (record { axis = a; at = p } ∷ l)
-  downward : {p q : Point} {l : List Edge} (a : Axis) → OfGrid n (up a p) → Route n p q l → Route n (up a p) q (record { axis = a; at = p } ∷ l)
+  downward : {p q : Point} {l : List Edge} (a : Axis) → OfGrid n (up a p) → Route n p q l →
+      Route n (up a p) q (record { axis = a; at = p } ∷ l)
 
 -- what a repair F of the marks E has to be
 pub record Repaired (n : ℕ) (E F : Set) : Type 0 where

@@ -53,13 +53,48 @@ table =
     ∷ (record { before = single; rims = 0; flipped = []; after = single; inside = 1 }
     ∷ (record { before = gap; rims = 1; flipped = edge X 2 2 2 ∷ []; after = single; inside = 1 }
     ∷ (record { before = edge X 2 2 2 ∷ []; rims = 1; flipped = edge X 2 2 2 ∷ []; after = []; inside = 0 }
-    ∷ (record { before = edge X 0 1 1 ∷ (edge X 2 3 3 ∷ []); rims = 2; flipped = edge X 0 1 1 ∷ (edge X 2 3 3 ∷ []); after = []; inside = 0 }
-    ∷ (record { before = edge X 2 2 2 ∷ (edge X 2 3 3 ∷ []); rims = 1; flipped = edge X 2 2 2 ∷ (edge X 2 3 3 ∷ []); after = []; inside = 0 }
-    ∷ (record { before = pair; rims = 1; flipped = edge Y 2 2 2 ∷ (edge Y 3 2 2 ∷ []); after = edge Y 2 2 2 ∷ (edge Y 3 2 2 ∷ pair); inside = 2 }
+    ∷ (record {
+      before = edge X 0 1 1 ∷ (edge X 2 3 3 ∷ []);
+      rims = 2;
+      flipped = edge X 0 1 1 ∷
+          (edge X 2 3 3 ∷ []);
+      after = [];
+      inside = 0;
+    }
+    ∷ (record {
+      before = edge X 2 2 2 ∷ (edge X 2 3 3 ∷ []);
+      rims = 1;
+      flipped = edge X 2 2 2 ∷
+          (edge X 2 3 3 ∷ []);
+      after = [];
+      inside = 0;
+    }
+    ∷ (record {
+      before = pair;
+      rims = 1;
+      flipped = edge Y 2 2 2 ∷ (edge Y 3 2 2 ∷ []);
+      after = edge Y 2 2 2 ∷
+          (edge Y 3 2 2 ∷ pair);
+      inside = 2;
+    }
     -- sides of equal length: x is cut before y and z
-    ∷ (record { before = edge X 2 3 2 ∷ (edge Y 2 3 2 ∷ []); rims = 1; flipped = edge X 2 3 2 ∷ (edge Y 2 3 2 ∷ []); after = []; inside = 0 }
+    ∷ (record {
+      before = edge X 2 3 2 ∷ (edge Y 2 3 2 ∷ []);
+      rims = 1;
+      flipped = edge X 2 3 2 ∷
+          (edge Y 2 3 2 ∷ []);
+      after = [];
+      inside = 0;
+    }
     -- a side of odd length: the plane is rounded down
-    ∷ (record { before = edge Y 2 2 2 ∷ (edge Y 3 1 1 ∷ (edge Z 3 2 1 ∷ [])); rims = 1; flipped = edge Y 2 2 2 ∷ (edge Y 3 1 1 ∷ (edge Z 3 2 1 ∷ [])); after = []; inside = 0 }
+    ∷ (record {
+      before = edge Y 2 2 2 ∷ (edge Y 3 1 1 ∷ (edge Z 3 2 1 ∷ []));
+      rims = 1;
+      flipped = edge Y 2 2 2 ∷
+          (edge Y 3 1 1 ∷ (edge Z 3 2 1 ∷ []));
+      after = [];
+      inside = 0;
+    }
     -- four faces in one plane: first with second, third with fourth
     ∷ (record {
       before = edge Y 3 2 1 ∷ (edge Y 3 3 1 ∷ (edge Z 2 3 0 ∷ []));
@@ -100,6 +135,7 @@ examples-hold = refl
 
 -- the quads that the rules list for one point inside
 listing-holds : quads 4 (setOf single) (sign (setOf single)) ≡
-    21 ∷ (25 ∷ (26 ∷ (22 ∷ (21 ∷ (22 ∷ (38 ∷ (37 ∷ (21 ∷ (37 ∷ (41 ∷ (25 ∷ (22 ∷ (26 ∷ (42 ∷ (38 ∷ (25 ∷ (41 ∷ (42 ∷ (26 ∷ (37 ∷ (38 ∷ (42 ∷ (41 ∷ [])))))))))))))))))))))))
+    21 ∷ (25 ∷ (26 ∷ (22 ∷ (21 ∷ (22 ∷ (38 ∷ (37 ∷ (21 ∷
+    (37 ∷ (41 ∷ (25 ∷ (22 ∷ (26 ∷ (42 ∷ (38 ∷ (25 ∷ (41 ∷ (42 ∷ (26 ∷ (37 ∷ (38 ∷ (42 ∷ (41 ∷ [])))))))))))))))))))))))
 unfolding single quads
 listing-holds = refl
