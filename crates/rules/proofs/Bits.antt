@@ -98,6 +98,7 @@ pub record Bounds (l h i : ℕ) : Type 0 where
   pub low : l ≤ i
   pub high : i < h
 
+-- two tests that both pass
 pub and-left : (a b : Bool) → a && b ≡ true → a ≡ true
 and-left true b e = refl
 and-left false b e = e
@@ -109,6 +110,7 @@ and-right false b e = absurd (false≢true e)
 pub both : (a b : Bool) → a ≡ true → b ≡ true → a && b ≡ true
 both a b p q = rw (p, q)
 
+-- numbers that pass a test
 pub leb→ : (m n : ℕ) → leb m n ≡ true → m ≤ n
 leb→ m n e = leb→le m n (eq→T (leb m n) e)
 
@@ -148,5 +150,6 @@ differ true false = (λ e. true≢false, λ d. refl)
 differ false true = (λ e. false≢true, λ d. refl)
 differ false false = (λ e. absurd (false≢true e), λ d. absurd (d refl))
 
+-- four tests that fail
 pub zeros : (a b c d : Bool) → a ≡ false → b ≡ false → c ≡ false → d ≡ false → (a ⊕ b) ⊕ (c ⊕ d) ≡ false
 zeros a b c d p q r s = rw (p, q, r, s)

@@ -47,6 +47,7 @@ InBox b s t r p =
     Bounds (raise s (b .lo .i)) (b .hi .i) (p .i) × Bounds (raise t (b .lo .j)) (b .hi .j) (p .j)
     × Bounds (raise r (b .lo .k)) (b .hi .k) (p .k)
 
+-- the test of a place in a box, and the bounds
 pub inBox→ : (b : Box) (s t r : Bool) (p : Point) → inBox b s t r p ≡ true → InBox b s t r p
 inBox→ b s t r p e =
     let k = three→ (between (raise s (b .lo .i)) (b .hi .i) (p .i)) (between (raise t (b .lo .j)) (b .hi .j) (p .j))
@@ -72,6 +73,7 @@ In b a s t r p =
     × Bounds (raise t (coord (earlier a) (b .lo))) (coord (earlier a) (b .hi)) (coord (earlier a) p)
     × Bounds (raise r (coord (later a) (b .lo))) (coord (later a) (b .hi)) (coord (later a) p)
 
+-- the same in the frame of the face's axis
 pub face→ : (b : Box) (a : Axis) (p : Point) → faceIn b a p ≡ true → In b a true false false p
 face→ b X p e = let c = faceIn→ b X p e in (c .0, c .1, c .2)
 face→ b Y p e = let c = faceIn→ b Y p e in (c .1, c .0, c .2)
@@ -82,6 +84,7 @@ face← b X p c = faceIn← b X p (c .0, c .1, c .2)
 face← b Y p c = faceIn← b Y p (c .1, c .0, c .2)
 face← b Z p c = faceIn← b Z p (c .1, c .2, c .0)
 
+-- of an edge along the earlier, or the later, axis of a plane square to a
 pub earlier→ : (b : Box) (a : Axis) (p : Point) → edgeIn b (earlier a) p ≡ true → In b a true false true p
 earlier→ b X p e = let c = inBox→ b true false true p e in (c .0, c .1, c .2)
 earlier→ b Y p e = let c = inBox→ b false true true p e in (c .1, c .0, c .2)
@@ -113,6 +116,7 @@ frame← b X s p c = c
 frame← b Y s p c = (c .1, c .0, c .2)
 frame← b Z s p c = (c .1, c .2, c .0)
 
+-- the coordinates of a point moved on one axis
 pub with-coord : (a : Axis) (m : ℕ) (p : Point) →
     (coord a (withCoord a m p) ≡ m) × (coord (earlier a) (withCoord a m p) ≡ coord (earlier a) p) ×
     (coord (later a) (withCoord a m p) ≡ coord (later a) p)

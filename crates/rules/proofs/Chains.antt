@@ -22,12 +22,14 @@ same-axis X = refl
 same-axis Y = refl
 same-axis Z = refl
 
+-- a point, or a place, is the same as itself
 pub same-point : (p : Point) → samePoint p p ≡ true
 same-point p = both _ _ (eqb-yes (p .i) (p .i) refl) (both _ _ (eqb-yes (p .j) (p .j) refl) (eqb-yes (p .k) (p .k) refl))
 
 pub same-self : (f : Place) → samePlace f f ≡ true
 same-self f = both _ _ (same-axis (f .axis)) (same-point (f .at))
 
+-- tests of which one passes, or none
 pub or-left-true : (a b : Bool) → a ≡ true → a || b ≡ true
 or-left-true a b e = rw e
 
@@ -77,6 +79,7 @@ down-cases a p = go (coord a p) refl
 same-eq : (p q : Point) → p ≡ q → samePoint p q ≡ true
 same-eq p q e = rw (← e) (same-point p)
 
+-- a face is a face of the cell above it, and of the cell below it
 pub own-upper : (f : Place) → ofCell (f .at) f ≡ true
 own-upper f = or-left-true _ _ (same-point (f .at))
 
@@ -95,6 +98,7 @@ own-lower f = go (down-cases (f .axis) (f .at))
 abbrev pub OneCell : Place → Place → Type 0
 OneCell f g = (c : Point) × (ofCell c f ≡ true) × (ofCell c g ≡ true)
 
+-- neighbours have a cell in common
 pub neighbours-cells : (f g : Place) → neighbours f g ≡ true → OneCell f g
 neighbours-cells f g e = go (or-cases (ofCell (f .at) g) (ofCell (down (f .axis) (f .at)) g) e)
   where
@@ -102,11 +106,13 @@ neighbours-cells f g e = go (or-cases (ofCell (f .at) g) (ofCell (down (f .axis)
     go (inl h) = (f .at, own-upper f, h)
     go (inr h) = (down (f .axis) (f .at), own-lower f, h)
 
+-- and are neighbours either way round
 pub neighbours-sym : (f g : Place) → neighbours f g ≡ true → neighbours g f ≡ true
 neighbours-sym f g e = let c = neighbours-cells f g e in neighbours-cell (c .0) g f (c .2) (c .1)
 
 -- ---- membership
 module _ {A : Type 0} where
+  -- where each member that passes one test passes another
   pub any-where : (g h : A → Bool) (l : List A) → All (λ x. g x ≡ true → h x ≡ true) l → anyOf g l ≡ true → anyOf h l ≡ true
   any-where g h [] f e = e
   any-where g h (x ∷ l) f e = go (or-cases (g x) (anyOf g l) e) (any-where g h l (f .1))
@@ -129,6 +135,7 @@ module _ {A : Type 0} where
       go false true k i = omega arith
       go false false k i = i
 
+  -- some member passes: at least one is counted
   pub any-count : (g : A → Bool) (l : List A) → anyOf g l ≡ true → 1 ≤ count g l
   any-count g [] e = absurd (false≢true e)
   any-count g (x ∷ l) e = go (g x) e (any-count g l)
@@ -149,6 +156,7 @@ module _ {A : Type 0} where
       go false i = or-left (anyOf g (keep w l)) (g x) (anyOf g (keep (λ y. not (w y)) l)) ∙ ap (λ (b : Bool). g x || b) i
 
 module _ {A : Type 0} where
+  -- none is counted: no member passes
   pub zero-none : (g : A → Bool) (l : List A) → count g l ≡ 0 → All (λ x. g x ≡ true → ⊥) l
   zero-none g [] z = tt
   zero-none g (x ∷ l) z = go (g x) refl z (zero-none g l)
@@ -192,7 +200,7 @@ one-rim l f e =
     let c = apart (f .at) l in
     omega arith
 
--- a rim is closed: a neighbour in the list of one of its faces is one of its faces
+-- of the rims the one with faces of cell c has every listed face of c
 closed-in : (c : Point) (h : Place) → ofCell c h ≡ true → (rs : List (List Place)) → count (touch c) rs ≤ 1 → anyOf (elem h) rs ≡ true →
     All (λ r. touch c r ≡ true → elem h r ≡ true) rs
 closed-in c h k [] n e = tt
@@ -218,6 +226,7 @@ closed-in c h k (r ∷ rs) n e = go (touch c r) refl n (closed-in c h k rs)
         two (inl x) = absurd (true≢false (sym (elem-touch h c k r x) ∙ q))
         two (inr x) = x
 
+-- a neighbour in the list of one of a rim's faces is one of its faces
 pub rim-closed : (l : List Place) (g h : Place) → neighbours g h ≡ true → elem h l ≡ true →
     All (λ r. elem g r ≡ true → elem h r ≡ true) (rimsOf l)
 rim-closed l g h e k =
@@ -231,6 +240,7 @@ pub chain-in : (l : List Place) (f g : Place) → Chain l f g → All (λ r. ele
 chain-in l f g stay = all-every (λ r e. e) (rimsOf l)
 chain-in l f g (link {g = h} e k w) = all-pair _ _ _ (λ r p q x. q (p x)) (rimsOf l) (rim-closed l f h e k) (chain-in l h g w)
 
+-- each member of a list is an element of it
 pub members : (r : List Place) → All (λ g. elem g r ≡ true) r
 members [] = tt
 members (f ∷ r) =
@@ -255,7 +265,7 @@ rim-whole S (f ∷ l) h =
     ks : List (List Place)
     ks = keep (joins f) (rimsOf l)
 
-    -- of each rim that f meets: it is whole, it meets f, and its faces are the list's
+    -- of each rim that f joins: it is whole, f joins it, and its faces are the list's
     Q : List Place → Type 0
     Q r = Whole S r × (joins f r ≡ true) × All (λ g. elem g l ≡ true) r
 

@@ -20,6 +20,7 @@ use Rattle.rules.proofs.Boxes.{within, inRect, parity-plane, face→, f
 abbrev pub EdgeIn : Box → Place → Type 0
 EdgeIn b e = edgeIn b (e .axis) (e .at) ≡ true
 
+-- what is the same by the test is equal
 pub sameAxis→ : (a c : Axis) → sameAxis a c ≡ true → a ≡ c
 sameAxis→ X X e = refl
 sameAxis→ X Y e = absurd (false≢true e)
@@ -56,6 +57,7 @@ setOf-all P (f ∷ l) h a p e = go (samePlace f (record { axis = a; at = p })) r
     go true q r k = subst P (samePlace→ f (record { axis = a; at = p }) q) (h .0)
     go false q r k = k r
 
+-- so if each edge of a list lies in the box, each edge of its set does
 pub setOf-in : (b : Box) (l : List Place) → All (EdgeIn b) l → (a : Axis) (p : Point) → setOf l a p ≡ true → edgeIn b a p ≡ true
 setOf-in b l h a p e = setOf-all (EdgeIn b) l h a p e
 
@@ -73,16 +75,18 @@ oddFace-set b E h a p = go (faceIn b a p) refl
         (is-false _ (λ e. false≢true (sym q ∙ of-later b a p (h _ _ e))))
         (is-false _ (λ e. false≢true (sym q ∙ of-later-up b a p (h _ _ e)))))
 
+-- so do those of a list of such edges
 pub oddFace-in : (b : Box) (l : List Place) → All (EdgeIn b) l → (a : Axis) (p : Point) →
     faceIn b a p && oddFace (setOf l) a p ≡ oddFace (setOf l) a p
 oddFace-in b l h a p = oddFace-set b (setOf l) (setOf-in b l h) a p
 
--- ---- the flips of a cut lie in the box
+-- ---- the flips of a cut
 abbrev pub InRect : Box → Axis → Spot → Type 0
 InRect b a q =
     Bounds (coord (earlier a) (b .lo)) (coord (earlier a) (b .hi)) (q .u)
     × Bounds (coord (later a) (b .lo)) (coord (later a) (b .hi)) (q .v)
 
+-- each listed spot lies in the box's rectangle
 pub plane-in : (b : Box) (a : Axis) → All (InRect b a) (plane b a)
 plane-in b a =
     all-each (InRect b a) _ (upto (coord (later a) (b .lo)) (side b (later a)))
@@ -115,6 +119,7 @@ module _ (b : Box) (a : Axis) (m : ℕ) (c : Bounds (suc (coord a (b .lo))) (coo
   paths-in (p ∷ []) h = tt
   paths-in (p ∷ (q ∷ l)) h = all-append (EdgeIn b) (path a m p q) (paths a m l) (path-in p q (h .0) (h .1 .0)) (paths-in l (h .1 .1))
 
+  -- each flip of a cut has its four cells in the box
   pub cut-in : (W : Set) → All (EdgeIn b) (cut b W a m)
   cut-in W = paths-in (keep (inPlane W a m) (plane b a)) (all-keep (InRect b a) (inPlane W a m) (plane b a) (plane-in b a))
 

@@ -14,6 +14,7 @@ use Rattle.rules.proofs.Oddness.{pointAt-coord}
 use Rattle.rules.proofs.Boxes.{within, faceIn→, faceIn←, In, frame→, frame←, with-coord}
 use Rattle.rules.proofs.Cuts.{sameAxis→}
 
+-- a test that failed
 pub leb-false→ : (m n : ℕ) → leb m n ≡ false → n < m
 leb-false→ m n e = go (decLe m n)
   where
@@ -31,6 +32,7 @@ six : (c x x₁ y y₁ z z₁ : Bool) →
 six true x x₁ y y₁ z z₁ = refl
 six false x x₁ y y₁ z z₁ = refl
 
+-- such a set leaves a cell even where the whole does, if the test does not change across its faces
 pub oddCell-where : (c : Point → Bool) (G : Set) → ((d : Axis) (p : Point) → c (up d p) && G d (up d p) ≡ c p && G d (up d p)) →
     (p : Point) →
     oddCell (λ d q. c q && G d q) p ≡ c p && oddCell G p
@@ -48,6 +50,7 @@ coord-up Z X p = refl
 coord-up Z Y p = refl
 coord-up Z Z p = refl
 
+-- raised bounds
 pub raise-mono : (s : Bool) (l m : ℕ) → l ≤ m → raise s l ≤ raise s m
 raise-mono true l m h = omega arith
 raise-mono false l m h = h

@@ -37,9 +37,11 @@ one-cell→ b h Z =
     leb→ (side b Z) 1 (and-right (leb (side b Y) 1) (leb (side b Z) 1)
     (and-right (leb (side b X) 1) (leb (side b Y) 1 && leb (side b Z) 1) h))
 
+-- sides of one or none make a box of one cell
 pub one-cell← : (b : Box) → ((d : Axis) → side b d ≤ 1) → oneCell b ≡ true
 one-cell← b h = both _ _ (leb-yes (side b X) 1 (h X)) (both _ _ (leb-yes (side b Y) 1 (h Y)) (leb-yes (side b Z) 1 (h Z)))
 
+-- no side is longer than all three together
 pub side-size : (b : Box) (d : Axis) → side b d ≤ size b
 side-size b X = omega arith
 side-size b Y = omega arith
@@ -80,6 +82,7 @@ middle-in b e = go (decLe (side b (longest b)) 1)
     go (yes h) = absurd (true≢false (sym (one-cell← b (λ d. let l = longest-all b d in omega arith)) ∙ e))
     go (no h) = record { low = omega arith; high = omega arith }
 
+-- a box of one cell gives nothing; another is cut
 pub patch-one : (n : ℕ) (b : Box) (W : Set) → oneCell b ≡ true → patch (suc n) b W ≡ []
 patch-one n b W e = rw (e, patch)
 
@@ -147,6 +150,7 @@ module _ (b : Box) (a : Axis) (m : ℕ) (c : Bounds (suc (coord a (b .lo))) (coo
       let z = raise-mono (not (sameAxis (e .axis) a)) (coord a (b .lo)) m (omega arith) in
       edge-frame← b a (e .axis) (e .at) (omega arith)
 
+-- all flips of a patch have their four cells in the box
 pub patch-in : (n : ℕ) (b : Box) (W : Set) → All (EdgeIn b) (patch n b W)
 patch-in zero b W = tt
 patch-in (suc n) b W = go (oneCell b) refl (λ c U. patch-in n c U)

@@ -86,6 +86,7 @@ module _ {A : Type 0} where
       go true h = omega arith
       go false h = omega arith
 
+  -- none is kept where none passes
   pub keep-none : (w : A → Bool) → ((x : A) → w x ≡ false) → (l : List A) → keep w l ≡ []
   keep-none w h [] = refl
   keep-none w h (x ∷ l) = rw (h x) (keep-none w h l)
@@ -135,6 +136,7 @@ module _ {A B C : Type 0} where
       map-append [] m = refl
       map-append (x ∷ l) m = ap (λ (r : List C). f x ∷ r) (map-append l m)
 
+-- the numbers of a range lie in its bounds
 pub all-upto : (i k : ℕ) → All (λ j. Bounds i (i + k) j) (upto i k)
 all-upto i zero = tt
 all-upto i (suc k) = (
@@ -143,5 +145,6 @@ all-upto i (suc k) = (
       (upto (suc i) k) (all-upto (suc i) k),
 )
 
+-- what holds of each number below k
 pub all-below : {P : ℕ → Type 0} (k : ℕ) → ((i : ℕ) → i < k → P i) → All P (upto 0 k)
 all-below {P} k h = all-weaken _ P (λ i c. h i (omega arith)) (upto 0 k) (all-upto 0 k)

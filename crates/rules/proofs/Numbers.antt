@@ -63,10 +63,12 @@ module _ (k : ℕ) where
   unfolding layer
   layer-length z = length-each (row z) k (row-length z) (upto 0 k) ∙ ap (λ (i : ℕ). k * i) (length-upto 0 k)
 
+  -- there are k^3 points with coordinates below k
   pub points-length : length (points k) ≡ k * k * k
   unfolding layer row
   points-length = length-each layer (k * k) layer-length (upto 0 k) ∙ ap (λ (i : ℕ). k * k * i) (length-upto 0 k)
 
+  -- and each stands at the place of its number
   pub points-at : (p q : Point) → p .i < k → p .j < k → p .k < k → getD (points k) (p .i + k * (p .j + k * p .k)) q ≡ p
   unfolding layer row
   points-at p q hx hy hz =
@@ -84,12 +86,14 @@ pub bytes-length : (n : ℕ) (E : Set) → length (bytes n E) ≡ pointCount n
 unfolding bytes
 bytes-length n E = length-map (points (suc n)) (byteAt E) ∙ points-length (suc n)
 
+-- a point's number is below P
 pub number-below : (k x y z : ℕ) → x < k → y < k → z < k → x + k * (y + k * z) < k * k * k
 number-below k x y z hx hy hz =
     let a = mul-le-mul-left k hy in
     let b = mul-le-mul-left (k * k) hz in
     omega arith
 
+-- the byte at a point's number is that point's
 pub bytes-at : (n : ℕ) (E : Set) (p : Point) → p .i ≤ n → p .j ≤ n → p .k ≤ n → getD (bytes n E) (pointNumber n p) 0 ≡ byteAt E p
 unfolding bytes
 bytes-at n E p hx hy hz =
@@ -186,6 +190,7 @@ rising-at k =
     ∙ blocks (k * k) 0 k
     ∙ ap (λ (i : ℕ). upto i (k * k * k)) (mul-zero (k * k))
 
+-- the numbers of the listed points are 0, 1, 2 .. up to P
 pub rising : (n : ℕ) → map (pointNumber n) (points (suc n)) ≡ upto 0 (pointCount n)
 rising n = rising-at (suc n)
 
@@ -195,6 +200,7 @@ bit-value zero w h = omega arith
 bit-value (suc zero) w h = omega arith
 bit-value (suc (suc k)) w h = absurd (omega arith)
 
+-- a byte up to 7 is the sum of its values
 pub small-byte : (b : ℕ) → b ≤ 7 → value (has X b) 1 + (value (has Y b) 2 + value (has Z b) 4) ≡ b
 small-byte b h =
     let d : b / 2 / 2 ≡ b / 4 = div-div-eq-div-mul b 2 2 in
@@ -231,6 +237,7 @@ module _ {A : Type 0} where
   map-where w f g h [] e = refl
   map-where w f g h (x ∷ l) e = ap₂ _∷_ (h x (and-left (w x) (allOf w l) e)) (map-where w f g h l (and-right (w x) (allOf w l) e))
 
+-- the first k bytes, read one by one
 pub take-upto : (g : List ℕ) (k : ℕ) → k ≤ length g → map (λ i. getD g i 0) (upto 0 k) ≡ take k g
 take-upto g k h = ext-getD 0 _ _
     (length-map (upto 0 k) _ ∙ length-upto 0 k ∙ sym (length-take k g ∙ omega arith))
@@ -238,6 +245,7 @@ take-upto g k h = ext-getD 0 _ _
     getD-map< (λ j. getD g j 0) (upto 0 k) i 0 0 (omega arith) ∙ ap (λ j. getD g j 0) (getD-upto 0 k i 0 (omega arith) ∙ zero-add i)
     ∙ sym (getD-take k g i 0 (omega arith)))
 
+-- what is read from a grid is written back
 pub bytes-marks : (n : ℕ) (g : List ℕ) → pointCount n ≤ length g → isGrid n g ≡ true → bytes n (marks n g) ≡ take (pointCount n) g
 unfolding bytes isGrid
 bytes-marks n g h e =

@@ -13,9 +13,11 @@ use Rattle.rules.proofs.Sums.{parity-append, parityTo-plus, parityTo-ze
 pub oddFace-symdiff : (E F : Set) (a : Axis) (p : Point) → oddFace (symdiff E F) a p ≡ symdiff (oddFace E) (oddFace F) a p
 oddFace-symdiff E F a p = simp xors
 
+-- two lists, one behind the other, are the symmetric difference of their sets
 pub setOf-append : (l m : List Place) (a : Axis) (p : Point) → setOf (l ++ m) a p ≡ symdiff (setOf l) (setOf m) a p
 setOf-append l m a p = parity-append (λ e. samePlace e (record { axis = a; at = p })) l m
 
+-- and so are their odd faces
 pub oddFace-append : (l m : List Place) (a : Axis) (p : Point) →
     oddFace (setOf (l ++ m)) a p ≡ oddFace (setOf l) a p ⊕ oddFace (setOf m) a p
 oddFace-append l m a p = simp (setOf-append l m, xors)
@@ -32,6 +34,7 @@ cell-even E p =
     twelve (E Y p) (E Y (up Z p)) (E Z p) (E Z (up Y p)) (E Y (up X p)) (E Y (up Z (up X p))) (E Z (up X p)) (E Z (up Y (up X p)))
     (E X p) (E X (up Z p)) (E X (up Y p)) (E X (up Z (up Y p)))
 
+-- a cell's faces in a symmetric difference are counted in the two sets apart
 pub oddCell-symdiff : (F G : Set) (p : Point) → oddCell (symdiff F G) p ≡ oddCell F p ⊕ oddCell G p
 oddCell-symdiff F G p = simp xors
 
@@ -42,6 +45,7 @@ step F a p = F a p ⊕ F a (up a p)
 three : (a b c : Bool) → a ⊕ (b ⊕ c) ≡ c ⊕ (a ⊕ b)
 three a b c = simp xors
 
+-- a cell's faces counted from any axis
 pub oddCell-from : (F : Set) (a : Axis) (p : Point) → oddCell F p ≡ step F a p ⊕ (step F (earlier a) p ⊕ step F (later a) p)
 oddCell-from F X p = refl
 oddCell-from F Y p = ⊕-left (step F X p) (step F Y p) (step F Z p)
@@ -78,6 +82,7 @@ coord-later X m u v = refl
 coord-later Y m u v = refl
 coord-later Z m u v = refl
 
+-- a point is the point with its own coordinates
 pub pointAt-coord : (a : Axis) (p : Point) → pointAt a (coord a p) (coord (earlier a) p) (coord (later a) p) ≡ p
 pointAt-coord X p = refl
 pointAt-coord Y p = refl
@@ -94,6 +99,7 @@ pub record Closed (F : Set) (h : Point) : Type 0 where
 abbrev pub overPlane : Set → Point → Axis → ℕ → Bool
 overPlane F h a m = parityTo (coord (later a) h) (λ v. parityTo (coord (earlier a) h) (λ u. F a (pointAt a m u v)))
 
+-- two that come to an even number are the same
 pub zero-sum : (a b : Bool) → a ⊕ b ≡ false → a ≡ b
 zero-sum true true e = refl
 zero-sum true false e = e
@@ -112,6 +118,7 @@ module _ (F : Set) (h : Point) (c : Closed F h) where
       solve (F a (pointAt a m u v)) (F a (pointAt a (suc m) u v)) _
       (rw (up-own a m u v, up-earlier a m u v, up-later a m u v) at (sym (oddCell-from F a (pointAt a m u v)) ∙ c .even (pointAt a m u v)))
 
+  -- the faces of a closed set in a plane are even in number
   pub plane-even : (a : Axis) (m : ℕ) → overPlane F h a m ≡ false
   plane-even a zero =
       parityTo-zero (coord (later a) h) _

@@ -81,6 +81,7 @@ pub data Perm : List (List Place) → List (List Place) → Type 0 where
   swap : {r q : List Place} {s : List (List Place)} → Perm (r ∷ (q ∷ s)) (q ∷ (r ∷ s))
   chain : {s t u : List (List Place)} → Perm s t → Perm t u → Perm s u
 
+-- a parity does not see the order
 pub parity-perm : (g : List Place → Bool) (s t : List (List Place)) → Perm s t → parity g s ≡ parity g t
 parity-perm g s t none = refl
 parity-perm g s t (keepHead {r = r} {s = s₁} {t = t₁} p) = ap (λ (b : Bool). g r ⊕ b) (parity-perm g s₁ t₁ p)
@@ -92,6 +93,7 @@ abbrev pub oneByOne : Set → List (List Place) → Set
 oneByOne E [] = E
 oneByOne E (r ∷ rs) = oneByOne (symdiff E (setOf (patchRim r))) rs
 
+-- which adds up each rim's flips
 pub by-one : (E : Set) (rs : List (List Place)) (a : Axis) (p : Point) → oneByOne E rs a p ≡ E a p ⊕ parity (λ r. setOf (patchRim r) a p) rs
 by-one E [] a p = sym (⊕-false (E a p))
 by-one E (r ∷ rs) a p =

@@ -15,6 +15,7 @@ use Rattle.rules.proofs.Order.{upper-after}
 unfoldable pub patchOf : Box → Set → List Place
 patchOf b W = patch (size b) b W
 
+-- a box of one cell gives nothing
 pub patchOf-one : (b : Box) (W : Set) → oneCell b ≡ true → patchOf b W ≡ []
 unfolding patchOf
 patchOf-one b W e = go (size b) refl

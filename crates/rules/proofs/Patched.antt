@@ -42,6 +42,7 @@ own-at f h =
     let z = up-all (later (f .axis)) (f .at) in
     face← (ownBox f) (f .axis) (f .at) (omega arith)
 
+-- each face of a rim has both its cells in the rim's box
 pub box-all : (r : List Place) → All Inner r → All (FaceOf (boxOf r)) r
 box-all r h =
     all-pair _ _ _ (λ f s i. sub-in (ownBox f) (boxOf r) s (sameAxis (f .axis) X) (sameAxis (f .axis) Y) (sameAxis (f .axis) Z) (f .at)
@@ -126,10 +127,12 @@ module _ (n : ℕ) (E : Set) (inner : (a : Axis) (p : Point) → E a p ≡ true 
   pub odd-in : (a : Axis) (p : Point) → oddFace E a p ≡ true → faceIn (whole n) a p ≡ true
   odd-in a p e = and-left (faceIn (whole n) a p) (oddFace E a p) (oddFace-set (whole n) E inner a p ∙ e)
 
+  -- the listed odd faces are the odd faces
   pub odd-listed : (a : Axis) (p : Point) → setOf (oddFaces n E) a p ≡ oddFace E a p
   unfolding oddFaces
   odd-listed a p = listed n (oddFace E) (λ d q e. let k = faceIn→ (whole n) d q (odd-in d q e) in omega arith) a p
 
+  -- each of them has a cell below it
   pub odd-inner : All Inner (oddFaces n E)
   unfolding oddFaces
   odd-inner =
@@ -172,7 +175,7 @@ module _ (n : ℕ) (E : Set) (inner : (a : Axis) (p : Point) → E a p ≡ true 
       all-weaken _ _ (λ f e. let k = faceIn→ (whole n) (f .axis) (f .at) (odd-in (f .axis) (f .at) e) in omega arith) (oddFaces n E)
       (all-kept (isIn (oddFace E)) (places n))
 
-  -- the patched grid has marks on inner edges only
+  -- only inner edges are flipped
   pub flips-inner : All (EdgeIn (whole n)) (flips n E)
   unfolding flips rims patchRim
   flips-inner =
@@ -181,6 +184,7 @@ module _ (n : ℕ) (E : Set) (inner : (a : Axis) (p : Point) → E a p ≡ true 
       (not (sameAxis (e .axis) Y)) (not (sameAxis (e .axis) Z)) (e .at) k) (patchRim r) (patch-in (size (boxOf r)) (boxOf r) (setOf r)))
       (rims n E) (rims-all (Low n) (oddFaces n E) odd-low))
 
+  -- so the patched grid has marks on inner edges only
   pub patched-inner : (a : Axis) (p : Point) → patched n E a p ≡ true → edgeIn (whole n) a p ≡ true
   unfolding patched
   patched-inner a p e = go (E a p) refl e

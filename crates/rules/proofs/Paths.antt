@@ -24,6 +24,7 @@ module _ (e : ℕ → Place) (t : ℕ → Bool) (a : Axis) (p : Point)
       ∙ ap₂ _⊕_ (one i) (row (suc i) k)
       ∙ rw (add-suc i k, suc-add i k) (simp xors)
 
+  -- a row of steps changes the faces at its two ends
   pub steps-ends : (i j : ℕ) → oddFace (setOf (steps e i j)) a p ≡ t i ⊕ t j
   steps-ends i j = row (min i j) (max i j - min i j) ∙ go (decLe i j)
     where

@@ -23,6 +23,7 @@ keep-cong w v (x ∷ l) h = ap₂ (λ (b : Bool) (r : List Spot). cond b (x ∷ 
 abbrev pub Agree : Box → Set → Set → Type 0
 Agree b W U = (a : Axis) (p : Point) → faceIn b a p ≡ true → W a p ≡ U a p
 
+-- where they agree the cut is the same
 pub cut-cong : (b : Box) (W U : Set) (a : Axis) (m : ℕ) → Bounds (suc (coord a (b .lo))) (coord a (b .hi)) m → Agree b W U →
     cut b W a m ≡ cut b U a m
 cut-cong b W U a m c h =
@@ -31,6 +32,7 @@ cut-cong b W U a m c h =
     (face-rect b W a m c (q .u) (q .v) ∙ both _ _ (between← _ _ _ (k .0)) (between← _ _ _ (k .1)))) (plane b a) (plane-in b a)))
 
 module _ (b : Box) (a : Axis) (m : ℕ) (c : Bounds (suc (coord a (b .lo))) (coord a (b .hi)) m) (W U : Set) (h : Agree b W U) where
+  -- sets that agree in the box agree in its halves
   pub agree-lower : Agree (lower b a m) W U
   agree-lower d p e = h d p (and-right (ltb (coord a p) m) (faceIn b d p) (sym (lower-face b a m c d p) ∙ e))
 

@@ -50,6 +50,7 @@ cell-at X q p = ⊕-false (samePoint q p ⊕ samePoint q (up X p)) ∙ two-faces
 cell-at Y q p = ⊕-false (samePoint q p ⊕ samePoint q (up Y p)) ∙ two-faces Y q p
 cell-at Z q p = two-faces Z q p
 
+-- the faces of a cell that are in the set, counted in the list
 pub cell-sum : (p : Point) (r : List Place) → oddCell (setOf r) p ≡ parity (ofCell p) r
 cell-sum p [] = refl
 cell-sum p (f ∷ r) =
@@ -68,6 +69,7 @@ pub or-true : (a b : Bool) → b ≡ true → a || b ≡ true
 or-true true b e = refl
 or-true false b e = e
 
+-- the list has a face of the cell
 abbrev pub touch : Point → List Place → Bool
 touch p r = anyOf (ofCell p) r
 
@@ -83,6 +85,7 @@ down-up X p = simp pred-suc
 down-up Y p = simp pred-suc
 down-up Z p = simp pred-suc
 
+-- faces of one cell are neighbours
 pub neighbours-cell : (p : Point) (f g : Place) → ofCell p f ≡ true → ofCell p g ≡ true → neighbours f g ≡ true
 neighbours-cell p f g h k = go (samePoint (f .at) p) refl h
   where
@@ -128,7 +131,7 @@ touch-each p (r ∷ rs) h = go (touch p r) (sym (any-append (ofCell p) r (each (
     go true e i = omega arith
     go false e i = i e
 
--- a rim with a face of f's cell meets f
+-- a rim with a face of f's cell is joined by f
 pub touch-joins : (p : Point) (f : Place) → ofCell p f ≡ true → (r : List Place) → touch p r ≡ true → joins f r ≡ true
 touch-joins p f h [] e = absurd (false≢true e)
 touch-joins p f h (g ∷ r) e = go (ofCell p g) refl e (touch-joins p f h r)
@@ -149,6 +152,7 @@ touch-new p f h (r ∷ rs) = go (joins f r) refl (touch p r) refl (touch-new p f
         ap (λ (b : Bool). cond b (suc (count (touch p) (keep (λ s. not (joins f s)) rs)))
         (count (touch p) (keep (λ s. not (joins f s)) rs))) q ∙ i
 
+-- of the rims no more than one has faces of the cell
 pub apart : (p : Point) (l : List Place) → count (touch p) (rimsOf l) ≤ 1
 apart p [] = omega arith
 apart p (f ∷ l) = go (touch p (joined f (rimsOf l))) refl (apart p l)
@@ -165,7 +169,6 @@ apart p (f ∷ l) = go (touch p (joined f (rimsOf l))) refl (apart p l)
             let z = touch-each p (keep (joins f) (rimsOf l)) k in let s = count-keep (touch p) (joins f) (rimsOf l) in omega arith
     go false e i = let s = count-keep (touch p) (joins f) (rimsOf l) in omega arith
 
--- a rim leaves every cell even where the whole list does
 none-touch : (p : Point) (rs : List (List Place)) → count (touch p) rs ≡ 0 → All (λ r. parity (ofCell p) r ≡ false) rs
 none-touch p [] h = tt
 none-touch p (r ∷ rs) h = go (touch p r) refl h (none-touch p rs)
@@ -179,6 +182,7 @@ parity-all : (g : List Place → Bool) (rs : List (List Place)) → All (λ r. g
 parity-all g [] h = refl
 parity-all g (r ∷ rs) h = rw (h .0, parity-all g rs (h .1))
 
+-- where all rims together leave the cell even, each does
 pub rim-even : (p : Point) (rs : List (List Place)) → count (touch p) rs ≤ 1 → parity (λ r. parity (ofCell p) r) rs ≡ false →
     All (λ r. parity (ofCell p) r ≡ false) rs
 rim-even p [] h e = tt
@@ -197,7 +201,7 @@ rim-even p (r ∷ rs) h e = go (touch p r) refl h (rim-even p rs)
         let z = touch-zero p r q in
         (z, k i (ap (λ (x : Bool). x ⊕ parity (λ s. parity (ofCell p) s) rs) (sym z) ∙ e))
 
--- ---- what was wanted: where the whole list leaves every cell even, so does each rim
+-- where the whole list leaves every cell even, so does each rim
 pub rims-even : (l : List Place) → ((p : Point) → oddCell (setOf l) p ≡ false) → (p : Point) →
     All (λ r. oddCell (setOf r) p ≡ false) (rimsOf l)
 rims-even l h p =

@@ -105,9 +105,11 @@ module _ {R : Type 0} where
       let e = or-no-left (y r) (anyOf y rs) h in
       (is-false (x r) (λ t. true≢false (sym (f r t) ∙ e)) ∙ sym e, one-of-none x y f rs (or-no-right (y r) (anyOf y rs) h))
 
+-- what is in the set of a list stands in the list
 pub setOf-elem : (f : Place) (r : List Place) → setOf r (f .axis) (f .at) ≡ true → elem f r ≡ true
 setOf-elem f r e = setOf-all (λ g. elem g r ≡ true) r (members r) (f .axis) (f .at) e
 
+-- a rim's set is its members, if the list's set is its members
 pub set-rims : (l : List Place) → ((f : Place) → setOf l (f .axis) (f .at) ≡ elem f l) → (f : Place) →
     All (λ r. setOf r (f .axis) (f .at) ≡ elem f r) (rimsOf l)
 set-rims l h f = go (elem f l) refl

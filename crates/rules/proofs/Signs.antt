@@ -1,4 +1,5 @@
--- Where every face is even, signs differ across an edge exactly when it is marked, along any route by the parity of its marks, and no other signs do. Assumes nothing.
+-- Where every face is even, signs differ across an edge exactly when it is marked, along any route by the parity of its marks,
+-- and no other signs do. Assumes nothing.
 use mathlib.Core.Bool.{Bool, false}
 use mathlib.Core.List.{List}
 use mathlib.Core.Path.{ap, ap₂, refl, sym, _∙_, _≡_}

@@ -20,6 +20,7 @@ use Rattle.rules.proofs.Numbers.{points-at, number-below}
 abbrev pub stored : ℕ → List ℕ → Set
 stored n w a p = has a (getD w (pointNumber n p) 0)
 
+-- two points of the grid with one number are one point
 pub number-inj : (n : ℕ) (p q : Point) → OfGrid n p → OfGrid n q → pointNumber n p ≡ pointNumber n q → p ≡ q
 number-inj n p q hp hq e =
     sym (points-at (suc n) p p (omega arith) (omega arith) (omega arith))
@@ -73,6 +74,7 @@ at-axis w e X = and-left (w X) (w Y && (w Z && true)) e
 at-axis w e Y = and-left (w Y) (w Z && true) (and-right (w X) (w Y && (w Z && true)) e)
 at-axis w e Z = and-left (w Z) true (and-right (w Y) (w Z && true) (and-right (w X) (w Y && (w Z && true)) e))
 
+-- so it holds of every byte
 pub toggle-has : (a c : Axis) (b : ℕ) → b < 256 → has c (toggle a b) ≡ has c b ⊕ sameAxis a c
 toggle-has a c b h =
     beq→ (has c (toggle a b)) (has c b ⊕ sameAxis a c)

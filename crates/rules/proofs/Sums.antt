@@ -66,6 +66,7 @@ parityTo-zero (suc k) f h = rw (parityTo-zero k f h, h k)
 pub parityTo-cong : (k : ℕ) (f g : ℕ → Bool) → ((i : ℕ) → f i ≡ g i) → parityTo k f ≡ parityTo k g
 parityTo-cong k f g h = ap (λ (u : ℕ → Bool). parityTo k u) (fun-ext h)
 
+-- the order of two sums does not matter
 pub parityTo-swap : (k l : ℕ) (f : ℕ → ℕ → Bool) → parityTo k (λ i. parityTo l (λ j. f i j)) ≡ parityTo l (λ j. parityTo k (λ i. f i j))
 parityTo-swap zero l f = sym (parityTo-zero l (λ j. false) (λ j. refl))
 parityTo-swap (suc k) l f = rw (parityTo-swap k l f) (sym (parityTo-plus l (λ j. parityTo k (λ i. f i j)) (λ j. f k j)))
@@ -75,14 +76,17 @@ pub parityTo-steps : (k : ℕ) (f : ℕ → Bool) → parityTo k (λ i. f i ⊕ 
 parityTo-steps zero f = sym (⊕-self (f 0))
 parityTo-steps (suc k) f = rw (parityTo-steps k f) (simp xors)
 
+-- a range in two parts
 pub parityTo-split : (i k : ℕ) (f : ℕ → Bool) → parityTo (i + k) f ≡ parityTo i f ⊕ parityTo k (λ j. f (i + j))
 parityTo-split i zero f = rw (add-zero i) (sym (⊕-false (parityTo i f)))
 parityTo-split i (suc k) f = rw (add-suc i k, parityTo-split i k f) (⊕-assoc (parityTo i f) (parityTo k (λ j. f (i + j))) (f (i + k)))
 
+-- the first number apart
 pub parityTo-first : (k : ℕ) (f : ℕ → Bool) → parityTo (suc k) f ≡ f 0 ⊕ parityTo k (λ j. f (suc j))
 parityTo-first zero f = sym (⊕-false (f 0))
 parityTo-first (suc k) f = rw (parityTo-first k f) (⊕-assoc (f 0) (parityTo k (λ j. f (suc j))) (f (suc k)))
 
+-- a listed range
 pub parity-upto : (i k : ℕ) (f : ℕ → Bool) → parity f (upto i k) ≡ parityTo k (λ j. f (i + j))
 parity-upto i zero f = refl
 parity-upto i (suc k) f =
@@ -137,6 +141,7 @@ parityTo-around k l f g f0 fk g0 gl =
     (parityTo-zero l _ (λ v. parityTo-steps k (λ u. f u v) ∙ ap₂ _⊕_ (f0 v) (fk v)))
     (parityTo-swap l k (λ v u. g u v ⊕ g u (suc v)) ∙ parityTo-zero k _ (λ u. parityTo-steps l (λ v. g u v) ∙ ap₂ _⊕_ (g0 u) (gl u)))
 
+-- a test taken into the sum
 pub &&-sum : (c : Bool) (k : ℕ) (f : ℕ → Bool) → c && parityTo k f ≡ parityTo k (λ i. c && f i)
 &&-sum true k f = refl
 &&-sum false k f = sym (parityTo-zero k (λ i. false) (λ i. refl))
