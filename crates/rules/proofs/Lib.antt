@@ -9,6 +9,7 @@ pub mod Paths
 pub mod Boxes
 pub mod Cells
 pub mod Cuts
+pub mod Rising
 pub mod Halves
 pub mod Halving
 pub mod Recursion

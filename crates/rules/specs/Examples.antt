@@ -26,11 +26,12 @@ record Example : Type 0 where
   after : List Edge
   inside : ℕ
 
--- the six edges of point (2,2,2), and all but x(2,2,2)
+-- the six edges of point (2,2,2)
 unfoldable pub single : List Edge
 single =
     edge X 1 2 2 ∷ (edge X 2 2 2 ∷ (edge Y 2 1 2 ∷ (edge Y 2 2 2 ∷ (edge Z 2 2 1 ∷ (edge Z 2 2 2 ∷ [])))))
 
+-- the same without x(2,2,2)
 unfoldable pub gap : List Edge
 gap = edge X 1 2 2 ∷ (edge Y 2 1 2 ∷ (edge Y 2 2 2 ∷ (edge Z 2 2 1 ∷ (edge Z 2 2 2 ∷ []))))
 
@@ -46,6 +47,7 @@ ring =
     edge X 1 1 1
     ∷ (edge X 1 2 1 ∷ (edge X 1 3 1 ∷ (edge X 1 1 2 ∷ (edge X 1 3 2 ∷ (edge X 1 1 3 ∷ (edge X 1 2 3 ∷ (edge X 1 3 3 ∷ [])))))))
 
+-- the examples, row by row
 unfoldable table : List Example
 unfolding single gap pair ring
 table =

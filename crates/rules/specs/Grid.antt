@@ -13,6 +13,7 @@ weight X = 1
 weight Y = 2
 weight Z = 4
 
+-- the value of a mark, or nothing
 abbrev pub value : Bool → ℕ → ℕ
 value true w = w
 value false w = 0
@@ -40,6 +41,7 @@ abbrev pub byteFits : ℕ → ℕ → Point → Bool
 byteFits n b p =
     leb b 7 && ((not (has X b) || inner n X p) && ((not (has Y b) || inner n Y p) && (not (has Z b) || inner n Z p)))
 
+-- the same of the byte at a point
 abbrev pub goodByte : ℕ → List ℕ → Point → Bool
 goodByte n g p = byteFits n (getD g (pointNumber n p) 0) p
 

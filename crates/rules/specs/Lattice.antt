@@ -25,6 +25,7 @@ later X = Z
 later Y = Z
 later Z = Y
 
+-- the two are one axis
 abbrev pub sameAxis : Axis → Axis → Bool
 sameAxis X X = true
 sameAxis X Y = false
@@ -68,6 +69,7 @@ withCoord X m p = record { i = m; j = p .j; k = p .k }
 withCoord Y m p = record { i = p .i; j = m; k = p .k }
 withCoord Z m p = record { i = p .i; j = p .j; k = m }
 
+-- the two are one point
 abbrev pub samePoint : Point → Point → Bool
 samePoint p q = eqb (p .i) (q .i) && (eqb (p .j) (q .j) && eqb (p .k) (q .k))
 
@@ -115,6 +117,7 @@ Face = Place
 abbrev pub FaceOfGrid : ℕ → Axis → Point → Type 0
 FaceOfGrid n a p = OfGrid n (up (earlier a) (up (later a) p))
 
+-- the two are one edge, or one face
 abbrev pub samePlace : Place → Place → Bool
 samePlace e f = sameAxis (e .axis) (f .axis) && samePoint (e .at) (f .at)
 
@@ -130,6 +133,7 @@ places k = each placesAt (points k)
 abbrev pub Set : Type 0
 Set = Axis → Point → Bool
 
+-- the edge, or the face, is in the set
 abbrev pub isIn : Set → Place → Bool
 isIn E e = E (e .axis) (e .at)
 

@@ -32,9 +32,11 @@ longest b = longer b (longer b X Y) Z
 abbrev pub middle : Box → Axis → ℕ
 middle b a = coord a (b .lo) + side b a / 2
 
+-- the half box below the plane
 abbrev pub lower : Box → Axis → ℕ → Box
 lower b a m = record { lo = b .lo; hi = withCoord a m (b .hi) }
 
+-- the half box above the plane
 abbrev pub upper : Box → Axis → ℕ → Box
 upper b a m = record { lo = withCoord a m (b .lo); hi = b .hi }
 

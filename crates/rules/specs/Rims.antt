@@ -19,6 +19,7 @@ evenFaces n E = allOf (λ f. not (isIn (oddFace E) f)) (places n)
 abbrev pub neighbours : Face → Face → Bool
 neighbours f g = ofCell (f .at) g || ofCell (down (f .axis) (f .at)) g
 
+-- the face is one of the list
 abbrev pub elem : Face → List Face → Bool
 elem f r = anyOf (samePlace f) r
 
@@ -35,6 +36,7 @@ joins f r = anyOf (neighbours f) r
 abbrev pub joined : Face → List (List Face) → List Face
 joined f rs = f ∷ each (λ r. r) (keep (joins f) rs)
 
+-- one more face: with the rims that it joins, beside those that it does not
 abbrev pub add : Face → List (List Face) → List (List Face)
 add f rs = joined f rs ∷ keep (λ r. not (joins f r)) rs
 
@@ -51,6 +53,7 @@ rims n E = rimsOf (oddFaces n E)
 abbrev pub ownBox : Face → Box
 ownBox f = record { lo = down (f .axis) (f .at); hi = up X (up Y (up Z (f .at))) }
 
+-- the smallest box that holds two boxes
 abbrev pub joinBox : Box → Box → Box
 joinBox b c =
     record {
@@ -58,6 +61,7 @@ joinBox b c =
       hi = record { i = max (b .hi .i) (c .hi .i); j = max (b .hi .j) (c .hi .j); k = max (b .hi .k) (c .hi .k) };
     }
 
+-- a box grown to hold a list of faces
 abbrev pub boxFrom : Box → List Face → Box
 boxFrom b [] = b
 boxFrom b (f ∷ l) = boxFrom (joinBox b (ownBox f)) l
