@@ -155,14 +155,15 @@ module _ (l : List ℕ) (i : ℕ) (x y z : List ℕ) (room : i + length (x ++ (y
       room-z = let a = long in let b = ap length (ex .1) ∙ length-sets l i x in let c = ap length (ey .1) ∙ length-sets m j y in omega arith
 
       pub three-written : (h : ℕ) (r : List ℕ) → (h ≡ k + length z) × (r ≡ sets o k z) → (h ≡ i + length (x ++ (y ++ (z ++ [])))) × (r ≡ sets l i (x ++ (y ++ (z ++ []))))
-      three-written h r ez =
-          (let a = long in omega arith,
-           ez .1
-           ∙ ap₂ (λ (d : List ℕ) (t : ℕ). sets d t z) (ey .1 ∙ ap₂ (λ (d : List ℕ) (t : ℕ). sets d t y) (ex .1) (ex .0)) (ey .0 ∙ ap (λ (t : ℕ). t + length y) (ex .0))
-           ∙ ap (λ (d : List ℕ). sets d (i + length x + length y) z) (sets-append l i x y)
-           ∙ ap (λ (t : ℕ). sets (sets l i (x ++ y)) t z) (let a = length-append x y in let e : i + length x + length y ≡ i + length (x ++ y) = omega arith in e)
-           ∙ sets-append l i (x ++ y) z
-           ∙ ap (λ (d : List ℕ). sets l i d) (append-assoc x y z ∙ ap (λ (d : List ℕ). x ++ (y ++ d)) (sym (append-nil z))))
+      three-written h r ez = (
+        let a = long in omega arith,
+        ez .1
+            ∙ ap₂ (λ (d : List ℕ) (t : ℕ). sets d t z) (ey .1 ∙ ap₂ (λ (d : List ℕ) (t : ℕ). sets d t y) (ex .1) (ex .0)) (ey .0 ∙ ap (λ (t : ℕ). t + length y) (ex .0))
+            ∙ ap (λ (d : List ℕ). sets d (i + length x + length y) z) (sets-append l i x y)
+            ∙ ap (λ (t : ℕ). sets (sets l i (x ++ y)) t z) (let a = length-append x y in let e : i + length x + length y ≡ i + length (x ++ y) = omega arith in e)
+            ∙ sets-append l i (x ++ y) z
+            ∙ ap (λ (d : List ℕ). sets l i d) (append-assoc x y z ∙ ap (λ (d : List ℕ). x ++ (y ++ d)) (sym (append-nil z))),
+      )
 
 -- ---- one turn of the loop that writes: the quads of a point are written, and those behind it are left
 module _ (n : ℕ) (E : Set) (s : Point → Bool) (p : ℕ) (q : Point) (a : At n p q) (h : p < pointCount n) where
@@ -176,8 +177,10 @@ module _ (n : ℕ) (E : Set) (s : Point → Bool) (p : ℕ) (q : Point) (a : At 
   quads-written i j l m e r =
       let t = each-step (quadsAt n E s) n p q a h in
       let f = ap length t ∙ length-append (quadsAt n E s q) (quadsFrom n E s (suc p)) in
-      let g = ap length (e .1) ∙ length-sets l i (quadsAt n E s q) in
-      (g, omega arith,
-       ap₂ (λ (d : List ℕ) (u : ℕ). sets d u (quadsFrom n E s (suc p))) (e .1) (e .0)
-       ∙ sets-append l i (quadsAt n E s q) (quadsFrom n E s (suc p))
-       ∙ ap (λ (d : List ℕ). sets l i d) (sym t))
+      let g = ap length (e .1) ∙ length-sets l i (quadsAt n E s q) in (
+        g,
+        omega arith,
+        ap₂ (λ (d : List ℕ) (u : ℕ). sets d u (quadsFrom n E s (suc p))) (e .1) (e .0)
+            ∙ sets-append l i (quadsAt n E s q) (quadsFrom n E s (suc p))
+            ∙ ap (λ (d : List ℕ). sets l i d) (sym t),
+      )

@@ -1,3 +1,73 @@
 // The call surface: the quads between inside and outside.
 pub mod fit;
 pub mod listing;
+
+use fit::signs_fit;
+use lattice::level::Level;
+use lattice::level::LevelRead;
+use lattice::level::point_count;
+use lattice::scan::is_grid;
+use listing::count_quads;
+use listing::write_quads;
+ghost use mathlib.Core.Path.{_≡_};
+ghost use Prim.Native.Nat.{_≤_};
+ghost use Rattle.rules.specs.Grid.{marks};
+ghost use Rattle.signing.specs.SignBytes.{inside};
+ghost use Rattle.surfacing.specs.Fit.{Grids};
+ghost use Rattle.surfacing.specs.Call.{told, listed, surfaceAt, surfaceCall};
+
+// What the call answers: done, with the number of quads, or why not.
+pub enum SurfaceAnswer {
+    Done { quads: u32 },
+    UnknownLevel,
+    ShortBuffer,
+    NoGrid,
+    SignsMisfit,
+    ShortList,
+}
+
+// Lists the quads of a grid, if the list has room for them.
+pub fn list_quads(n: usize, grid: &[u8], signs: &[u8], list: &mut [u16]) -> SurfaceAnswer
+    requires { ⌜ (n ≤ 32) × Grids n (now grid) (now signs) ⌝ }
+    ensures { λ r. ⌜ told r (now (list .exit)) ≡ listed n (marks n (now (grid .entry))) (inside n (now (signs .entry))) (now (list .entry)) ⌝ }
+{
+    let quads = count_quads(n, grid);
+    if list.len() < 4 * quads {
+        return SurfaceAnswer::ShortList;
+    }
+    write_quads(n, grid, signs, list);
+    SurfaceAnswer::Done {
+        quads: quads as u32,
+    }
+}
+
+// Lists the quads of a grid of n cells a side, if the signs fit it.
+fn surface_at(n: usize, grid: &[u8], signs: &[u8], list: &mut [u16]) -> SurfaceAnswer
+    requires { ⌜ n ≤ 32 ⌝ }
+    ensures { λ r. ⌜ told r (now (list .exit)) ≡ surfaceAt n (now (grid .entry)) (now (signs .entry)) (now (list .entry)) ⌝ }
+{
+    let count = point_count(n);
+    if grid.len() < count {
+        return SurfaceAnswer::ShortBuffer;
+    }
+    if signs.len() < count {
+        return SurfaceAnswer::ShortBuffer;
+    }
+    if !is_grid(n, grid) {
+        return SurfaceAnswer::NoGrid;
+    }
+    if !signs_fit(n, grid, signs) {
+        return SurfaceAnswer::SignsMisfit;
+    }
+    list_quads(n, grid, signs, list)
+}
+
+// The call surface: writes four cell numbers a quad and returns the number of quads. Entries after the last quad keep their contents.
+pub fn surface(level: u32, grid: &[u8], signs: &[u8], list: &mut [u16]) -> SurfaceAnswer
+    ensures { λ r. ⌜ told r (now (list .exit)) ≡ surfaceCall level (now (grid .entry)) (now (signs .entry)) (now (list .entry)) ⌝ }
+{
+    match Level::read(level) {
+        LevelRead::Known(l) => surface_at(l.cells(), grid, signs, list),
+        LevelRead::Unknown => SurfaceAnswer::UnknownLevel,
+    }
+}

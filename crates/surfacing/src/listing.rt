@@ -79,10 +79,24 @@ fn put_quad(n: usize, b: u8, inside: bool, e: Place, list: &mut [u16], at: usize
     let fourth = third - along;
     let first = second - along;
     if inside {
-        put_four(list, at, first as u16, second as u16, third as u16, fourth as u16);
+        put_four(
+            list,
+            at,
+            first as u16,
+            second as u16,
+            third as u16,
+            fourth as u16,
+        );
         return at + 4;
     }
-    put_four(list, at, first as u16, fourth as u16, third as u16, second as u16);
+    put_four(
+        list,
+        at,
+        first as u16,
+        fourth as u16,
+        third as u16,
+        second as u16,
+    );
     at + 4
 }
 
@@ -95,9 +109,39 @@ fn put_quads(n: usize, b: u8, inside: bool, q: Point, list: &mut [u16], at: usiz
     if b == 0 {
         return at;
     }
-    let on_x = put_quad(n, b, inside, Place { axis: Axis::X, at: q }, list, at);
-    let on_y = put_quad(n, b, inside, Place { axis: Axis::Y, at: q }, list, on_x);
-    put_quad(n, b, inside, Place { axis: Axis::Z, at: q }, list, on_y)
+    let on_x = put_quad(
+        n,
+        b,
+        inside,
+        Place {
+            axis: Axis::X,
+            at: q,
+        },
+        list,
+        at,
+    );
+    let on_y = put_quad(
+        n,
+        b,
+        inside,
+        Place {
+            axis: Axis::Y,
+            at: q,
+        },
+        list,
+        on_x,
+    );
+    put_quad(
+        n,
+        b,
+        inside,
+        Place {
+            axis: Axis::Z,
+            at: q,
+        },
+        list,
+        on_y,
+    )
 }
 
 // The number of marks of a byte.
@@ -124,7 +168,7 @@ pub fn count_quads(n: usize, grid: &[u8]) -> usize
 }
 
 // Writes the quads into a list that has room for them.
-fn write_quads(n: usize, grid: &[u8], signs: &[u8], list: &mut [u16])
+pub fn write_quads(n: usize, grid: &[u8], signs: &[u8], list: &mut [u16])
     requires { ⌜ (n ≤ 32) × Grids n (now grid) (now signs) × (4 * quadCount n (marks n (now grid)) ≤ length (now list)) ⌝ }
     ensures { λ _. ⌜ now (list .exit) ≡ quads n (marks n (now (grid .entry))) (inside n (now (signs .entry))) ++ drop (4 * quadCount n (marks n (now (grid .entry)))) (now (list .entry)) ⌝ }
 {

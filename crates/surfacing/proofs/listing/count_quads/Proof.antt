@@ -76,4 +76,3 @@ count-quads-spec =
     loop-less
     loop-again
     returns)
-

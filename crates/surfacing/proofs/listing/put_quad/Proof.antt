@@ -140,4 +140,3 @@ put-quad-spec =
     add-result-2
     same-length-2
     returns-3)
-

@@ -57,4 +57,3 @@ put-quads-spec =
     put-quad-requires-3
     same-length
     returns-2)
-

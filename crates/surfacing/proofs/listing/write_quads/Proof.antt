@@ -55,9 +55,10 @@ put-quads-requires c κs =
     let n = c .before .before .before .before .before .before .before .before .before .args .n in
     let g = c .before .before .before .before .before .before .before .before .before .args .grid .now in
     let s = c .before .before .before .before .before .before .before .before .before .args .signs .now in
-    let h : l .p < pointCount n = omega (arith, l .inv .0, c .before .before .before .loop-test .taken) in
-    ((c .before .before .before .before .before .before .before .before .before .pre .0, marks-inner-at n g (l .p) (l .q) (c .before .before .before .before .before .before .before .before .before .pre .1 .g-long) (c .before .before .before .before .before .before .before .before .before .pre .1 .grid) (l .inv .2) h),
-     rw (quads-byte n g s (l .p) (l .q) (c .before .before .before .before .before .before .before .before .before .pre .1) (l .inv .2) h) (quads-room n (marks n g) (inside n s) (l .p) (l .q) (l .inv .2) h (l .at) (l .list) (l .inv .4)))
+    let h : l .p < pointCount n = omega (arith, l .inv .0, c .before .before .before .loop-test .taken) in (
+      (c .before .before .before .before .before .before .before .before .before .pre .0, marks-inner-at n g (l .p) (l .q) (c .before .before .before .before .before .before .before .before .before .pre .1 .g-long) (c .before .before .before .before .before .before .before .before .before .pre .1 .grid) (l .inv .2) h),
+      rw (quads-byte n g s (l .p) (l .q) (c .before .before .before .before .before .before .before .before .before .pre .1) (l .inv .2) h) (quads-room n (marks n g) (inside n s) (l .p) (l .q) (l .inv .2) h (l .at) (l .list) (l .inv .4)),
+    )
 
 next-point-requires : tie.Need-next-point-requires Inv-loop μ-loop
 next-point-requires c κs =
@@ -112,4 +113,3 @@ write-quads-spec =
     loop-again
     same-length
     returns)
-

@@ -1,0 +1,51 @@
+-- `surfacing::surface` meets its contract: the call at the level's cells a side, or number 1. Assumes nothing.
+use borrow.Author.Needs.{needs}
+use mathlib.Core.Path.{ap, sym, _∙_}
+use Prim.Native.Nat.{ℕ}
+use Rattle.lattice.specs.declared.level.LevelRead.{LevelRead}
+use Rattle.lattice.proofs.LevelFacts.{cells-most}
+use Rattle.surfacing.specs.Call.{surfaceAt, surfaceRead}
+use Rattle.surfacing.proofs.surface.Statement.{statement}
+use Rattle.surfacing.proofs.surface.Tie as tie
+
+read-requires : tie.Need-read-requires
+read-requires c κs = search needs
+
+enum-known-l : tie.Need-enum-known-l
+enum-known-l c = search needs
+
+cells-requires : tie.Need-cells-requires
+cells-requires c κs = search needs
+
+surface-at-requires : tie.Need-surface-at-requires
+surface-at-requires c κs = rw (c .before .cells .ensures) (cells-most (c .before .before .before .l .given .0 .0))
+
+enum-told : tie.Need-enum-told
+enum-told c = search needs
+
+same-length : tie.Need-same-length
+same-length c = search needs
+
+returns : tie.Need-returns
+unfolding surfaceRead
+returns c =
+    c .before .before .surface-at .ensures
+    ∙ ap (λ (n : ℕ). surfaceAt n (c .before .before .before .before .before .before .before .before .before .before .before .before .args .grid .now) (c .before .before .before .before .before .before .before .before .before .before .before .before .args .signs .now) (c .before .before .before .before .before .before .before .before .before .before .before .before .args .list .now)) (c .before .before .before .before .cells .ensures)
+    ∙ ap (λ (v : LevelRead). surfaceRead v (c .before .before .before .before .before .before .before .before .before .before .before .before .args .grid .now) (c .before .before .before .before .before .before .before .before .before .before .before .before .args .signs .now) (c .before .before .before .before .before .before .before .before .before .before .before .before .args .list .now)) (sym (c .before .before .before .before .before .before .l .given .1) ∙ c .before .before .before .before .before .before .before .before .read .ensures)
+
+returns-2 : tie.Need-returns-2
+unfolding surfaceRead
+returns-2 c = ap (λ (v : LevelRead). surfaceRead v (c .before .before .before .before .before .before .args .grid .now) (c .before .before .before .before .before .before .args .signs .now) (c .before .before .before .before .before .before .args .list .now)) (sym (c .enum-told .given .1) ∙ c .before .before .read .ensures)
+
+pub surface-spec : {M : Type 1} → statement M
+surface-spec =
+    tie.close
+    (tie.spec
+    read-requires
+    enum-known-l
+    cells-requires
+    surface-at-requires
+    enum-told
+    same-length
+    returns
+    returns-2)

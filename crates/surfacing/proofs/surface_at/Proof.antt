@@ -1,0 +1,81 @@
+-- `surfacing::surface_at` meets its contract: each refusal by the tests on the way to it. Assumes nothing.
+use borrow.Author.Needs.{needs}
+use borrow.Author.Tests.{lt-ltb, le-ltb}
+use Prim.Native.Nat.{_≤_, _<_}
+use native.Mathlib.Omega.{arith}
+use lib.ListN.{length}
+use Rattle.rules.specs.Lattice.{pointCount}
+use Rattle.lattice.proofs.Tests.{fails, holds}
+use Rattle.surfacing.specs.Call.{surfaceAt}
+use Rattle.surfacing.proofs.surface_at.Statement.{statement}
+use Rattle.surfacing.proofs.surface_at.Tie as tie
+
+point-count-requires : tie.Need-point-count-requires
+point-count-requires c κs = search needs
+
+returns : tie.Need-returns
+unfolding surfaceAt
+returns c =
+    let g : length (c .before .before .before .before .before .args .grid .now) < pointCount (c .before .before .before .before .before .args .n) = omega (arith, c .before .point-count .ensures .0) in
+    simp (lt-ltb _ _ g)
+
+returns-2 : tie.Need-returns-2
+unfolding surfaceAt
+returns-2 c =
+    let g : pointCount (c .before .before .before .before .before .before .args .n) ≤ length (c .before .before .before .before .before .before .args .grid .now) = omega (arith, c .before .before .point-count .ensures .0) in
+    let s : length (c .before .before .before .before .before .before .args .signs .now) < pointCount (c .before .before .before .before .before .before .args .n) = omega (arith, c .before .before .point-count .ensures .0) in
+    simp (le-ltb _ _ g, lt-ltb _ _ s)
+
+is-grid-requires : tie.Need-is-grid-requires
+is-grid-requires c κs = search needs
+
+returns-3 : tie.Need-returns-3
+unfolding surfaceAt
+returns-3 c =
+    let g : pointCount (c .before .before .before .before .before .before .before .before .args .n) ≤ length (c .before .before .before .before .before .before .before .before .args .grid .now) = omega (arith, c .before .before .before .before .point-count .ensures .0) in
+    let s : pointCount (c .before .before .before .before .before .before .before .before .args .n) ≤ length (c .before .before .before .before .before .before .before .before .args .signs .now) = omega (arith, c .before .before .before .before .point-count .ensures .0) in
+    simp (le-ltb _ _ g, le-ltb _ _ s, fails (c .before .is-grid .ensures) (c .if3 .taken))
+
+signs-fit-requires : tie.Need-signs-fit-requires
+signs-fit-requires c κs =
+    let g : pointCount (c .before .before .before .before .before .before .before .before .args .n) ≤ length (c .before .before .before .before .before .before .before .before .args .grid .now) = omega (arith, c .before .before .before .before .point-count .ensures .0) in
+    let s : pointCount (c .before .before .before .before .before .before .before .before .args .n) ≤ length (c .before .before .before .before .before .before .before .before .args .signs .now) = omega (arith, c .before .before .before .before .point-count .ensures .0) in
+    (c .before .before .before .before .before .before .before .before .pre, record { g-long = g; s-long = s; grid = holds (c .before .is-grid .ensures) (c .if3 .left) })
+
+returns-4 : tie.Need-returns-4
+unfolding surfaceAt
+returns-4 c =
+    let g : pointCount (c .before .before .before .before .before .before .before .before .before .before .args .n) ≤ length (c .before .before .before .before .before .before .before .before .before .before .args .grid .now) = omega (arith, c .before .before .before .before .before .before .point-count .ensures .0) in
+    let s : pointCount (c .before .before .before .before .before .before .before .before .before .before .args .n) ≤ length (c .before .before .before .before .before .before .before .before .before .before .args .signs .now) = omega (arith, c .before .before .before .before .before .before .point-count .ensures .0) in
+    simp (le-ltb _ _ g, le-ltb _ _ s, holds (c .before .before .before .is-grid .ensures) (c .before .before .if3 .left), fails (c .before .signs-fit .ensures) (c .if4 .taken))
+
+list-quads-requires : tie.Need-list-quads-requires
+list-quads-requires c κs =
+    let g : pointCount (c .before .before .before .before .before .before .before .before .before .before .before .args .n) ≤ length (c .before .before .before .before .before .before .before .before .before .before .before .args .grid .now) = omega (arith, c .before .before .before .before .before .before .before .point-count .ensures .0) in
+    let s : pointCount (c .before .before .before .before .before .before .before .before .before .before .before .args .n) ≤ length (c .before .before .before .before .before .before .before .before .before .before .before .args .signs .now) = omega (arith, c .before .before .before .before .before .before .before .point-count .ensures .0) in
+    (c .before .before .before .before .before .before .before .before .before .before .before .pre, record { g-long = g; s-long = s; grid = holds (c .before .before .before .before .is-grid .ensures) (c .before .before .before .if3 .left) })
+
+same-length : tie.Need-same-length
+same-length c = search needs
+
+returns-5 : tie.Need-returns-5
+unfolding surfaceAt
+returns-5 c =
+    let g : pointCount (c .before .before .before .before .before .before .before .before .before .before .before .before .before .before .args .n) ≤ length (c .before .before .before .before .before .before .before .before .before .before .before .before .before .before .args .grid .now) = omega (arith, c .before .before .before .before .before .before .before .before .before .before .point-count .ensures .0, c .before .before .before .before .before .before .before .before .before .if1 .left) in
+    let s : pointCount (c .before .before .before .before .before .before .before .before .before .before .before .before .before .before .args .n) ≤ length (c .before .before .before .before .before .before .before .before .before .before .before .before .before .before .args .signs .now) = omega (arith, c .before .before .before .before .before .before .before .before .before .before .point-count .ensures .0, c .before .before .before .before .before .before .before .before .if2 .left) in
+    simp (le-ltb _ _ g, le-ltb _ _ s, holds (c .before .before .before .before .before .before .before .is-grid .ensures) (c .before .before .before .before .before .before .if3 .left), holds (c .before .before .before .before .before .signs-fit .ensures) (c .before .before .before .before .if4 .left)) (c .before .before .list-quads .ensures)
+
+pub surface-at-spec : {M : Type 1} → statement M
+surface-at-spec =
+    tie.close
+    (tie.spec
+    point-count-requires
+    returns
+    returns-2
+    is-grid-requires
+    returns-3
+    signs-fit-requires
+    returns-4
+    list-quads-requires
+    same-length
+    returns-5)
