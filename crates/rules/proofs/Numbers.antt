@@ -43,7 +43,7 @@ module _ {A B : Type 0} where
       ∙ getD-append-add (g a) (each g l) (x + k * y) d
       ∙ each-at g k h l y x c d (le-of-suc-le-suc p) q
 
-  getD-map< : (f : A → B) (l : List A) (i : ℕ) (c : A) (d : B) → i < length l → getD (map f l) i d ≡ f (getD l i c)
+  pub getD-map< : (f : A → B) (l : List A) (i : ℕ) (c : A) (d : B) → i < length l → getD (map f l) i d ≡ f (getD l i c)
   getD-map< f [] i c d h = absurd (not-suc-le-zero h)
   getD-map< f (a ∷ l) zero c d h = refl
   getD-map< f (a ∷ l) (suc i) c d h = getD-map< f l i c d (le-of-suc-le-suc h)
