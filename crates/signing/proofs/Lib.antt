@@ -1,3 +1,4 @@
 pub mod Differ
 pub mod Rows
 pub mod Written
+pub mod Only

@@ -13,11 +13,10 @@ use Rattle.rules.specs.Lattice.{coord, down, cellNumber, pointCount, whole, inn
 use Rattle.rules.specs.Grid.{has, isGrid}
 use Rattle.rules.specs.Quads.{next, quad}
 use Rattle.rules.proofs.Boxes.{inBox→}
-use Rattle.rules.proofs.Numbers.{number-below}
+use Rattle.rules.proofs.Numbers.{number-below, marks-inner}
 use Rattle.lattice.specs.Cells.{Cell}
 use Rattle.lattice.proofs.Points.{At, at-grid}
 use Rattle.lattice.proofs.GridFacts.{grid-marks}
-use Rattle.signing.proofs.Rows.{marks-inner}
 use Rattle.surfacing.specs.Listing.{cellStep, MarksInner}
 
 -- an inner edge has cells on both sides of it, on both axes across it

@@ -1,0 +1,128 @@
+-- The bytes that sign writes are the only ones that sign the grid's marks. Assumes nothing.
+use mathlib.Core.Path.{_≡_, refl, sym, ap, ap₂, subst, _∙_}
+use mathlib.Core.Bool.{Bool, true, false, not, cond, _||_}
+use mathlib.Core.List.{List, [], _∷_, map, map-map, _++_}
+use Prim.Native.Nat.{ℕ, zero, suc, _≤_, _<_}
+use native.Mathlib.Omega.{arith}
+use lib.Dec.{eqb, ltb}
+use lib.ListN.{length, getD, take, drop, List·getD-append}
+use lib.Seq.{take-at, drop-at}
+use Rattle.rules.specs.declared.Axis.{Axis}
+use Rattle.rules.specs.declared.Axis.the-variants.{X, Y, Z}
+use Rattle.rules.specs.declared.Point.{Point}
+use Rattle.rules.specs.Lists.{_⊕_, All, upto}
+use Rattle.rules.specs.Lattice.{up, origin, pointNumber, pointCount, points, OfGrid, Set}
+use Rattle.rules.specs.Grid.{value, marks, isGrid}
+use Rattle.rules.specs.Rims.{evenFaces}
+use Rattle.rules.specs.Signs.{sign, Consistent, signBytes}
+use Rattle.rules.proofs.Numbers.{points-at, points-length, number-below, rising, take-upto, getD-map<, marks-inner}
+use Rattle.rules.proofs.PointOf.{all-points}
+use Rattle.rules.proofs.OddList.{even-all}
+use Rattle.rules.proofs.Signs.{sign-consistent, sign-unique}
+use Rattle.lattice.specs.declared.level.Level.{Level}
+use Rattle.lattice.specs.declared.level.LevelRead.{LevelRead}
+use Rattle.lattice.specs.declared.level.LevelRead.the-variants.{Known, Unknown}
+use Rattle.lattice.specs.Levels.{levelOf, cellsOf}
+use Rattle.signing.specs.SignBytes.{signByte, inside, Signed}
+use Rattle.signing.specs.Call.{Outcome, refused, signAt, signRead, signCall}
+use Rattle.signing.proofs.Rows.{signs-length}
+
+-- the point below an edge's upper end
+below-up : (n : ℕ) (a : Axis) (p : Point) → OfGrid n (up a p) → OfGrid n p
+below-up n X p h = omega arith
+below-up n Y p h = omega arith
+below-up n Z p h = omega arith
+
+module _ (n : ℕ) (E : Set) where
+  -- the byte of a point, whatever stands behind the signs
+  pub sign-byte : (r : List ℕ) (p : Point) → OfGrid n p → signByte n (signBytes n E ++ r) p ≡ value (sign E p) 1
+  unfolding signBytes
+  sign-byte r p h =
+      let b = number-below (suc n) (p .i) (p .j) (p .k) (omega arith) (omega arith) (omega arith) in
+      let l = signs-length n E in
+      List·getD-append (signBytes n E) r 0 (pointNumber n p) (omega arith)
+      ∙ getD-map< (λ q. value (sign E q) 1) (points (suc n)) (pointNumber n p) p 0 (let m = points-length (suc n) in omega arith)
+      ∙ ap (λ (q : Point). value (sign E q) 1) (points-at (suc n) p p (omega arith) (omega arith) (omega arith))
+
+  value-one : (b : Bool) → eqb (value b 1) 1 ≡ b
+  value-one true = refl
+  value-one false = refl
+
+  value-small : (b : Bool) → value b 1 ≤ 1
+  value-small true = omega arith
+  value-small false = omega arith
+
+  pub sign-inside : (r : List ℕ) (p : Point) → OfGrid n p → inside n (signBytes n E ++ r) p ≡ sign E p
+  sign-inside r p h = ap (λ (k : ℕ). eqb k 1) (sign-byte r p h) ∙ value-one (sign E p)
+
+  -- where no face is odd the bytes sign the marks
+  pub signs-signed : Consistent n E (sign E) → (r : List ℕ) → Signed n E (signBytes n E ++ r)
+  signs-signed c r =
+      record {
+        small = λ p h. subst (λ (k : ℕ). k ≤ 1) (sym (sign-byte r p h)) (value-small (sign E p));
+        consistent = record {
+          outside = sign-inside r origin (omega arith) ∙ c .outside;
+          differ = λ a p h. ap₂ _⊕_ (sign-inside r p (below-up n a p h)) (sign-inside r (up a p) h) ∙ c .differ a p h;
+        };
+      }
+
+  map-same : (f g : Point → ℕ) (l : List Point) → All (λ p. f p ≡ g p) l → map f l ≡ map g l
+  map-same f g [] h = refl
+  map-same f g (x ∷ l) h = ap₂ _∷_ (h .0) (map-same f g l (h .1))
+
+  one-value : (k : ℕ) (b : Bool) → k ≤ 1 → eqb k 1 ≡ b → k ≡ value b 1
+  one-value zero b h e = ap (λ (c : Bool). value c 1) e
+  one-value (suc zero) b h e = ap (λ (c : Bool). value c 1) e
+  one-value (suc (suc k)) b h e = absurd (omega arith)
+
+  -- and no others do
+  pub signs-only : (s : List ℕ) → pointCount n ≤ length s → Signed n E s → take (pointCount n) s ≡ signBytes n E
+  unfolding signBytes
+  signs-only s long k =
+      sym (take-upto s (pointCount n) long)
+      ∙ ap (map (λ i. getD s i 0)) (sym (rising n))
+      ∙ map-map (λ i. getD s i 0) (pointNumber n) (points (suc n))
+      ∙ map-same _ _ (points (suc n)) (all-points _ (suc n) (λ p x y z. let h : OfGrid n p = omega arith in one-value (signByte n s p) (sign E p) (k .small p h) (sign-unique n E (inside n s) (k .consistent) p h)))
+
+-- ---- of the call
+-- what a call that is done leaves: the only bytes that sign the marks of the grid, and what was behind them
+pub record SignedOnly (level : ℕ) (g s after : List ℕ) : Type 0 where
+  pub l : Level
+  pub known : levelOf level ≡ Known l
+  pub signed : Signed (cellsOf l) (marks (cellsOf l) g) after
+  pub only : (t : List ℕ) → pointCount (cellsOf l) ≤ length t → Signed (cellsOf l) (marks (cellsOf l) g) t → take (pointCount (cellsOf l)) t ≡ take (pointCount (cellsOf l)) after
+  pub behind : drop (pointCount (cellsOf l)) after ≡ drop (pointCount (cellsOf l)) s
+
+-- number 0 passes every line of the table
+passed : (s : List ℕ) (a b c : Bool) (o : Outcome) → cond a (refused 2 s) (cond (not b) (refused 5 s) (cond (not c) (refused 6 s) o)) .number ≡ 0 →
+    (c ≡ true) × (cond a (refused 2 s) (cond (not b) (refused 5 s) (cond (not c) (refused 6 s) o)) ≡ o)
+passed s true b c o e = absurd (omega arith)
+passed s false false c o e = absurd (omega arith)
+passed s false true false o e = absurd (omega arith)
+passed s false true true o e = (refl, refl)
+
+done-at : (n : ℕ) (g s : List ℕ) → signAt n g s .number ≡ 0 → (evenFaces n (marks n g) ≡ true) × (signAt n g s .signs ≡ signBytes n (marks n g) ++ drop (pointCount n) s)
+unfolding signAt
+done-at n g s e =
+    let t = passed s (ltb (length g) (pointCount n) || ltb (length s) (pointCount n)) (isGrid n g) (evenFaces n (marks n g)) (record { number = 0; signs = signBytes n (marks n g) ++ drop (pointCount n) s }) e in
+    (t .0, ap (λ (o : Outcome). o .signs) (t .1))
+
+pub sign-done : (level : ℕ) (g s : List ℕ) → signCall level g s .number ≡ 0 → SignedOnly level g s (signCall level g s .signs)
+unfolding signRead
+sign-done level g s e = go (levelOf level) refl e
+  where
+    go : (v : LevelRead) → levelOf level ≡ v → signRead v g s .number ≡ 0 → SignedOnly level g s (signRead v g s .signs)
+    go Unknown k d = absurd (omega arith)
+    go (Known l) k d =
+        let n = cellsOf l in
+        let E = marks n g in
+        let t = done-at n g s d in
+        let even = even-all n E (marks-inner n g) .0 (t .0) in
+        let m = signs-length n E in
+        subst (SignedOnly level g s) (sym (t .1)) (record {
+          l = l;
+          known = k;
+          signed = signs-signed n E (sign-consistent n E (λ a p h. even a p)) (drop (pointCount n) s);
+          only = λ r long w. signs-only n E r long w ∙ sym (take-at (signBytes n E) (drop (pointCount n) s) (pointCount n) m);
+          behind = drop-at (signBytes n E) (drop (pointCount n) s) (pointCount n) m;
+        })
