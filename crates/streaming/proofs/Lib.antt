@@ -1,2 +1,4 @@
 pub mod Decimal
+pub mod Grids
+pub mod Numbers
 pub mod Texts

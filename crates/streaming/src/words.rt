@@ -1,8 +1,8 @@
 // Numbers in the bytes of a stream.
 ghost use mathlib.Core.Path.{_≡_};
 ghost use Prim.Native.Nat.{_≤_, _<_, _+_};
-ghost use lib.ListN.{length};
-ghost use Rattle.streaming.specs.Words.{wordAt, signedOf};
+ghost use lib.ListN.{length, drop};
+ghost use Rattle.streaming.specs.Words.{wordAt, signedOf, numbers};
 
 // A byte as a wider number.
 fn wide(x: u8) -> u32
@@ -30,9 +30,23 @@ fn word_at(s: &[u8], at: usize) -> u32
 }
 
 // Reads the little-endian i32 that begins at a place.
-pub fn i32_at(s: &[u8], at: usize) -> i32
+fn i32_at(s: &[u8], at: usize) -> i32
     requires { ⌜ at + 4 ≤ length (now s) ⌝ }
     ensures { λ r. ⌜ r ≡ signedOf (wordAt (now (s .entry)) at) ⌝ }
 {
     signed(word_at(s, at))
+}
+
+// Reads the nine little-endian i32 that begin at a place.
+pub fn numbers_at(s: &[u8], at: usize) -> [i32; 9]
+    requires { ⌜ at + 36 ≤ length (now s) ⌝ }
+    ensures { λ r. ⌜ r ≡ numbers (drop at (now (s .entry))) ⌝ }
+{
+    let mut c = [0i32; 9];
+    let mut k: usize = 0;
+    while k < 9 {
+        c[k] = i32_at(s, at + 4 * k);
+        k += 1;
+    }
+    c
 }

@@ -1,0 +1,78 @@
+/* Uses the repair stage as a slicer would: repairs a model, then says for each layer how much of it is cured.
+
+   build:  rt staticlib stage
+           cc -O2 -Wall -I include -o target/slicer examples/slicer.c target/staticlib/libstage.a
+   run:    target/slicer models/lampshade.bin
+
+   The file is a stream as docs/FORMATS.md describes it: one level byte, then nine little-endian 32-bit numbers a triangle. */
+#include <stdio.h>
+#include <stdlib.h>
+
+#include "omphirun.h"
+
+enum { MOST_POINTS = OMPHIRUN_POINTS(5) };
+
+static uint8_t grid[MOST_POINTS], work[MOST_POINTS], signs[MOST_POINTS];
+
+/* Stops at a refusal. */
+static void done(const char *call, uint32_t number)
+{
+    if (number == 0)
+        return;
+    printf("%s refused by %u\n", call, (unsigned)number);
+    exit(1);
+}
+
+static int32_t number_of(const uint8_t *b)
+{
+    return (int32_t)((uint32_t)b[0] | (uint32_t)b[1] << 8 | (uint32_t)b[2] << 16 | (uint32_t)b[3] << 24);
+}
+
+int main(int words, char **word)
+{
+    FILE *model = words == 2 ? fopen(word[1], "rb") : NULL;
+    int level = model ? fgetc(model) : EOF;
+    if (level == EOF) {
+        fprintf(stderr, "usage: slicer FILE\n");
+        return 2;
+    }
+
+    /* The triangles go into the grid one by one; none has to be kept. */
+    uint8_t record[36];
+    size_t got;
+    done("open", omphirun_open((uint32_t)level, grid, sizeof grid));
+    while ((got = fread(record, 1, sizeof record, model)) > 0) {
+        int32_t triangle[9];
+        for (size_t c = 0; c < got / 4; c++)
+            triangle[c] = number_of(record + 4 * c);
+        done("mark", omphirun_mark((uint32_t)level, grid, sizeof grid, triangle, got / 4));
+    }
+    fclose(model);
+
+    uint32_t rims, flips, quads;
+    done("patch", omphirun_patch((uint32_t)level, grid, sizeof grid, work, sizeof work, &rims, &flips));
+    done("sign", omphirun_sign((uint32_t)level, grid, sizeof grid, signs, sizeof signs));
+    printf("%u rims closed by %u flips\n", (unsigned)rims, (unsigned)flips);
+
+    /* A layer of points is a run of (n+1)^2 signs. */
+    size_t row = OMPHIRUN_CELLS(level) + 1, layer = row * row;
+    for (size_t k = 0; k < row; k++) {
+        unsigned cured = 0;
+        for (size_t p = k * layer; p < (k + 1) * layer; p++)
+            cured += signs[p];
+        if (cured > 0)
+            printf("layer %zu: %u points\n", k, cured);
+    }
+
+    /* There is a quad for each marked edge, so three for each point are always enough. */
+    size_t room = 4 * 3 * MOST_POINTS;
+    uint16_t *list = malloc(room * sizeof *list);
+    if (list == NULL)
+        return 2;
+    done("surface", omphirun_surface((uint32_t)level, grid, sizeof grid, signs, sizeof signs, list, room, &quads));
+    printf("%u quads\n", (unsigned)quads);
+    if (quads > 0)
+        printf("the first joins cells %u %u %u %u\n", list[0], list[1], list[2], list[3]);
+    free(list);
+    return 0;
+}

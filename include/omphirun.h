@@ -1,0 +1,81 @@
+/* The repair stage for a slicer: five calls on memory that the caller lends.
+
+   Link with libstage.a, which `rt staticlib stage` writes to target/staticlib/ (x86-64). examples/slicer.c shows the calls in
+   their order: open, mark for each triangle, patch, sign, surface.
+
+   Measures. At level L, 2 to 5, the grid has n = 2^L cells a side and P = (n+1)^3 points. Lattice coordinates run from 0 to
+   2^20; a cell's side is S = 2^(20-L), and point (i,j,k) lies at (iS, jS, kS). A point's number is i + (n+1)(j + (n+1)k), a
+   cell's i + n(j + nk). A grid holds one byte a point: 1 for a marked x edge from that point on, 2 for y, 4 for z, added. A mark
+   stands only on an inner edge, one whose two crosswise coordinates lie in 1..n-1; a byte above 7 or a mark elsewhere makes the
+   buffer no grid. Signs are one byte a point, 0 outside and 1 inside.
+
+   Every call returns 0 when it is done, or else the lowest number of this table that applies; each number is given exactly when
+   its line says, for any contents of the buffers.
+
+     1  the level is not 2 to 5                                    all calls
+     2  a grid, work or sign buffer is shorter than P              all calls
+     3  the triangle is not nine numbers, fewer or more            mark
+     4  a coordinate lies outside S to 2^20 - S                    mark
+     5  the buffer is no grid                                      all calls but open
+     6  some face of a cell has an odd number of marked edges      sign
+     7  a sign above 1, point (0,0,0) inside, an edge whose ends
+        differ in sign and that has no mark, or one with a mark
+        whose ends do not differ                                   surface
+     8  the list is shorter than four times the quads              surface
+
+   A refusal changes no buffer and sets every count to 0. Grid, work and sign buffers may be longer than P, and the list longer
+   than it has to be: what lies behind is neither read nor changed. There is no state between calls: what they need is in the
+   buffers, and threads may call at the same time with buffers of their own.
+
+   What the caller owes: each pointer is valid for as many elements as its length says, and no buffer or count of a call overlaps
+   another one that the call writes. Every other misuse is a refusal. Each promise here is a theorem about the code behind it. */
+#ifndef OMPHIRUN_H
+#define OMPHIRUN_H
+
+#include <stddef.h>
+#include <stdint.h>
+
+#ifdef __cplusplus
+extern "C" {
+#endif
+
+/* Cells a side, points and a cell's side at a level from 2 to 5. */
+#define OMPHIRUN_CELLS(level) (1u << (level))
+#define OMPHIRUN_POINTS(level) ((OMPHIRUN_CELLS(level) + 1) * (OMPHIRUN_CELLS(level) + 1) * (OMPHIRUN_CELLS(level) + 1))
+#define OMPHIRUN_SIDE(level) (1 << (20 - (level)))
+
+/* Open. The first P bytes of the grid become 0, whatever they held: a grid without marks.
+   Refusals: 1, 2. */
+uint32_t omphirun_open(uint32_t level, uint8_t *grid, size_t grid_len);
+
+/* Mark. The triangle is nine lattice coordinates, Ax Ay Az Bx By Bz Cx Cy Cz. The marks of all edges that it meets are added; none
+   is removed, and no other byte changes. An edge is met when none of thirteen axes separates it from the triangle; touching is
+   meeting. Triangles of no area are allowed. The order of triangles makes no difference, nor does marking one twice.
+   Refusals: 1, 2, 3, 4, 5. */
+uint32_t omphirun_mark(uint32_t level, uint8_t *grid, size_t grid_len, const int32_t *triangle, size_t triangle_len);
+
+/* Patch. Marks are added and taken away until every face of every cell has an even number of marked edges. The first P work bytes
+   are 0 afterwards, whatever they held. *rims is the number of rims, which are the faces with an odd number of marks, taken
+   together where they touch by a cell; *flips is the number of edges whose mark differs between entry and exit. No edge is altered
+   unless all four cells around it lie in the box of one rim.
+   Refusals: 1, 2, 5, with *rims and *flips 0. */
+uint32_t omphirun_patch(uint32_t level, uint8_t *grid, size_t grid_len, uint8_t *work, size_t work_len, uint32_t *rims,
+                        uint32_t *flips);
+
+/* Sign. The first P sign bytes become 1 inside and 0 outside, whatever they held: point (0,0,0) is outside, and two ends of an
+   edge differ exactly when the edge is marked. There is exactly one such assignment when no face is odd, as after patch.
+   Refusals: 1, 2, 5, 6. */
+uint32_t omphirun_sign(uint32_t level, const uint8_t *grid, size_t grid_len, uint8_t *signs, size_t signs_len);
+
+/* Surface. For each marked edge, by rising point number, x before y before z, one quad: the numbers of the four cells around the
+   edge, counterclockwise as seen from outside. *quads is their number, which is that of the marked edges; the first 4 * *quads
+   entries of the list are written, and those behind keep their contents.
+   Refusals: 1, 2, 5, 7, 8, with *quads 0. */
+uint32_t omphirun_surface(uint32_t level, const uint8_t *grid, size_t grid_len, const uint8_t *signs, size_t signs_len,
+                          uint16_t *list, size_t list_len, uint32_t *quads);
+
+#ifdef __cplusplus
+}
+#endif
+
+#endif
