@@ -104,15 +104,24 @@ all-steps P e i j f =
     (all-weaken _ _ (λ k h. f k (omega arith)) (upto (suc (min i j)) (max i j - min i j)) (all-upto (suc (min i j)) (max i j - min i j)))
 
 module _ (b : Box) (a : Axis) (m : ℕ) (c : Bounds (suc (coord a (b .lo))) (coord a (b .hi)) m) where
+  -- the edge that a step along the earlier, or the later, axis crosses
+  later-in : (u v : ℕ) → Bounds (suc (coord (earlier a) (b .lo))) (coord (earlier a) (b .hi)) u →
+      Bounds (coord (later a) (b .lo)) (coord (later a) (b .hi)) v → edgeIn b (later a) (pointAt a m u v) ≡ true
+  later-in u v h k =
+      let x = coord-own a m u v in let y = coord-earlier a m u v in let z = coord-later a m u v in
+      later← b a (pointAt a m u v) (omega arith)
+
+  earlier-in : (u v : ℕ) → Bounds (coord (earlier a) (b .lo)) (coord (earlier a) (b .hi)) u →
+      Bounds (suc (coord (later a) (b .lo))) (coord (later a) (b .hi)) v → edgeIn b (earlier a) (pointAt a m u v) ≡ true
+  earlier-in u v h k =
+      let x = coord-own a m u v in let y = coord-earlier a m u v in let z = coord-later a m u v in
+      earlier← b a (pointAt a m u v) (omega arith)
+
   path-in : (p q : Spot) → InRect b a p → InRect b a q → All (EdgeIn b) (path a m p q)
   path-in p q hp hq =
       all-append (EdgeIn b) (steps _ (p .u) (q .u)) (steps _ (p .v) (q .v))
-      (all-steps (EdgeIn b) _ (p .u) (q .u)
-      (λ i k. let x = coord-own a m i (p .v) in let y = coord-earlier a m i (p .v) in let z = coord-later a m i (p .v) in
-      later← b a (pointAt a m i (p .v)) (omega arith)))
-      (all-steps (EdgeIn b) _ (p .v) (q .v)
-      (λ i k. let x = coord-own a m (q .u) i in let y = coord-earlier a m (q .u) i in let z = coord-later a m (q .u) i in
-      earlier← b a (pointAt a m (q .u) i) (omega arith)))
+      (all-steps (EdgeIn b) _ (p .u) (q .u) (λ i k. later-in i _ (omega arith) (omega arith)))
+      (all-steps (EdgeIn b) _ (p .v) (q .v) (λ i k. earlier-in _ i (omega arith) (omega arith)))
 
   paths-in : (l : List Spot) → All (InRect b a) l → All (EdgeIn b) (paths a m l)
   paths-in [] h = tt

@@ -75,6 +75,18 @@ cross-later a m w i u v =
     ∙ rw (up-later a m u v, samePoint-pointAt a m w (suc i) u v, samePoint-pointAt a m w (suc i) u (suc v), eqb·suc-suc i v)
     (⊕-comm (eqb w u && eqb (suc i) v) (eqb w u && eqb i v))
 
+-- a leg along the earlier axis changes the faces at its two ends, and so does one along the later
+earlier-leg : (a : Axis) (m w i j u v : ℕ) →
+    oddFace (setOf (steps (λ k. record { axis = later a; at = pointAt a m k w }) i j)) a (pointAt a m u v)
+    ≡ (eqb i u && eqb w v) ⊕ (eqb j u && eqb w v)
+earlier-leg a m w i j u v = steps-ends _ (λ k. eqb k u && eqb w v) a (pointAt a m u v) (λ k. cross-earlier a m w k u v) i j
+
+later-leg : (a : Axis) (m w i j u v : ℕ) →
+    oddFace (setOf (steps (λ k. record { axis = earlier a; at = pointAt a m w k }) i j)) a (pointAt a m u v)
+    ≡ (eqb w u && eqb i v) ⊕ (eqb w u && eqb j v)
+later-leg a m w i j u v = steps-ends _ (λ k. eqb w u && eqb k v) a (pointAt a m u v) (λ k. cross-later a m w k u v) i j
+
+-- the two faces are one
 abbrev pub sameSpot : Spot → Spot → Bool
 sameSpot p q = eqb (p .u) (q .u) && eqb (p .v) (q .v)
 
@@ -83,13 +95,8 @@ pub path-ends : (a : Axis) (m : ℕ) (p q : Spot) (u v : ℕ) →
     oddFace (setOf (path a m p q)) a (pointAt a m u v) ≡ sameSpot p (record { u = u; v = v }) ⊕ sameSpot q (record { u = u; v = v })
 path-ends a m p q u v =
     oddFace-append (steps _ (p .u) (q .u)) (steps _ (p .v) (q .v)) a (pointAt a m u v)
-    ∙ ap₂ _⊕_
-    (steps-ends _ (λ i. eqb i u && eqb (p .v) v) a (pointAt a m u v) (λ i. cross-earlier a m (p .v) i u v) (p .u) (q .u))
-    (steps-ends _ (λ i. eqb (q .u) u && eqb i v) a (pointAt a m u v) (λ i. cross-later a m (q .u) i u v) (p .v) (q .v))
-    ∙ middle-out (eqb (p .u) u && eqb (p .v) v) (eqb (q .u) u && eqb (p .v) v) (eqb (q .u) u && eqb (q .v) v)
-  where
-    middle-out : (x y z : Bool) → (x ⊕ y) ⊕ (y ⊕ z) ≡ x ⊕ z
-    middle-out x y z = simp xors
+    ∙ ap₂ _⊕_ (earlier-leg a m _ (p .u) (q .u) u v) (later-leg a m _ (p .v) (q .v) u v)
+    ∙ simp xors
 
 -- an even number
 abbrev pub oddLen : List Spot → Bool

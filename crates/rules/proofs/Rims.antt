@@ -193,7 +193,8 @@ rim-even p (r ∷ rs) h e = go (touch p r) refl h (rim-even p rs)
         All (λ s. parity (ofCell p) s ≡ false) (r ∷ rs)
     go true q i k =
         let n = none-touch p rs (omega arith) in (
-          sym (⊕-false (parity (ofCell p) r)) ∙ ap (λ (x : Bool). parity (ofCell p) r ⊕ x) (sym (parity-all (λ s. parity (ofCell p) s) rs n))
+          sym (⊕-false (parity (ofCell p) r))
+              ∙ ap (λ (x : Bool). parity (ofCell p) r ⊕ x) (sym (parity-all (λ s. parity (ofCell p) s) rs n))
               ∙ e,
           n,
         )
