@@ -31,7 +31,7 @@ inner→ n Y p e = let b = inBox→ (whole n) true false true p e in omega arith
 inner→ n Z p e = let b = inBox→ (whole n) true true false p e in omega arith
 
 -- the cell below
-pred-pos : (k : ℕ) → 0 < k → suc (pred k) ≡ k
+pub pred-pos : (k : ℕ) → 0 < k → suc (pred k) ≡ k
 pred-pos zero h = omega arith
 pred-pos (suc k) h = omega arith
 

@@ -1,3 +1,5 @@
 pub mod Fit
+pub mod Misfit
 pub mod Listing
 pub mod Call
+pub mod Turn

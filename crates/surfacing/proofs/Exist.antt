@@ -1,0 +1,54 @@
+-- Every quad's cells exist. Assumes nothing.
+use mathlib.Core.Path.{_≡_}
+use mathlib.Core.Bool.{Bool, true, false}
+use mathlib.Core.List.{List, [], _∷_}
+use Prim.Native.Nat.{ℕ, zero, suc, pred, _*_, _≤_, _<_}
+use native.Mathlib.Omega.{arith}
+use Rattle.rules.specs.declared.Axis.{Axis}
+use Rattle.rules.specs.declared.Axis.the-variants.{X, Y, Z}
+use Rattle.rules.specs.declared.Point.{Point}
+use Rattle.rules.specs.declared.Place.{Place}
+use Rattle.rules.specs.Lists.{All, keep}
+use Rattle.rules.specs.Lattice.{down, cellNumber, places, isIn}
+use Rattle.rules.specs.Grid.{marks}
+use Rattle.rules.specs.Quads.{next, quadCells, quad, quads}
+use Rattle.rules.proofs.Lists.{all-weaken, all-each, all-kept}
+use Rattle.rules.proofs.Numbers.{marks-inner}
+use Rattle.lattice.specs.Cells.{Cell}
+use Rattle.surfacing.proofs.Around.{inner→, cell-below, cube-most}
+
+less : (k : ℕ) → pred k ≤ k
+less zero = omega arith
+less (suc k) = omega arith
+
+-- the cell below a cell
+down-cell : (n : ℕ) (b : Axis) (c : Point) → Cell n c → Cell n (down b c)
+down-cell n X c h = let e = less (c .i) in omega arith
+down-cell n Y c h = let e = less (c .j) in omega arith
+down-cell n Z c h = let e = less (c .k) in omega arith
+
+cells-exist : (n : ℕ) (s : Point → Bool) (e : Place) → Cell n (e .at) → All (Cell n) (quadCells s e)
+cells-exist n s e h =
+    let b = next (e .axis) in
+    let c = next b in
+    go (s (e .at)) (down-cell n b (down c (e .at)) (down-cell n c (e .at) h)) (down-cell n c (e .at) h) (down-cell n b (e .at) h)
+  where
+    go : (t : Bool) → Cell n (down (next (e .axis)) (down (next (next (e .axis))) (e .at))) → Cell n (down (next (next (e .axis))) (e .at)) → Cell n (down (next (e .axis)) (e .at)) → All (Cell n) (quadCells (λ q. t) e)
+    go true x y z = (x, (y, (h, (z, tt))))
+    go false x y z = (x, (z, (h, (y, tt))))
+
+-- the four cells of a marked edge of a grid are cells of the grid
+pub quad-cells : (n : ℕ) (g : List ℕ) (s : Point → Bool) (e : Place) → isIn (marks n g) e ≡ true → All (Cell n) (quadCells s e)
+quad-cells n g s e m = cells-exist n s e (inner→ n (e .axis) (e .at) (marks-inner n g (e .axis) (e .at) m) .cell)
+
+-- every number in the list is that of a cell, below n^3
+pub quads-exist : (n : ℕ) (g : List ℕ) (s : Point → Bool) → All (λ k. k < n * n * n) (quads n (marks n g) s)
+unfolding quads
+quads-exist n g s =
+    all-each _ (quad n s) (keep (isIn (marks n g)) (places (suc n))) (all-weaken _ _ (λ e m.
+    all-each _ (λ c. cellNumber n c ∷ []) (quadCells s e) (all-weaken (Cell n) _ (λ c h. (cell-below n c h, tt)) (quadCells s e) (quad-cells n g s e m)))
+    (keep (isIn (marks n g)) (places (suc n))) (all-kept (isIn (marks n g)) (places (suc n))))
+
+-- so that it fits a u16
+pub quads-fit : (n : ℕ) (g : List ℕ) (s : Point → Bool) → n ≤ 32 → All (λ k. k < 65536) (quads n (marks n g) s)
+quads-fit n g s h = let b = cube-most n h in all-weaken _ _ (λ k l. omega arith) (quads n (marks n g) s) (quads-exist n g s)
