@@ -24,7 +24,7 @@ use Rattle.lattice.specs.declared.level.LevelRead.{LevelRead}
 use Rattle.lattice.specs.declared.level.LevelRead.the-variants.{Known, Unknown}
 use Rattle.lattice.specs.Levels.{levelOf, cellsOf}
 use Rattle.signing.specs.SignBytes.{signByte, inside, Signed}
-use Rattle.signing.specs.Call.{Outcome, refused, signAt, signRead, signCall}
+use Rattle.signing.specs.Call.{Outcome, refused, signSized, signFor, signCall}
 use Rattle.signing.proofs.Rows.{signs-length}
 
 -- the point below an edge's upper end
@@ -101,17 +101,17 @@ passed s false false c o e = absurd (omega arith)
 passed s false true false o e = absurd (omega arith)
 passed s false true true o e = (refl, refl)
 
-done-at : (n : ℕ) (g s : List ℕ) → signAt n g s .number ≡ 0 → (evenFaces n (marks n g) ≡ true) × (signAt n g s .signs ≡ signBytes n (marks n g) ++ drop (pointCount n) s)
-unfolding signAt
+done-at : (n : ℕ) (g s : List ℕ) → signSized n g s .number ≡ 0 → (evenFaces n (marks n g) ≡ true) × (signSized n g s .signs ≡ signBytes n (marks n g) ++ drop (pointCount n) s)
+unfolding signSized
 done-at n g s e =
     let t = passed s (ltb (length g) (pointCount n) || ltb (length s) (pointCount n)) (isGrid n g) (evenFaces n (marks n g)) (record { number = 0; signs = signBytes n (marks n g) ++ drop (pointCount n) s }) e in
     (t .0, ap (λ (o : Outcome). o .signs) (t .1))
 
 pub sign-done : (level : ℕ) (g s : List ℕ) → signCall level g s .number ≡ 0 → SignedOnly level g s (signCall level g s .signs)
-unfolding signRead
+unfolding signFor
 sign-done level g s e = go (levelOf level) refl e
   where
-    go : (v : LevelRead) → levelOf level ≡ v → signRead v g s .number ≡ 0 → SignedOnly level g s (signRead v g s .signs)
+    go : (v : LevelRead) → levelOf level ≡ v → signFor v g s .number ≡ 0 → SignedOnly level g s (signFor v g s .signs)
     go Unknown k d = absurd (omega arith)
     go (Known l) k d =
         let n = cellsOf l in

@@ -26,12 +26,12 @@ use Rattle.rules.proofs.OddList.{even-all}
 use Rattle.lattice.proofs.GridFacts.{grid-marks}
 
 -- the sign byte of a point, by its number
-abbrev pub signAt : ℕ → Set → ℕ → ℕ
-signAt n E p = value (sign E (pointOf n p)) 1
+abbrev pub signOf : ℕ → Set → ℕ → ℕ
+signOf n E p = value (sign E (pointOf n p)) 1
 
-pub signs-by-number : (n : ℕ) (E : Set) → signBytes n E ≡ map (signAt n E) (upto 0 (pointCount n))
+pub signs-by-number : (n : ℕ) (E : Set) → signBytes n E ≡ map (signOf n E) (upto 0 (pointCount n))
 unfolding signBytes
-signs-by-number n E = over-points n (map (λ p. value (sign E p) 1)) (map (signAt n E)) (map-map _ (pointOf n))
+signs-by-number n E = over-points n (map (λ p. value (sign E p) 1)) (map (signOf n E)) (map-map _ (pointOf n))
 
 pub signs-length : (n : ℕ) (E : Set) → length (signBytes n E) ≡ pointCount n
 unfolding signBytes

@@ -17,12 +17,12 @@ ghost use Rattle.rules.specs.Lattice.{pointCount};
 ghost use Rattle.rules.specs.Grid.{value, has, marks, isGrid};
 ghost use Rattle.rules.specs.Rims.{evenFaces};
 ghost use Rattle.rules.specs.Signs.{signBytes};
-ghost use Rattle.signing.specs.Call.{told, signAt, signCall};
+ghost use Rattle.signing.specs.Call.{told, signSized, signCall};
 
 // What the call answers: done, or why not.
 pub enum SignAnswer {
     Done,
-    UnknownLevel,
+    BadLevel,
     ShortBuffer,
     NoGrid,
     OddFace,
@@ -47,7 +47,7 @@ fn across(inside: bool, b: u8) -> bool
 
 // Writes the signs of a grid that has no odd face. A grid has no mark on its outside: each row of points along x begins and ends
 // outside, so that one run over the x marks of all rows, one behind another, meets every sign.
-pub fn sign_points(n: usize, grid: &[u8], signs: &mut [u8])
+pub fn sign_grid(n: usize, grid: &[u8], signs: &mut [u8])
     requires { ⌜ (n ≤ 32) × (pointCount n ≤ length (now grid)) × (pointCount n ≤ length (now signs)) ⌝ }
     requires { ⌜ (isGrid n (now grid) ≡ true) × (evenFaces n (marks n (now grid)) ≡ true) ⌝ }
     ensures { λ _. ⌜ now (signs .exit) ≡ signBytes n (marks n (now (grid .entry))) ++ drop (pointCount n) (now (signs .entry)) ⌝ }
@@ -63,9 +63,9 @@ pub fn sign_points(n: usize, grid: &[u8], signs: &mut [u8])
 }
 
 // Gives each point of a grid of n cells a side its sign.
-fn sign_at(n: usize, grid: &[u8], signs: &mut [u8]) -> SignAnswer
+fn sign_sized(n: usize, grid: &[u8], signs: &mut [u8]) -> SignAnswer
     requires { ⌜ (1 ≤ n) × (n ≤ 32) ⌝ }
-    ensures { λ r. ⌜ told r (now (signs .exit)) ≡ signAt n (now (grid .entry)) (now (signs .entry)) ⌝ }
+    ensures { λ r. ⌜ told r (now (signs .exit)) ≡ signSized n (now (grid .entry)) (now (signs .entry)) ⌝ }
 {
     let count = point_count(n);
     if grid.len() < count {
@@ -80,7 +80,7 @@ fn sign_at(n: usize, grid: &[u8], signs: &mut [u8]) -> SignAnswer
     if !all_even(n, grid) {
         return SignAnswer::OddFace;
     }
-    sign_points(n, grid, signs);
+    sign_grid(n, grid, signs);
     SignAnswer::Done
 }
 
@@ -89,7 +89,7 @@ pub fn sign(level: u32, grid: &[u8], signs: &mut [u8]) -> SignAnswer
     ensures { λ r. ⌜ told r (now (signs .exit)) ≡ signCall level (now (grid .entry)) (now (signs .entry)) ⌝ }
 {
     match Level::read(level) {
-        LevelRead::Known(l) => sign_at(l.cells(), grid, signs),
-        LevelRead::Unknown => SignAnswer::UnknownLevel,
+        LevelRead::Known(l) => sign_sized(l.cells(), grid, signs),
+        LevelRead::Unknown => SignAnswer::BadLevel,
     }
 }

@@ -15,7 +15,7 @@ use Rattle.signing.specs.SignBytes.{inside}
 use Rattle.surfacing.specs.Fit.{signsFit}
 use Rattle.surfacing.specs.Listing.{quadCount}
 use Rattle.surfacing.specs.declared.SurfaceAnswer.{SurfaceAnswer}
-use Rattle.surfacing.specs.declared.SurfaceAnswer.the-variants.{Done, UnknownLevel, ShortBuffer, NoGrid, SignsMisfit, ShortList}
+use Rattle.surfacing.specs.declared.SurfaceAnswer.the-variants.{Done, BadLevel, ShortBuffer, NoGrid, SignsMisfit, ShortList}
 
 -- what a caller has of the call: the number, the number of quads, and the list afterwards
 pub record Outcome : Type 0 where
@@ -27,31 +27,32 @@ pub record Outcome : Type 0 where
 abbrev pub refused : ℕ → List ℕ → Outcome
 refused k l = record { number = k; quads = 0; list = l }
 
--- the number and the count of each answer
+-- the paper's number and count for each answer
 abbrev pub told : SurfaceAnswer → List ℕ → Outcome
 told (Done k) l = record { number = 0; quads = k; list = l }
-told UnknownLevel l = refused 1 l
+told BadLevel l = refused 1 l
 told ShortBuffer l = refused 2 l
 told NoGrid l = refused 5 l
 told SignsMisfit l = refused 7 l
 told ShortList l = refused 8 l
 
--- number 8 when the list is shorter than four times the quads; done: four cell numbers a quad, and entries after the last quad keep their contents
+-- 8: list shorter than four times the quads; done: four cell numbers a quad, and entries after the last quad keep their contents
 unfoldable pub listed : ℕ → Set → (Point → Bool) → List ℕ → Outcome
 listed n E s l =
     cond (ltb (length l) (4 * quadCount n E)) (refused 8 l)
     (record { number = 0; quads = quadCount n E; list = quads n E s ++ drop (4 * quadCount n E) l })
 
--- where several numbers apply the lowest is given
-unfoldable pub surfaceAt : ℕ → List ℕ → List ℕ → List ℕ → Outcome
-surfaceAt n g s l =
+-- 2: a grid or sign buffer shorter than P; 5: the buffer is no grid; 7: the signs do not fit; the lowest number is given
+unfoldable pub surfaceSized : ℕ → List ℕ → List ℕ → List ℕ → Outcome
+surfaceSized n g s l =
     cond (ltb (length g) (pointCount n) || ltb (length s) (pointCount n)) (refused 2 l)
     (cond (not (isGrid n g)) (refused 5 l) (cond (not (signsFit n (marks n g) s)) (refused 7 l) (listed n (marks n g) (inside n s) l)))
 
--- number 1 is given when the level is not 2 to 5
-unfoldable pub surfaceRead : LevelRead → List ℕ → List ℕ → List ℕ → Outcome
-surfaceRead Unknown g s l = refused 1 l
-surfaceRead (Known v) g s l = surfaceAt (cellsOf v) g s l
+-- 1: level not 2 to 5
+unfoldable pub surfaceFor : LevelRead → List ℕ → List ℕ → List ℕ → Outcome
+surfaceFor Unknown g s l = refused 1 l
+surfaceFor (Known v) g s l = surfaceSized (cellsOf v) g s l
 
+-- surface (level, grid, signs, list of u16)
 abbrev pub surfaceCall : ℕ → List ℕ → List ℕ → List ℕ → Outcome
-surfaceCall level g s l = surfaceRead (levelOf level) g s l
+surfaceCall level g s l = surfaceFor (levelOf level) g s l

@@ -14,12 +14,12 @@ ghost use Prim.Native.Nat.{_≤_};
 ghost use Rattle.rules.specs.Grid.{marks};
 ghost use Rattle.signing.specs.SignBytes.{inside};
 ghost use Rattle.surfacing.specs.Fit.{Grids};
-ghost use Rattle.surfacing.specs.Call.{told, listed, surfaceAt, surfaceCall};
+ghost use Rattle.surfacing.specs.Call.{told, listed, surfaceSized, surfaceCall};
 
 // What the call answers: done, with the number of quads, or why not.
 pub enum SurfaceAnswer {
     Done { quads: u32 },
-    UnknownLevel,
+    BadLevel,
     ShortBuffer,
     NoGrid,
     SignsMisfit,
@@ -42,9 +42,9 @@ pub fn list_quads(n: usize, grid: &[u8], signs: &[u8], list: &mut [u16]) -> Surf
 }
 
 // Lists the quads of a grid of n cells a side, if the signs fit it.
-fn surface_at(n: usize, grid: &[u8], signs: &[u8], list: &mut [u16]) -> SurfaceAnswer
+fn surface_sized(n: usize, grid: &[u8], signs: &[u8], list: &mut [u16]) -> SurfaceAnswer
     requires { ⌜ n ≤ 32 ⌝ }
-    ensures { λ r. ⌜ told r (now (list .exit)) ≡ surfaceAt n (now (grid .entry)) (now (signs .entry)) (now (list .entry)) ⌝ }
+    ensures { λ r. ⌜ told r (now (list .exit)) ≡ surfaceSized n (now (grid .entry)) (now (signs .entry)) (now (list .entry)) ⌝ }
 {
     let count = point_count(n);
     if grid.len() < count {
@@ -67,7 +67,7 @@ pub fn surface(level: u32, grid: &[u8], signs: &[u8], list: &mut [u16]) -> Surfa
     ensures { λ r. ⌜ told r (now (list .exit)) ≡ surfaceCall level (now (grid .entry)) (now (signs .entry)) (now (list .entry)) ⌝ }
 {
     match Level::read(level) {
-        LevelRead::Known(l) => surface_at(l.cells(), grid, signs, list),
-        LevelRead::Unknown => SurfaceAnswer::UnknownLevel,
+        LevelRead::Known(l) => surface_sized(l.cells(), grid, signs, list),
+        LevelRead::Unknown => SurfaceAnswer::BadLevel,
     }
 }

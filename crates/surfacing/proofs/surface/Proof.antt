@@ -4,7 +4,7 @@ use mathlib.Core.Path.{ap, sym, _∙_}
 use Prim.Native.Nat.{ℕ}
 use Rattle.lattice.specs.declared.level.LevelRead.{LevelRead}
 use Rattle.lattice.proofs.LevelFacts.{cells-most}
-use Rattle.surfacing.specs.Call.{surfaceAt, surfaceRead}
+use Rattle.surfacing.specs.Call.{surfaceSized, surfaceFor}
 use Rattle.surfacing.proofs.surface.Statement.{statement}
 use Rattle.surfacing.proofs.surface.Tie as tie
 
@@ -17,8 +17,8 @@ enum-known-l c = search needs
 cells-requires : tie.Need-cells-requires
 cells-requires c κs = search needs
 
-surface-at-requires : tie.Need-surface-at-requires
-surface-at-requires c κs = rw (c .before .cells .ensures) (cells-most (c .before .before .before .l .given .0 .0))
+surface-sized-requires : tie.Need-surface-sized-requires
+surface-sized-requires c κs = rw (c .before .cells .ensures) (cells-most (c .before .before .before .l .given .0 .0))
 
 enum-told : tie.Need-enum-told
 enum-told c = search needs
@@ -27,15 +27,15 @@ same-length : tie.Need-same-length
 same-length c = search needs
 
 returns : tie.Need-returns
-unfolding surfaceRead
+unfolding surfaceFor
 returns c =
-    c .before .before .surface-at .ensures
-    ∙ ap (λ (n : ℕ). surfaceAt n (c .before .before .before .before .before .before .before .before .before .before .before .before .args .grid .now) (c .before .before .before .before .before .before .before .before .before .before .before .before .args .signs .now) (c .before .before .before .before .before .before .before .before .before .before .before .before .args .list .now)) (c .before .before .before .before .cells .ensures)
-    ∙ ap (λ (v : LevelRead). surfaceRead v (c .before .before .before .before .before .before .before .before .before .before .before .before .args .grid .now) (c .before .before .before .before .before .before .before .before .before .before .before .before .args .signs .now) (c .before .before .before .before .before .before .before .before .before .before .before .before .args .list .now)) (sym (c .before .before .before .before .before .before .l .given .1) ∙ c .before .before .before .before .before .before .before .before .read .ensures)
+    c .before .before .surface-sized .ensures
+    ∙ ap (λ (n : ℕ). surfaceSized n (c .before .before .before .before .before .before .before .before .before .before .before .before .args .grid .now) (c .before .before .before .before .before .before .before .before .before .before .before .before .args .signs .now) (c .before .before .before .before .before .before .before .before .before .before .before .before .args .list .now)) (c .before .before .before .before .cells .ensures)
+    ∙ ap (λ (v : LevelRead). surfaceFor v (c .before .before .before .before .before .before .before .before .before .before .before .before .args .grid .now) (c .before .before .before .before .before .before .before .before .before .before .before .before .args .signs .now) (c .before .before .before .before .before .before .before .before .before .before .before .before .args .list .now)) (sym (c .before .before .before .before .before .before .l .given .1) ∙ c .before .before .before .before .before .before .before .before .read .ensures)
 
 returns-2 : tie.Need-returns-2
-unfolding surfaceRead
-returns-2 c = ap (λ (v : LevelRead). surfaceRead v (c .before .before .before .before .before .before .args .grid .now) (c .before .before .before .before .before .before .args .signs .now) (c .before .before .before .before .before .before .args .list .now)) (sym (c .enum-told .given .1) ∙ c .before .before .read .ensures)
+unfolding surfaceFor
+returns-2 c = ap (λ (v : LevelRead). surfaceFor v (c .before .before .before .before .before .before .args .grid .now) (c .before .before .before .before .before .before .args .signs .now) (c .before .before .before .before .before .before .args .list .now)) (sym (c .enum-told .given .1) ∙ c .before .before .read .ensures)
 
 pub surface-spec : {M : Type 1} → statement M
 surface-spec =
@@ -44,7 +44,7 @@ surface-spec =
     read-requires
     enum-known-l
     cells-requires
-    surface-at-requires
+    surface-sized-requires
     enum-told
     same-length
     returns

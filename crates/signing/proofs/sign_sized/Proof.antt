@@ -1,4 +1,4 @@
--- `signing::sign_at` meets its contract: each refusal by the tests on the way to it. Assumes nothing.
+-- `signing::sign_sized` meets its contract: each refusal by the tests on the way to it. Assumes nothing.
 use borrow.Author.Needs.{needs}
 use borrow.Author.Tests.{lt-ltb, le-ltb}
 use mathlib.Core.Path.{ap}
@@ -8,22 +8,22 @@ use native.Mathlib.Omega.{arith}
 use lib.ListN.{length}
 use Rattle.rules.specs.Lattice.{pointCount}
 use Rattle.lattice.proofs.Tests.{fails, holds}
-use Rattle.signing.specs.Call.{signAt, told}
+use Rattle.signing.specs.Call.{signSized, told}
 use Rattle.signing.specs.declared.SignAnswer.the-variants.{Done}
-use Rattle.signing.proofs.sign_at.Statement.{statement}
-use Rattle.signing.proofs.sign_at.Tie as tie
+use Rattle.signing.proofs.sign_sized.Statement.{statement}
+use Rattle.signing.proofs.sign_sized.Tie as tie
 
 point-count-requires : tie.Need-point-count-requires
 point-count-requires c κs = search needs
 
 returns : tie.Need-returns
-unfolding signAt
+unfolding signSized
 returns c =
     let g : length (c .before .before .before .before .args .grid .now) < pointCount (c .before .before .before .before .args .n) = omega (arith, c .before .point-count .ensures .0) in
     simp (lt-ltb _ _ g)
 
 returns-2 : tie.Need-returns-2
-unfolding signAt
+unfolding signSized
 returns-2 c =
     let g : pointCount (c .before .before .before .before .before .args .n) ≤ length (c .before .before .before .before .before .args .grid .now) = omega (arith, c .before .before .point-count .ensures .0) in
     let s : length (c .before .before .before .before .before .args .signs .now) < pointCount (c .before .before .before .before .before .args .n) = omega (arith, c .before .before .point-count .ensures .0) in
@@ -33,7 +33,7 @@ is-grid-requires : tie.Need-is-grid-requires
 is-grid-requires c κs = search needs
 
 returns-3 : tie.Need-returns-3
-unfolding signAt
+unfolding signSized
 returns-3 c =
     let g : pointCount (c .before .before .before .before .before .before .before .args .n) ≤ length (c .before .before .before .before .before .before .before .args .grid .now) = omega (arith, c .before .before .before .before .point-count .ensures .0) in
     let s : pointCount (c .before .before .before .before .before .before .before .args .n) ≤ length (c .before .before .before .before .before .before .before .args .signs .now) = omega (arith, c .before .before .before .before .point-count .ensures .0) in
@@ -44,14 +44,14 @@ all-even-requires c κs =
     (c .before .before .before .before .before .before .before .pre .0, c .before .before .before .before .before .before .before .pre .1, omega (arith, c .before .before .before .before .point-count .ensures .0), holds (c .before .is-grid .ensures) (c .if3 .left))
 
 returns-4 : tie.Need-returns-4
-unfolding signAt
+unfolding signSized
 returns-4 c =
     let g : pointCount (c .before .before .before .before .before .before .before .before .before .args .n) ≤ length (c .before .before .before .before .before .before .before .before .before .args .grid .now) = omega (arith, c .before .before .before .before .before .before .point-count .ensures .0) in
     let s : pointCount (c .before .before .before .before .before .before .before .before .before .args .n) ≤ length (c .before .before .before .before .before .before .before .before .before .args .signs .now) = omega (arith, c .before .before .before .before .before .before .point-count .ensures .0) in
     simp (le-ltb _ _ g, le-ltb _ _ s, holds (c .before .before .before .is-grid .ensures) (c .before .before .if3 .left), fails (c .before .all-even .ensures) (c .if4 .taken))
 
-sign-points-requires : tie.Need-sign-points-requires
-sign-points-requires c κs = (
+sign-grid-requires : tie.Need-sign-grid-requires
+sign-grid-requires c κs = (
   (c .before .before .before .before .before .before .before .before .before .before .pre .1, omega (arith, c .before .before .before .before .before .before .before .point-count .ensures .0), omega (arith, c .before .before .before .before .before .before .before .point-count .ensures .0)),
   (holds (c .before .before .before .before .is-grid .ensures) (c .before .before .before .if3 .left), holds (c .before .before .all-even .ensures) (c .before .if4 .left)),
 )
@@ -60,15 +60,15 @@ same-length : tie.Need-same-length
 same-length c = search needs
 
 returns-5 : tie.Need-returns-5
-unfolding signAt
+unfolding signSized
 returns-5 c =
     let g : pointCount (c .before .before .before .before .before .before .before .before .before .before .before .before .before .args .n) ≤ length (c .before .before .before .before .before .before .before .before .before .before .before .before .before .args .grid .now) = omega (arith, c .before .before .before .before .before .before .before .before .before .before .point-count .ensures .0, c .before .before .before .before .before .before .before .before .before .if1 .left) in
     let s : pointCount (c .before .before .before .before .before .before .before .before .before .before .before .before .before .args .n) ≤ length (c .before .before .before .before .before .before .before .before .before .before .before .before .before .args .signs .now) = omega (arith, c .before .before .before .before .before .before .before .before .before .before .point-count .ensures .0, c .before .before .before .before .before .before .before .before .if2 .left) in
     simp (le-ltb _ _ g, le-ltb _ _ s, holds (c .before .before .before .before .before .before .before .is-grid .ensures) (c .before .before .before .before .before .before .if3 .left), holds (c .before .before .before .before .before .all-even .ensures) (c .before .before .before .before .if4 .left))
-    (ap (λ (l : List ℕ). told Done l) (c .before .before .sign-points .ensures))
+    (ap (λ (l : List ℕ). told Done l) (c .before .before .sign-grid .ensures))
 
-pub sign-at-spec : {M : Type 1} → statement M
-sign-at-spec =
+pub sign-sized-spec : {M : Type 1} → statement M
+sign-sized-spec =
     tie.close
     (tie.spec
     point-count-requires
@@ -78,6 +78,6 @@ sign-at-spec =
     returns-3
     all-even-requires
     returns-4
-    sign-points-requires
+    sign-grid-requires
     same-length
     returns-5)

@@ -1,4 +1,4 @@
--- `signing::sign_points` meets its contract. The loop's invariant: `inside` is the sign of point p, and with the signs from p on written
+-- `signing::sign_grid` meets its contract. The loop's invariant: `inside` is the sign of point p, and with the signs from p on written
 -- the buffer is as with all of them written. Assumes nothing.
 use mathlib.Core.Path.{_≡_, refl, sym, ap, _∙_}
 use mathlib.Core.Bool.{false}
@@ -13,9 +13,9 @@ use Rattle.rules.specs.Lattice.{pointCount, pointOf}
 use Rattle.rules.specs.Grid.{value, marks}
 use Rattle.rules.specs.Signs.{sign, signBytes}
 use Rattle.signing.proofs.Written.{written, write-more, write-end}
-use Rattle.signing.proofs.Rows.{signAt, signs-by-number, signs-length, first-outside, sign-next}
-use Rattle.signing.proofs.sign_points.Statement.{statement}
-use Rattle.signing.proofs.sign_points.Tie as tie
+use Rattle.signing.proofs.Rows.{signOf, signs-by-number, signs-length, first-outside, sign-next}
+use Rattle.signing.proofs.sign_grid.Statement.{statement}
+use Rattle.signing.proofs.sign_grid.Tie as tie
 
 abbrev Inv-loop : tie.InvT-loop
 Inv-loop n grid signs₀ count inside₀ p₀ signs inside p =
@@ -23,7 +23,7 @@ Inv-loop n grid signs₀ count inside₀ p₀ signs inside p =
     × (p ≤ pointCount n)
     × (length signs ≡ length signs₀)
     × (inside ≡ sign (marks n grid) (pointOf n p))
-    × (sets signs p (map (signAt n (marks n grid)) (upto p (pointCount n - p))) ≡ sets signs₀ 0 (map (signAt n (marks n grid)) (upto 0 (pointCount n - 0))))
+    × (sets signs p (map (signOf n (marks n grid)) (upto p (pointCount n - p))) ≡ sets signs₀ 0 (map (signOf n (marks n grid)) (upto 0 (pointCount n - 0))))
 
 abbrev μ-loop : tie.MeasureT-loop
 μ-loop n grid signs₀ count inside₀ p₀ signs inside p = count - p
@@ -64,7 +64,7 @@ loop-again c =
       omega arith,
       simp length-set (q .inv .2),
       rw (add-one, c .across .ensures, q .inv .3, next),
-      rw (add-one (q .p), c .before .before .sign-byte .ensures, q .inv .3) (write-more (signAt n E) (q .signs) (q .p) (pointCount n) h ∙ q .inv .4),
+      rw (add-one (q .p), c .before .before .sign-byte .ensures, q .inv .3) (write-more (signOf n E) (q .signs) (q .p) (pointCount n) h ∙ q .inv .4),
     )
 
 same-length : tie.Need-same-length Inv-loop μ-loop
@@ -76,14 +76,14 @@ returns c =
     let s = c .before .before .before .before .before in
     let n = s .args .n in
     let E = marks n (s .args .grid .now) in
-    sym (write-end (signAt n E) (q .signs) (q .p) (pointCount n) (omega arith))
+    sym (write-end (signOf n E) (q .signs) (q .p) (pointCount n) (omega arith))
     ∙ q .inv .4
-    ∙ ap (λ (k : ℕ). sets (s .args .signs .now) 0 (map (signAt n E) (upto 0 k))) (let e : pointCount n - 0 ≡ pointCount n = omega arith in e)
+    ∙ ap (λ (k : ℕ). sets (s .args .signs .now) 0 (map (signOf n E) (upto 0 k))) (let e : pointCount n - 0 ≡ pointCount n = omega arith in e)
     ∙ ap (λ (l : List ℕ). sets (s .args .signs .now) 0 l) (sym (signs-by-number n E))
     ∙ written (s .args .signs .now) (signBytes n E) (pointCount n) (signs-length n E) (s .pre .0 .2)
 
-pub sign-points-spec : {M : Type 1} → statement M
-sign-points-spec =
+pub sign-grid-spec : {M : Type 1} → statement M
+sign-grid-spec =
     tie.close
     (tie.spec
     Inv-loop

@@ -1,4 +1,4 @@
--- `surfacing::surface_at` meets its contract: each refusal by the tests on the way to it. Assumes nothing.
+-- `surfacing::surface_sized` meets its contract: each refusal by the tests on the way to it. Assumes nothing.
 use borrow.Author.Needs.{needs}
 use borrow.Author.Tests.{lt-ltb, le-ltb}
 use Prim.Native.Nat.{_≤_, _<_}
@@ -6,21 +6,21 @@ use native.Mathlib.Omega.{arith}
 use lib.ListN.{length}
 use Rattle.rules.specs.Lattice.{pointCount}
 use Rattle.lattice.proofs.Tests.{fails, holds}
-use Rattle.surfacing.specs.Call.{surfaceAt}
-use Rattle.surfacing.proofs.surface_at.Statement.{statement}
-use Rattle.surfacing.proofs.surface_at.Tie as tie
+use Rattle.surfacing.specs.Call.{surfaceSized}
+use Rattle.surfacing.proofs.surface_sized.Statement.{statement}
+use Rattle.surfacing.proofs.surface_sized.Tie as tie
 
 point-count-requires : tie.Need-point-count-requires
 point-count-requires c κs = search needs
 
 returns : tie.Need-returns
-unfolding surfaceAt
+unfolding surfaceSized
 returns c =
     let g : length (c .before .before .before .before .before .args .grid .now) < pointCount (c .before .before .before .before .before .args .n) = omega (arith, c .before .point-count .ensures .0) in
     simp (lt-ltb _ _ g)
 
 returns-2 : tie.Need-returns-2
-unfolding surfaceAt
+unfolding surfaceSized
 returns-2 c =
     let g : pointCount (c .before .before .before .before .before .before .args .n) ≤ length (c .before .before .before .before .before .before .args .grid .now) = omega (arith, c .before .before .point-count .ensures .0) in
     let s : length (c .before .before .before .before .before .before .args .signs .now) < pointCount (c .before .before .before .before .before .before .args .n) = omega (arith, c .before .before .point-count .ensures .0) in
@@ -30,7 +30,7 @@ is-grid-requires : tie.Need-is-grid-requires
 is-grid-requires c κs = search needs
 
 returns-3 : tie.Need-returns-3
-unfolding surfaceAt
+unfolding surfaceSized
 returns-3 c =
     let g : pointCount (c .before .before .before .before .before .before .before .before .args .n) ≤ length (c .before .before .before .before .before .before .before .before .args .grid .now) = omega (arith, c .before .before .before .before .point-count .ensures .0) in
     let s : pointCount (c .before .before .before .before .before .before .before .before .args .n) ≤ length (c .before .before .before .before .before .before .before .before .args .signs .now) = omega (arith, c .before .before .before .before .point-count .ensures .0) in
@@ -43,7 +43,7 @@ signs-fit-requires c κs =
     (c .before .before .before .before .before .before .before .before .pre, record { g-long = g; s-long = s; grid = holds (c .before .is-grid .ensures) (c .if3 .left) })
 
 returns-4 : tie.Need-returns-4
-unfolding surfaceAt
+unfolding surfaceSized
 returns-4 c =
     let g : pointCount (c .before .before .before .before .before .before .before .before .before .before .args .n) ≤ length (c .before .before .before .before .before .before .before .before .before .before .args .grid .now) = omega (arith, c .before .before .before .before .before .before .point-count .ensures .0) in
     let s : pointCount (c .before .before .before .before .before .before .before .before .before .before .args .n) ≤ length (c .before .before .before .before .before .before .before .before .before .before .args .signs .now) = omega (arith, c .before .before .before .before .before .before .point-count .ensures .0) in
@@ -59,14 +59,14 @@ same-length : tie.Need-same-length
 same-length c = search needs
 
 returns-5 : tie.Need-returns-5
-unfolding surfaceAt
+unfolding surfaceSized
 returns-5 c =
     let g : pointCount (c .before .before .before .before .before .before .before .before .before .before .before .before .before .before .args .n) ≤ length (c .before .before .before .before .before .before .before .before .before .before .before .before .before .before .args .grid .now) = omega (arith, c .before .before .before .before .before .before .before .before .before .before .point-count .ensures .0, c .before .before .before .before .before .before .before .before .before .if1 .left) in
     let s : pointCount (c .before .before .before .before .before .before .before .before .before .before .before .before .before .before .args .n) ≤ length (c .before .before .before .before .before .before .before .before .before .before .before .before .before .before .args .signs .now) = omega (arith, c .before .before .before .before .before .before .before .before .before .before .point-count .ensures .0, c .before .before .before .before .before .before .before .before .if2 .left) in
     simp (le-ltb _ _ g, le-ltb _ _ s, holds (c .before .before .before .before .before .before .before .is-grid .ensures) (c .before .before .before .before .before .before .if3 .left), holds (c .before .before .before .before .before .signs-fit .ensures) (c .before .before .before .before .if4 .left)) (c .before .before .list-quads .ensures)
 
-pub surface-at-spec : {M : Type 1} → statement M
-surface-at-spec =
+pub surface-sized-spec : {M : Type 1} → statement M
+surface-sized-spec =
     tie.close
     (tie.spec
     point-count-requires
