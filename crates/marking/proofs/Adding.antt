@@ -1,0 +1,137 @@
+-- Marks added to a buffer, edge by edge. Assumes nothing.
+use mathlib.Core.Path.{_≡_, refl, sym, ap, ap₂, subst, _∙_}
+use mathlib.Core.Bool.{Bool, true, false, _&&_, _||_, cond, true≢false, and-false, or-true, or-false, or-assoc}
+use mathlib.Core.List.{List}
+use Prim.Native.Nat.{ℕ, _+_, _/_, _%_, _≤_, _<_}
+use native.Mathlib.Nat.{lt-of-lt-of-le}
+use native.Mathlib.Decide.{ℕ-discrete}
+use native.Mathlib.Omega.{arith}
+use borrow.Author.Tests.{eqb-false}
+use lib.Dec.{eqb}
+use lib.ListN.{length, getD, set, length-set}
+use lib.Seq.{getD-set-same, getD-set-other}
+use Rattle.rules.specs.declared.Axis.{Axis}
+use Rattle.rules.specs.declared.Axis.the-variants.{X, Y, Z}
+use Rattle.rules.specs.declared.Point.{Point}
+use Rattle.rules.specs.declared.Place.{Place}
+use Rattle.rules.specs.Lattice.{up, sameAxis, samePoint, samePlace, Set, OfGrid, pointNumber, pointCount}
+use Rattle.rules.specs.Grid.{has, weight}
+use Rattle.rules.proofs.Bits.{eqb-yes, and-left, and-right}
+use Rattle.rules.proofs.Cuts.{sameAxis→, samePoint→, samePlace→}
+use Rattle.rules.proofs.Store.{stored, stored-set, toggle}
+use Rattle.lattice.specs.Cells.{turnOne, cornerEdge, Cell}
+use Rattle.lattice.proofs.Laws.{num-below}
+use Rattle.marking.specs.Met.{added}
+use Rattle.marking.specs.Scan.{Added, atEdge, atCell}
+
+-- ---- a mark added to a byte
+module _ (b : ℕ) where
+  add-has : (a c : Axis) → has a b ≡ false → has c (b + weight a) ≡ has c b || sameAxis a c
+  add-has X X e = let f = eqb-false (b % 2) 1 e in let h : (b + 1) % 2 ≡ 1 = omega arith in eqb-yes _ _ h ∙ sym (or-true (has X b))
+  add-has X Y e = let f = eqb-false (b % 2) 1 e in let h : (b + 1) / 2 ≡ b / 2 = omega arith in ap (λ (k : ℕ). eqb (k % 2) 1) h ∙ sym (or-false (has Y b))
+  add-has X Z e = let f = eqb-false (b % 2) 1 e in let h : (b + 1) / 4 ≡ b / 4 = omega arith in ap (λ (k : ℕ). eqb (k % 2) 1) h ∙ sym (or-false (has Z b))
+  add-has Y X e = let f = eqb-false (b / 2 % 2) 1 e in let h : (b + 2) % 2 ≡ b % 2 = omega arith in ap (λ (k : ℕ). eqb k 1) h ∙ sym (or-false (has X b))
+  add-has Y Y e = let f = eqb-false (b / 2 % 2) 1 e in let h : (b + 2) / 2 % 2 ≡ 1 = omega arith in eqb-yes _ _ h ∙ sym (or-true (has Y b))
+  add-has Y Z e = let f = eqb-false (b / 2 % 2) 1 e in let h : (b + 2) / 4 ≡ b / 4 = omega arith in ap (λ (k : ℕ). eqb (k % 2) 1) h ∙ sym (or-false (has Z b))
+  add-has Z X e = let f = eqb-false (b / 4 % 2) 1 e in let h : (b + 4) % 2 ≡ b % 2 = omega arith in ap (λ (k : ℕ). eqb k 1) h ∙ sym (or-false (has X b))
+  add-has Z Y e = let f = eqb-false (b / 4 % 2) 1 e in let h : (b + 4) / 2 % 2 ≡ b / 2 % 2 = omega arith in ap (λ (k : ℕ). eqb k 1) h ∙ sym (or-false (has Y b))
+  add-has Z Z e = let f = eqb-false (b / 4 % 2) 1 e in let h : (b + 4) / 4 % 2 ≡ 1 = omega arith in eqb-yes _ _ h ∙ sym (or-true (has Z b))
+
+  add-high : (a : Axis) → has a b ≡ false → (b + weight a) / 8 ≡ b / 8
+  add-high X e = let f = eqb-false (b % 2) 1 e in omega arith
+  add-high Y e = let f = eqb-false (b / 2 % 2) 1 e in omega arith
+  add-high Z e = let f = eqb-false (b / 4 % 2) 1 e in omega arith
+
+-- ---- one set after another
+module _ (n : ℕ) where
+  pub added-none : (g : List ℕ) (E : Set) → ((a : Axis) (p : Point) → OfGrid n p → E a p ≡ true → has a (getD g (pointNumber n p) 0) ≡ true) → Added n E g g
+  added-none g E h =
+      record { long = refl; past = λ i l. refl; high = λ i. refl; marks-now = λ a p o. there (stored n g a p) (E a p) (h a p o) }
+    where
+      there : (x y : Bool) → (y ≡ true → x ≡ true) → x ≡ x || y
+      there true y f = refl
+      there false true f = f refl
+      there false false f = refl
+
+  pub added-then : {E F : Set} {g h k : List ℕ} → Added n E g h → Added n F h k → Added n (added E F) g k
+  added-then {E} {F} {g} {h} {k} x y =
+      record {
+        long = y .long ∙ x .long;
+        past = λ i l. y .past i l ∙ x .past i l;
+        high = λ i. y .high i ∙ x .high i;
+        marks-now = λ a p o. y .marks-now a p o ∙ ap (λ (b : Bool). b || F a p) (x .marks-now a p o) ∙ or-assoc (stored n g a p) (E a p) (F a p);
+      }
+
+  pub added-same : {E F : Set} {g h : List ℕ} → ((a : Axis) (p : Point) → OfGrid n p → E a p ≡ F a p) → Added n E g h → Added n F g h
+  added-same {g = g} f x =
+      record { long = x .long; past = x .past; high = x .high; marks-now = λ a p o. x .marks-now a p o ∙ ap (λ (b : Bool). stored n g a p || b) (f a p o) }
+
+-- ---- one edge
+module _ (n : ℕ) (E : Set) (e : Place) (g : List ℕ) where
+  edge-same : (a : Axis) (p : Point) → atEdge e E a p ≡ true → (e ≡ record { axis = a; at = p }) × (E a p ≡ true)
+  edge-same a p h =
+      let s = samePlace e (record { axis = a; at = p }) in
+      (samePlace→ e (record { axis = a; at = p }) (and-left s (E a p) h), and-right s (E a p) h)
+
+  -- one that has its mark
+  pub edge-marked : stored n g (e .axis) (e .at) ≡ true → Added n (atEdge e E) g g
+  edge-marked h =
+      added-none n g (atEdge e E) (λ a p o k. subst (λ (f : Place). stored n g (f .axis) (f .at) ≡ true) (edge-same a p k .0) h)
+
+  -- one that is not of the set
+  pub edge-not-in : E (e .axis) (e .at) ≡ false → Added n (atEdge e E) g g
+  edge-not-in h =
+      added-none n g (atEdge e E) (λ a p o k.
+      absurd (true≢false (sym (edge-same a p k .1) ∙ sym (ap (λ (f : Place). E (f .axis) (f .at)) (edge-same a p k .0)) ∙ h)))
+
+  -- one that is of the set and had no mark
+  pub edge-turned : pointCount n ≤ length g → OfGrid n (e .at) → stored n g (e .axis) (e .at) ≡ false → E (e .axis) (e .at) ≡ true →
+      Added n (atEdge e E) g (turnOne n e g)
+  unfolding turnOne
+  edge-turned long o h m =
+      let below = num-below n (e .at) o in
+      let new : toggle (e .axis) b ≡ b + weight (e .axis) = rw h in
+      record {
+        long = length-set g i (toggle (e .axis) b);
+        past = λ k q. getD-set-other g i k (toggle (e .axis) b) 0 (λ r. let z : ⊥ = omega arith in z);
+        high = λ k. high k (ℕ-discrete k i) (lt-of-lt-of-le below long) new;
+        marks-now = λ a p q. stored-set n g (e .at) (toggle (e .axis) b) o long a p q ∙ now a p new (samePoint (e .at) p) refl;
+      }
+    where
+      i : ℕ
+      i = pointNumber n (e .at)
+
+      b : ℕ
+      b = getD g i 0
+
+      high : (k : ℕ) → Dec (k ≡ i) → i < length g → toggle (e .axis) b ≡ b + weight (e .axis) → getD (set g i (toggle (e .axis) b)) k 0 / 8 ≡ getD g k 0 / 8
+      high k (yes q) s new =
+          rw q (ap (λ (x : ℕ). x / 8) (getD-set-same g i (toggle (e .axis) b) 0 s ∙ new) ∙ add-high b (e .axis) h)
+      high k (no q) s new = ap (λ (x : ℕ). x / 8) (getD-set-other g i k (toggle (e .axis) b) 0 q)
+
+      now : (a : Axis) (p : Point) → toggle (e .axis) b ≡ b + weight (e .axis) → (c : Bool) → samePoint (e .at) p ≡ c →
+          cond c (has a (toggle (e .axis) b)) (stored n g a p) ≡ stored n g a p || ((sameAxis (e .axis) a && c) && E a p)
+      now a p new true s =
+          let r : e .at ≡ p = samePoint→ (e .at) p s in
+          ap (has a) new ∙ add-has b (e .axis) a h
+          ∙ ap₂ _||_ (ap (λ (x : Point). stored n g a x) r) (axis (sameAxis (e .axis) a) refl)
+        where
+          axis : (d : Bool) → sameAxis (e .axis) a ≡ d → d ≡ (d && true) && E a p
+          axis true f = sym (ap₂ E (sym (sameAxis→ (e .axis) a f)) (sym (samePoint→ (e .at) p s)) ∙ m)
+          axis false f = refl
+      now a p new false s = sym (ap (λ (d : Bool). stored n g a p || (d && E a p)) (and-false (sameAxis (e .axis) a)) ∙ or-false (stored n g a p))
+
+-- ---- the three edges at the lowest corner of a cell
+-- they exist
+pub corner-grid : (n : ℕ) (c : Point) (a : Axis) → Cell n c → OfGrid n c × OfGrid n (up a c)
+corner-grid n c X h = (omega arith, omega arith)
+corner-grid n c Y h = (omega arith, omega arith)
+corner-grid n c Z h = (omega arith, omega arith)
+
+pub cell-edges : (n : ℕ) (E : Set) (c : Point) {g h : List ℕ} → Added n (added (added (atEdge (cornerEdge X c) E) (atEdge (cornerEdge Y c) E)) (atEdge (cornerEdge Z c) E)) g h → Added n (atCell c E) g h
+cell-edges n E c x = added-same n (λ a p o. go a p) x
+  where
+    go : (a : Axis) (p : Point) → added (added (atEdge (cornerEdge X c) E) (atEdge (cornerEdge Y c) E)) (atEdge (cornerEdge Z c) E) a p ≡ atCell c E a p
+    go X p = or-false (samePoint c p && E X p || false) ∙ or-false (samePoint c p && E X p)
+    go Y p = or-false (samePoint c p && E Y p)
+    go Z p = refl

@@ -1,0 +1,6 @@
+pub mod Signed
+pub mod Ranges
+pub mod Outside
+pub mod Adding
+pub mod Scanning
+pub mod Clearing

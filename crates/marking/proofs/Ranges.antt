@@ -1,0 +1,165 @@
+-- What the vertex range says of a triangle: where its vertices lie on the lattice, and which cells it can touch. Assumes nothing.
+use mathlib.Core.Path.{_≡_, sym, ap, subst, _∙_}
+use mathlib.Core.Bool.{Bool, true, false, _&&_}
+use mathlib.Core.List.{List, [], _∷_}
+use Prim.Native.Nat.{ℕ, zero, suc, _+_, _-_, _*_, _/_, _%_, _^_, _≤_, _<_, zero-le}
+use native.Mathlib.Nat.{not-suc-le-zero, le-of-suc-le-suc, lt-of-lt-of-le, mod-lt, div-add-mod', div-lt-iff-lt-mul}
+use native.Mathlib.Numerals.{add-one}
+use native.Mathlib.Omega.{arith}
+use lib.Dec.{lit<}
+use lib.IntN.{ℤ, pos}
+use lib.ListN.{length, getD, drop}
+use lib.Seq.{drop-cons}
+use lib.Signed.{leZ, _≤ℤ_}
+use Rattle.rules.specs.Lists.{allOf}
+use Rattle.rules.specs.declared.Axis.{Axis}
+use Rattle.rules.specs.declared.Axis.the-variants.{X, Y, Z}
+use Rattle.rules.specs.declared.Point.{Point}
+use Rattle.rules.specs.Lattice.{up, OfGrid}
+use Rattle.rules.proofs.Bits.{eq→T, and-left, and-right}
+use Rattle.lattice.specs.declared.level.Level.{Level}
+use Rattle.lattice.specs.Levels.{cellsOf, sideOf, lowestOf, highestOf}
+use Rattle.lattice.specs.Cells.{indexOf}
+use Rattle.lattice.proofs.LevelFacts.{side-some, side-most, side-whole, place-most}
+use Rattle.triangles.specs.declared.Vector.{Vector}
+use Rattle.triangles.specs.declared.Span.{Span}
+use Rattle.triangles.specs.declared.Triangle.{Triangle}
+use Rattle.triangles.specs.Vectors.{Each, UpTo, OnLattice, latticeMost, along, nought}
+use Rattle.triangles.specs.Axes.{units}
+use Rattle.triangles.specs.Meets.{Inside, EndsInside, triangleSpan}
+use Rattle.triangles.proofs.Order.{≤ℤ-trans, of-lesser, of-greater}
+use Rattle.triangles.proofs.Touching.{vertices-held}
+use Rattle.triangles.proofs.Units.{triangle-along}
+use Rattle.marking.specs.Ranges.{inRange, latticeOf, allInRange, vertexAt, triangleOf, Within, TriangleWithin}
+use Rattle.marking.specs.Met.{placeOf, endsOf}
+use Rattle.marking.specs.Scan.{Touches}
+use Rattle.marking.proofs.Signed.{pos-le, pos-lt, le-pos}
+
+-- ---- nine numbers in range
+-- a coordinate in range lies on the lattice, a cell's side from its ends
+pub range-within : (l : Level) (v : ℤ) → inRange l v ≡ true → Within l (latticeOf v)
+unfolding inRange latticeOf
+range-within l v e =
+    let a = leZ (pos (lowestOf l)) v in
+    let b = leZ v (pos (highestOf l)) in
+    record { low = record { le = eq→T a (and-left a b e) }; high = record { le = eq→T b (and-right a b e) } }
+
+all-at : {A : Type 0} (f : A → Bool) (l : List A) (d : A) (k : ℕ) → allOf f l ≡ true → k < length l → f (getD l k d) ≡ true
+all-at f [] d k e h = absurd (not-suc-le-zero h)
+all-at f (x ∷ l) d zero e h = and-left (f x) (allOf f l) e
+all-at f (x ∷ l) d (suc k) e h = all-at f l d k (and-right (f x) (allOf f l) e) (le-of-suc-le-suc h)
+
+-- a test of each member of a list, one after the other
+module _ {A : Type 0} (f : A → Bool) (l : List A) (d : A) (k : ℕ) (h : k < length l) where
+  all-from : allOf f (drop k l) ≡ f (getD l k d) && allOf f (drop (k + 1) l)
+  all-from = rw add-one (ap (allOf f) (drop-cons l k d h))
+
+  pub all-fails : f (getD l k d) ≡ false → allOf f (drop k l) ≡ false
+  all-fails e = all-from ∙ ap (λ (b : Bool). b && allOf f (drop (k + 1) l)) e
+
+  pub all-goes-on : f (getD l k d) ≡ true → allOf f (drop k l) ≡ allOf f (drop (k + 1) l)
+  all-goes-on e = all-from ∙ ap (λ (b : Bool). b && allOf f (drop (k + 1) l)) e
+
+pub triangle-within : (l : Level) (c : List ℤ) → length c ≡ 9 → allInRange l c ≡ true → TriangleWithin l (triangleOf c)
+unfolding allInRange triangleOf vertexAt
+triangle-within l c n e =
+    record {
+      a-in = record { on-x = at 0 (lit< tt); on-y = at 1 (lit< tt); on-z = at 2 (lit< tt) };
+      b-in = record { on-x = at 3 (lit< tt); on-y = at 4 (lit< tt); on-z = at 5 (lit< tt) };
+      c-in = record { on-x = at 6 (lit< tt); on-y = at 7 (lit< tt); on-z = at 8 (lit< tt) };
+    }
+  where
+    at : (k : ℕ) → k < 9 → Within l (latticeOf (getD c k (pos 0)))
+    at k h = range-within l (getD c k (pos 0)) (all-at (inRange l) c (pos 0) k e (subst (λ (m : ℕ). k < m) (sym n) h))
+
+-- its vertices lie on the lattice
+within-up-to : (l : Level) (z : ℤ) → Within l z → UpTo latticeMost z
+within-up-to l z w =
+    let b : 2 ^ 20 - sideOf l ≤ 2 ^ 20 = omega arith in
+    record { low = ≤ℤ-trans (pos-le zero-le) (w .low); high = ≤ℤ-trans (w .high) (pos-le b) }
+
+each-weaken : {P Q : ℤ → Type 0} {v : Vector} → ((z : ℤ) → P z → Q z) → Each P v → Each Q v
+each-weaken {v = v} f h = record { on-x = f (v .x) (h .on-x); on-y = f (v .y) (h .on-y); on-z = f (v .z) (h .on-z) }
+
+pub within-inside : (l : Level) (t : Triangle) → TriangleWithin l t → Inside t
+within-inside l t w =
+    record { a-in = each-weaken (within-up-to l) (w .a-in); b-in = each-weaken (within-up-to l) (w .b-in); c-in = each-weaken (within-up-to l) (w .c-in) }
+
+-- and so do the ends of an edge that exists
+up-to : {m : ℕ} → m ≤ 2 ^ 20 → UpTo latticeMost (pos m)
+up-to h = record { low = pos-le zero-le; high = pos-le h }
+
+place-inside : (l : Level) (p : Point) → OfGrid (cellsOf l) p → OnLattice (placeOf l p)
+unfolding placeOf
+place-inside l p h =
+    record { on-x = up-to (place-most l (h .i)); on-y = up-to (place-most l (h .j)); on-z = up-to (place-most l (h .k)) }
+
+pub ends-inside : (l : Level) (a : Axis) (p : Point) → OfGrid (cellsOf l) p → OfGrid (cellsOf l) (up a p) → EndsInside (endsOf l a p)
+unfolding endsOf
+ends-inside l a p h k = record { from-in = place-inside l p h; to-in = place-inside l (up a p) k }
+
+-- ---- the triangle's span on an axis
+pub on-each : (P : Axis → Type 0) → P X → P Y → P Z → (a : Axis) → P a
+on-each P x y z X = x
+on-each P x y z Y = y
+on-each P x y z Z = z
+
+pub index-small : (a : Axis) → indexOf a < 3
+index-small X = lit< tt
+index-small Y = lit< tt
+index-small Z = lit< tt
+
+each-along : {P : ℤ → Type 0} {v : Vector} (a : Axis) → Each P v → P (along v (indexOf a))
+unfolding along
+each-along X h = h .on-x
+each-along Y h = h .on-y
+each-along Z h = h .on-z
+
+abbrev pub spanOn : Axis → Triangle → Span
+spanOn a t = triangleSpan (getD units (indexOf a) nought) t
+
+pub span-within : (l : Level) (t : Triangle) (a : Axis) → TriangleWithin l t → Within l (spanOn a t .low) × Within l (spanOn a t .high) × (spanOn a t .low ≤ℤ spanOn a t .high)
+span-within l t a w =
+    let p = each-along a (w .a-in) in
+    let q = each-along a (w .b-in) in
+    let r = each-along a (w .c-in) in
+    let h = vertices-held (getD units (indexOf a) nought) t .a-held in
+    (rw (triangle-along (indexOf a) (index-small a) t) (of-lesser (Within l) (of-lesser (Within l) p q) r),
+    rw (triangle-along (indexOf a) (index-small a) t) (of-greater (Within l) (of-greater (Within l) p q) r),
+    ≤ℤ-trans (h .from-low) (h .to-high))
+
+-- ---- the cells that it can touch
+module _ (n s m h : ℕ) (whole : n * s ≡ 2 ^ 20) (some : 0 < s) (most : s ≤ 2 ^ 20) (low : s ≤ m) (mid : m ≤ h) (high : h ≤ 2 ^ 20 - s) where
+  first-before : (m - 1) / s * s < m
+  first-before = let e = div-add-mod' (m - 1) s in omega arith
+
+  past-after : h < (h / s + 1) * s
+  past-after = let e = div-add-mod' h s in let r = mod-lt h some in omega arith
+
+  past-most : h / s + 1 ≤ n
+  past-most = let b : h < n * s = omega arith in let c = div-lt-iff-lt-mul {k = s} {x = h} {y = n} some .1 b in omega arith
+
+  first-past : (m - 1) / s < h / s + 1
+  first-past = let p = past-after in let b : m - 1 < (h / s + 1) * s = omega arith in div-lt-iff-lt-mul {k = s} {x = m - 1} {y = h / s + 1} some .1 b
+
+-- a coordinate within, as a plain number
+pub plain-within : (l : Level) (z : ℤ) (m : ℕ) → z ≡ pos m → Within l z → (0 < m) × (sideOf l ≤ m) × (m ≤ 2 ^ 20 - sideOf l)
+plain-within l z m e w =
+    let low : sideOf l ≤ m = le-pos (subst (λ (y : ℤ). pos (sideOf l) ≤ℤ y) e (w .low)) in
+    let high : m ≤ 2 ^ 20 - sideOf l = le-pos (subst (λ (y : ℤ). y ≤ℤ pos (2 ^ 20 - sideOf l)) e (w .high)) in
+    (lt-of-lt-of-le (side-some l) low, low, high)
+
+pub touches : (l : Level) (x : Span) (m h : ℕ) → x .low ≡ pos m → x .high ≡ pos h → Within l (x .low) → Within l (x .high) → x .low ≤ℤ x .high →
+    Touches l x ((m - 1) / sideOf l) (h / sideOf l + 1)
+touches l x m h em eh wm wh o =
+    let low = plain-within l (x .low) m em wm .1 in
+    let high = plain-within l (x .high) h eh wh .2 in
+    let mid : m ≤ h = le-pos (rw (em, eh) at o) in
+    let n = cellsOf l in
+    let s = sideOf l in
+    record {
+      some = first-past n s m h (side-whole l) (side-some l) (side-most l) low mid high;
+      most = past-most n s m h (side-whole l) (side-some l) (side-most l) low mid high;
+      begins = rw em (pos-lt (first-before n s m h (side-whole l) (side-some l) (side-most l) low mid high));
+      ends = rw eh (pos-lt (past-after n s m h (side-whole l) (side-some l) (side-most l) low mid high));
+    }

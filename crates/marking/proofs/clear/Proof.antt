@@ -1,0 +1,55 @@
+use Rattle.marking.proofs.Clearing.{cleared-more, cleared-length}
+use mathlib.Core.Path.{_≡_, refl, sym, ap, _∙_}
+use mathlib.Core.List.{List, _++_}
+use Prim.Native.Nat.{ℕ, _+_, _-_, _≤_, _<_}
+use native.Mathlib.Omega.{arith}
+use borrow.Author.Needs.{needs}
+use lib.ListN.{length, drop, replicate}
+use Rattle.marking.proofs.clear.Statement.{statement}
+use Rattle.marking.proofs.clear.Tie as tie
+
+abbrev Inv-loop : tie.InvT-loop
+Inv-loop grid₀ count p₀ grid p = (p ≤ count) × (grid ≡ replicate p 0 ++ drop p grid₀)
+
+abbrev μ-loop : tie.MeasureT-loop
+μ-loop grid₀ count p₀ grid p = count - p
+
+loop-holds : tie.Need-loop-holds Inv-loop μ-loop
+loop-holds c = (omega arith, refl)
+
+slice-write-grid : tie.Need-slice-write-grid Inv-loop μ-loop
+slice-write-grid c =
+    let h = cleared-length (c .before .loop .p) (c .before .before .args .grid .now) (omega arith) in
+    let e = ap length (c .before .loop .inv .1) in
+    omega arith
+
+add-p : tie.Need-add-p Inv-loop μ-loop
+add-p c = omega arith
+
+loop-less : tie.Need-loop-less Inv-loop μ-loop
+loop-less c = omega arith
+
+loop-again : tie.Need-loop-again Inv-loop μ-loop
+loop-again c = (omega arith, rw (c .before .loop .inv .1) (cleared-more (c .before .loop .p) (c .before .before .args .grid .now) (omega arith)))
+
+same-length : tie.Need-same-length Inv-loop μ-loop
+same-length c = ap length (c .before .loop .inv .1) ∙ cleared-length (c .before .loop .p) (c .before .before .args .grid .now) (omega arith)
+
+returns : tie.Need-returns Inv-loop μ-loop
+returns c =
+    let e : c .before .loop .p ≡ c .before .before .args .count = omega arith in
+    c .before .loop .inv .1 ∙ ap (λ (k : ℕ). replicate k 0 ++ drop k (c .before .before .args .grid .now)) e
+
+pub clear-spec : {M : Type 1} → statement M
+clear-spec =
+    tie.close
+    (tie.spec
+    Inv-loop
+    μ-loop
+    loop-holds
+    slice-write-grid
+    add-p
+    loop-less
+    loop-again
+    same-length
+    returns)

@@ -1,0 +1,83 @@
+use Rattle.marking.proofs.Ranges.{all-fails, all-goes-on}
+use borrow.Author.Needs.{needs}
+use borrow.Author.Tests.{not-true, not-false}
+use mathlib.Core.Path.{_≡_, refl, sym, ap, _∙_}
+use mathlib.Core.Bool.{Bool, true, false, _&&_}
+use mathlib.Core.List.{List}
+use Prim.Native.Nat.{ℕ, _+_, _-_, _≤_, _<_}
+use native.Mathlib.Numerals.{add-one}
+use native.Mathlib.Omega.{arith}
+use lib.IntN.{ℤ, pos}
+use lib.ListN.{length, getD, drop, drop-of-length-le}
+use lib.Seq.{drop-cons}
+use mir.Syntax.{w32}
+use Rattle.rules.specs.Lists.{allOf}
+use Rattle.lattice.proofs.Tests.{fails, holds}
+use Rattle.marking.specs.Ranges.{inRange, allInRange}
+use Rattle.marking.proofs.Signed.{Plain}
+use Rattle.marking.proofs.range.all_in_range.Statement.{statement}
+use Rattle.marking.proofs.range.all_in_range.Tie as tie
+
+abbrev Inv-loop : tie.InvT-loop
+Inv-loop l c k₀ k = (k ≤ length c) × (allOf (inRange l) (drop k c) ≡ allInRange l c)
+
+abbrev μ-loop : tie.MeasureT-loop
+μ-loop l c k₀ k = length c - k
+
+loop-holds : tie.Need-loop-holds Inv-loop μ-loop
+unfolding allInRange
+loop-holds c = (omega arith, refl)
+
+mul-in-range : tie.Need-mul-in-range Inv-loop μ-loop
+mul-in-range c = search needs
+
+shared-slice-copy-out-in-range : tie.Need-shared-slice-copy-out-in-range Inv-loop μ-loop
+shared-slice-copy-out-in-range c = search needs
+
+in-range-requires : tie.Need-in-range-requires Inv-loop μ-loop
+in-range-requires c κs = search needs
+
+returns : tie.Need-returns Inv-loop μ-loop
+returns c =
+    let l = c .before .before .before .before .loop in
+    let s = c .before .before .before .before .before in
+    let e : Plain w32 (getD (s .args .c .now) (l .k) (pos 0)) = search needs in
+    let h : inRange (s .args .l) (getD (s .args .c .now) (l .k) (pos 0)) ≡ false = cc (not-true (c .before .in-range .result) (c .if1 .taken)) in
+    sym (all-fails (inRange (s .args .l)) (s .args .c .now) (pos 0) (l .k) (omega arith) h) ∙ l .inv .1
+
+add-k : tie.Need-add-k Inv-loop μ-loop
+add-k c = search needs
+
+loop-less : tie.Need-loop-less Inv-loop μ-loop
+loop-less c = search needs
+
+loop-again : tie.Need-loop-again Inv-loop μ-loop
+loop-again c =
+    let l = c .before .before .before .before .loop in
+    let s = c .before .before .before .before .before in
+    let e : Plain w32 (getD (s .args .c .now) (l .k) (pos 0)) = search needs in
+    let h : inRange (s .args .l) (getD (s .args .c .now) (l .k) (pos 0)) ≡ true = cc (not-false (c .before .in-range .result) (c .if1 .left)) in
+    (omega arith, sym (all-goes-on (inRange (s .args .l)) (s .args .c .now) (pos 0) (l .k) (omega arith) h) ∙ l .inv .1)
+
+returns-2 : tie.Need-returns-2 Inv-loop μ-loop
+returns-2 c =
+    let l = c .before .loop in
+    let s = c .before .before in
+    let k : length (s .args .c .now) ≤ l .k = omega arith in
+    sym (ap (allOf (inRange (s .args .l))) (drop-of-length-le (s .args .c .now) k)) ∙ l .inv .1
+
+pub all-in-range-spec : {M : Type 1} → statement M
+all-in-range-spec =
+    tie.close
+    (tie.spec
+    Inv-loop
+    μ-loop
+    loop-holds
+    mul-in-range
+    shared-slice-copy-out-in-range
+    in-range-requires
+    returns
+    add-k
+    loop-less
+    loop-again
+    returns-2)

@@ -1,0 +1,23 @@
+use mathlib.Core.Path.{_≡_, sym, ap, subst, _∙_}
+use lib.Dec.{T}
+use lib.IntN.{ℤ, pos, natAbs}
+use lib.Signed.{nonNeg, yes-nonNeg, pos-natAbs}
+use mir.Syntax.{w64}
+use mir.Val.{Fits}
+use mir.Facts.{toZ-ofZ, fits-natAbs}
+use Rattle.marking.proofs.Signed.{Plain}
+use Rattle.marking.proofs.range.plain.Statement.{statement}
+use Rattle.marking.proofs.range.plain.Tie as tie
+
+cast-result : tie.Need-cast-result
+cast-result c =
+    let e : Plain w64 (c .args .v) = toZ-ofZ (c .fits .v) in
+    (rw e (yes-nonNeg (c .pre)), rw e (fits-natAbs tt (c .fits .v)))
+
+returns : tie.Need-returns
+returns c =
+    let e : Plain w64 (c .args .v) = toZ-ofZ (c .fits .v) in
+    rw e (sym (pos-natAbs (c .args .v) (yes-nonNeg (c .pre))))
+
+pub plain-spec : {M : Type 1} → statement M
+plain-spec = tie.close (tie.spec cast-result returns)

@@ -1,0 +1,42 @@
+use Rattle.rules.specs.declared.Axis.{Axis}
+use Rattle.rules.specs.declared.Axis.the-variants.{X, Y, Z}
+use Rattle.rules.specs.Lattice.{coord}
+use Rattle.marking.specs.Scan.{Touches}
+use Rattle.marking.proofs.Ranges.{spanOn, span-within, on-each}
+use borrow.Author.Needs.{needs}
+use Rattle.marking.proofs.scan.box_of.Statement.{statement}
+use Rattle.marking.proofs.scan.box_of.Tie as tie
+
+along-requires : tie.Need-along-requires
+along-requires c κs = search needs
+
+cells-along-requires : tie.Need-cells-along-requires
+cells-along-requires c κs = rw (c .along .ensures) (span-within (c .before .args .l) (c .before .args .t) X (c .before .pre))
+
+along-requires-2 : tie.Need-along-requires-2
+along-requires-2 c κs = search needs
+
+cells-along-requires-2 : tie.Need-cells-along-requires-2
+cells-along-requires-2 c κs = rw (c .along2 .ensures) (span-within (c .before .before .before .args .l) (c .before .before .before .args .t) Y (c .before .before .before .pre))
+
+along-requires-3 : tie.Need-along-requires-3
+along-requires-3 c κs = search needs
+
+cells-along-requires-3 : tie.Need-cells-along-requires-3
+cells-along-requires-3 c κs = rw (c .along3 .ensures) (span-within (c .before .before .before .before .before .args .l) (c .before .before .before .before .before .args .t) Z (c .before .before .before .before .before .pre))
+
+returns : tie.Need-returns
+returns c =
+    on-each _ (rw (c .before .before .before .before .before .along .ensures) at (c .before .before .before .before .cells-along .ensures)) (rw (c .before .before .before .along2 .ensures) at (c .before .before .cells-along2 .ensures)) (rw (c .before .along3 .ensures) at (c .cells-along3 .ensures))
+
+pub box-of-spec : {M : Type 1} → statement M
+box-of-spec =
+    tie.close
+    (tie.spec
+    along-requires
+    cells-along-requires
+    along-requires-2
+    cells-along-requires-2
+    along-requires-3
+    cells-along-requires-3
+    returns)

@@ -1,0 +1,22 @@
+use native.Mathlib.Omega.{arith}
+use Rattle.lattice.proofs.LevelFacts.{cells-most}
+use Rattle.marking.specs.Met.{endsOf}
+use borrow.Author.Needs.{needs}
+use Rattle.marking.proofs.scan.ends_of.Statement.{statement}
+use Rattle.marking.proofs.scan.ends_of.Tie as tie
+
+place-of-requires : tie.Need-place-of-requires
+place-of-requires c κs = search needs
+
+up-requires : tie.Need-up-requires
+up-requires c κs = let m = cells-most (c .before .before .args .l) in omega arith
+
+place-of-requires-2 : tie.Need-place-of-requires-2
+place-of-requires-2 c κs = rw (c .up .ensures) (c .before .before .before .pre .1)
+
+returns : tie.Need-returns
+unfolding endsOf
+returns c = cc
+
+pub ends-of-spec : {M : Type 1} → statement M
+ends-of-spec = tie.close (tie.spec place-of-requires up-requires place-of-requires-2 returns)

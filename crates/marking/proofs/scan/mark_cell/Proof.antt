@@ -1,0 +1,54 @@
+use mathlib.Core.Path.{_≡_, sym, _∙_}
+use native.Mathlib.Omega.{arith}
+use Rattle.rules.specs.declared.Axis.the-variants.{X, Y, Z}
+use Rattle.lattice.specs.Levels.{cellsOf}
+use Rattle.lattice.proofs.LevelFacts.{cells-most}
+use Rattle.marking.specs.Met.{met}
+use Rattle.marking.proofs.Adding.{added-then, corner-grid, cell-edges}
+use borrow.Author.Needs.{needs}
+use Rattle.marking.proofs.scan.mark_cell.Statement.{statement}
+use Rattle.marking.proofs.scan.mark_cell.Tie as tie
+
+cells-requires : tie.Need-cells-requires
+cells-requires c κs = search needs
+
+corner-edge-requires : tie.Need-corner-edge-requires
+corner-edge-requires c κs = rw (c .before .cells .ensures) (cells-most (c .before .before .before .args .l), corner-grid _ (c .before .before .before .args .c) X (c .before .before .before .pre .1 .1) .0)
+
+mark-edge-requires : tie.Need-mark-edge-requires
+mark-edge-requires c κs = rw (c .corner-edge .ensures) (c .before .before .before .before .pre .0, (c .before .before .before .before .pre .1 .0, corner-grid _ (c .before .before .before .before .args .c) X (c .before .before .before .before .pre .1 .1) .0, corner-grid _ (c .before .before .before .before .args .c) X (c .before .before .before .before .pre .1 .1) .1))
+
+corner-edge-requires-2 : tie.Need-corner-edge-requires-2
+corner-edge-requires-2 c κs = rw (c .before .before .before .before .before .before .cells .ensures) (cells-most (c .before .before .before .before .before .before .before .before .args .l), corner-grid _ (c .before .before .before .before .before .before .before .before .args .c) Y (c .before .before .before .before .before .before .before .before .pre .1 .1) .0)
+
+mark-edge-requires-2 : tie.Need-mark-edge-requires-2
+mark-edge-requires-2 c κs = rw (c .corner-edge2 .ensures) (c .before .before .before .before .before .before .before .before .before .pre .0, (rw (c .before .before .before .before .mark-edge .ensures .long) (c .before .before .before .before .before .before .before .before .before .pre .1 .0), corner-grid _ (c .before .before .before .before .before .before .before .before .before .args .c) Y (c .before .before .before .before .before .before .before .before .before .pre .1 .1) .0, corner-grid _ (c .before .before .before .before .before .before .before .before .before .args .c) Y (c .before .before .before .before .before .before .before .before .before .pre .1 .1) .1))
+
+corner-edge-requires-3 : tie.Need-corner-edge-requires-3
+corner-edge-requires-3 c κs = rw (c .before .before .before .before .before .before .before .before .before .before .before .cells .ensures) (cells-most (c .before .before .before .before .before .before .before .before .before .before .before .before .before .args .l), corner-grid _ (c .before .before .before .before .before .before .before .before .before .before .before .before .before .args .c) Z (c .before .before .before .before .before .before .before .before .before .before .before .before .before .pre .1 .1) .0)
+
+mark-edge-requires-3 : tie.Need-mark-edge-requires-3
+mark-edge-requires-3 c κs = rw (c .corner-edge3 .ensures) (c .before .before .before .before .before .before .before .before .before .before .before .before .before .before .pre .0, (rw (c .before .before .before .before .mark-edge2 .ensures .long, c .before .before .before .before .before .before .before .before .before .mark-edge .ensures .long) (c .before .before .before .before .before .before .before .before .before .before .before .before .before .before .pre .1 .0), corner-grid _ (c .before .before .before .before .before .before .before .before .before .before .before .before .before .before .args .c) Z (c .before .before .before .before .before .before .before .before .before .before .before .before .before .before .pre .1 .1) .0, corner-grid _ (c .before .before .before .before .before .before .before .before .before .before .before .before .before .before .args .c) Z (c .before .before .before .before .before .before .before .before .before .before .before .before .before .before .pre .1 .1) .1))
+
+same-length : tie.Need-same-length
+same-length c = search needs
+
+returns : tie.Need-returns
+returns c =
+    let s = c .before .before .before .before .before .before .before .before .before .before .before .before .before .before .before .before .before in
+    cell-edges (cellsOf (s .args .l)) (met (s .args .l) (s .args .t)) (s .args .c)
+    (added-then _ (added-then _ (rw (c .before .before .before .before .before .before .before .before .before .before .before .before .before .corner-edge .ensures) at (c .before .before .before .before .before .before .before .before .before .before .before .before .mark-edge .ensures)) (rw (c .before .before .before .before .before .before .before .before .corner-edge2 .ensures) at (c .before .before .before .before .before .before .before .mark-edge2 .ensures))) (rw (c .before .before .before .corner-edge3 .ensures) at (c .before .before .mark-edge3 .ensures)))
+
+pub mark-cell-spec : {M : Type 1} → statement M
+mark-cell-spec =
+    tie.close
+    (tie.spec
+    cells-requires
+    corner-edge-requires
+    mark-edge-requires
+    corner-edge-requires-2
+    mark-edge-requires-2
+    corner-edge-requires-3
+    mark-edge-requires-3
+    same-length
+    returns)

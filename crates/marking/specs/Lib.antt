@@ -1,0 +1,6 @@
+pub mod Ranges
+pub mod Met
+pub mod Outcome
+pub mod Open
+pub mod Mark
+pub mod Scan

@@ -1,0 +1,96 @@
+// The vertex range, and the triangle that nine numbers give.
+use lattice::level::Level;
+use triangles::Triangle;
+use triangles::Vector;
+ghost use mathlib.Core.Path.{_≡_};
+ghost use Prim.Native.Nat.{_+_, _≤_, _<_};
+ghost use lib.IntN.{pos};
+ghost use lib.ListN.{length};
+ghost use lib.Signed.{leZ, _≤ℤ_};
+ghost use Rattle.marking.specs.Ranges.{inRange, latticeOf, allInRange, vertexAt, triangleOf};
+
+// Answers a number of 32 bits in 64.
+fn wide(v: i32) -> i64
+    ensures { λ r. ⌜ r ≡ v ⌝ }
+{
+    v as i64
+}
+
+// Answers a lattice coordinate as a signed number.
+pub fn signed(v: usize) -> i64
+    requires { ⌜ v ≤ 1048576 ⌝ }
+    ensures { λ r. ⌜ r ≡ pos v ⌝ }
+{
+    v as i64
+}
+
+// Answers a lattice coordinate as a plain number.
+pub fn plain(v: i64) -> usize
+    requires { ⌜ pos 0 ≤ℤ v ⌝ }
+    ensures { λ r. ⌜ v ≡ pos r ⌝ }
+{
+    v as usize
+}
+
+// Answers whether a is at most b.
+fn at_most(a: i64, b: i64) -> bool
+    ensures { λ r. ⌜ r ≡ leZ a b ⌝ }
+{
+    a <= b
+}
+
+// Answers whether a coordinate is in the level's range.
+fn in_range(l: Level, v: i32) -> bool
+    ensures { λ r. ⌜ r ≡ inRange l v ⌝ }
+{
+    let v = wide(v);
+    if !at_most(signed(l.side()), v) {
+        return false;
+    }
+    at_most(v, signed(l.highest()))
+}
+
+// Answers whether every coordinate is in the level's range.
+pub fn all_in_range(l: Level, c: &[i32]) -> bool
+    ensures { λ r. ⌜ r ≡ allInRange l (now (c .entry)) ⌝ }
+{
+    let mut k: usize = 0;
+    while k < c.len() {
+        if !in_range(l, c[k]) {
+            return false;
+        }
+        k += 1;
+    }
+    true
+}
+
+// Answers where a vertex's coordinate lies on the lattice.
+fn lattice_of(v: i32) -> i64
+    ensures { λ r. ⌜ r ≡ latticeOf v ⌝ }
+{
+    wide(v)
+}
+
+// Answers the vertex of three numbers.
+fn vertex_at(c: &[i32], k: usize) -> Vector
+    requires { ⌜ k + 2 < length (now c) ⌝ }
+    ensures { λ r. ⌜ r ≡ vertexAt (now (c .entry)) k ⌝ }
+{
+    Vector {
+        x: lattice_of(c[k]),
+        y: lattice_of(c[k + 1]),
+        z: lattice_of(c[k + 2]),
+    }
+}
+
+// Answers the triangle of nine numbers.
+pub fn triangle_of(c: &[i32]) -> Triangle
+    requires { ⌜ length (now c) ≡ 9 ⌝ }
+    ensures { λ r. ⌜ r ≡ triangleOf (now (c .entry)) ⌝ }
+{
+    Triangle {
+        a: vertex_at(c, 0),
+        b: vertex_at(c, 3),
+        c: vertex_at(c, 6),
+    }
+}
