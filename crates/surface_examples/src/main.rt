@@ -1,0 +1,250 @@
+// Runs sign and surface at level 2: examples 2 and 12 of the rules, the listing of the quads, lists with exactly enough room and
+// with one number less, and inputs that each call refuses. For sign it prints the number and the points inside, for surface the
+// number, the count and the quads; `kept` says that nothing of the buffer changed, `rest` that what is behind the last byte or
+// quad is as it was.
+use libc::STDOUT_FILENO;
+use signing::SignAnswer;
+use signing::sign;
+use surfacing::SurfaceAnswer;
+use surfacing::surface;
+
+// The points of level 2, and the bytes of a buffer that is longer.
+const POINTS: usize = 125;
+
+const LONG: usize = 130;
+// What every sign byte and every entry of a list holds on entry.
+const DIRTY: u8 = 90;
+
+const BLANK: u16 = 999;
+
+fn say(text: &[u8]) {
+    io::write_all(STDOUT_FILENO, text);
+}
+
+fn say_number(k: u32) {
+    io::print_decimal(STDOUT_FILENO, k as u64);
+}
+
+// Puts a byte into a buffer.
+fn put(buffer: &mut [u8], p: usize, v: u8) {
+    if p < buffer.len() {
+        buffer[p] = v;
+    }
+}
+
+// Marks the six edges of point (2,2,2): at points (2,2,1), (2,1,2), (1,2,2) and at itself.
+fn mark_single(grid: &mut [u8]) {
+    put(grid, 37, 4);
+    put(grid, 57, 2);
+    put(grid, 61, 1);
+    put(grid, 62, 7);
+}
+
+// Whether the bytes from `from` on all hold v.
+fn bytes_hold(buffer: &[u8], from: usize, v: u8) -> bool {
+    let mut p = from;
+    while p < buffer.len() {
+        if buffer[p] != v {
+            return false;
+        }
+        p += 1;
+    }
+    true
+}
+
+// Whether the entries of a list from `from` on are blank.
+fn entries_blank(list: &[u16], from: usize) -> bool {
+    let mut p = from;
+    while p < list.len() {
+        if list[p] != BLANK {
+            return false;
+        }
+        p += 1;
+    }
+    true
+}
+
+fn say_point(p: usize) {
+    say(b" ");
+    say_number((p % 5) as u32);
+    say_number((p / 5 % 5) as u32);
+    say_number((p / 25 % 5) as u32);
+}
+
+// Prints the points inside, by rising number.
+fn say_inside(signs: &[u8]) {
+    let mut p: usize = 0;
+    while p < signs.len() {
+        if signs[p] == 1 {
+            say_point(p);
+        }
+        p += 1;
+    }
+}
+
+fn sign_number(answer: SignAnswer) -> u32 {
+    match answer {
+        SignAnswer::Done => 0,
+        SignAnswer::BadLevel => 1,
+        SignAnswer::ShortBuffer => 2,
+        SignAnswer::NoGrid => 5,
+        SignAnswer::OddFace => 6,
+    }
+}
+
+// Signs a grid, in a sign buffer that is longer and dirty.
+fn show_sign(name: &[u8], level: u32, grid: &[u8]) {
+    let mut signs = [DIRTY; LONG];
+    let number = sign_number(sign(level, grid, &mut signs));
+    say(b"sign, ");
+    say(name);
+    say(b": ");
+    say_number(number);
+    if bytes_hold(&signs, 0, DIRTY) {
+        say(b", kept");
+    }
+    if number == 0 {
+        if bytes_hold(&signs, POINTS, DIRTY) {
+            say(b", rest, inside");
+        }
+        say_inside(&signs);
+    }
+    say(b"\n");
+}
+
+fn surface_number(answer: SurfaceAnswer) -> u32 {
+    match answer {
+        SurfaceAnswer::Done { quads: _ } => 0,
+        SurfaceAnswer::BadLevel => 1,
+        SurfaceAnswer::ShortBuffer => 2,
+        SurfaceAnswer::NoGrid => 5,
+        SurfaceAnswer::SignsMisfit => 7,
+        SurfaceAnswer::ShortList => 8,
+    }
+}
+
+fn quad_count(answer: SurfaceAnswer) -> u32 {
+    match answer {
+        SurfaceAnswer::Done { quads } => quads,
+        _ => 0,
+    }
+}
+
+// Prints an entry of a list, each quad on a line of its own.
+fn say_entry(p: usize, v: u16) {
+    if p % 4 == 0 {
+        say(b"\nq");
+    }
+    say(b" ");
+    say_number(v as u32);
+}
+
+// Prints the entries of a list up to `end`.
+fn say_quads(list: &[u16], end: usize) {
+    let mut p: usize = 0;
+    while p < list.len() {
+        if p < end {
+            say_entry(p, list[p]);
+        }
+        p += 1;
+    }
+}
+
+// Lists the quads of a grid into a blank list.
+fn show_surface(name: &[u8], level: u32, grid: &[u8], signs: &[u8], list: &mut [u16]) {
+    let answer = surface(level, grid, signs, list);
+    let quads = quad_count(answer);
+    let end = 4 * (quads as usize);
+    say(b"surface, ");
+    say(name);
+    say(b": ");
+    say_number(surface_number(answer));
+    say(b", quads ");
+    say_number(quads);
+    if entries_blank(list, 0) {
+        say(b", kept");
+    }
+    if entries_blank(list, end) {
+        say(b", rest");
+    }
+    say_quads(list, end);
+    say(b"\n");
+}
+
+// Lends surface the first entries of a blank list.
+fn lend(name: &[u8], level: u32, grid: &[u8], signs: &[u8], room: usize) {
+    let mut list = [BLANK; 30];
+    if room <= list.len() {
+        show_surface(name, level, grid, signs, &mut list[0..room]);
+    }
+}
+
+// Surface of example 2 with room for some numbers.
+fn show_room(name: &[u8], room: usize) {
+    let mut grid = [0u8; LONG];
+    let mut signs = [0u8; LONG];
+    mark_single(&mut grid);
+    put(&mut signs, 62, 1);
+    lend(name, 2, &grid, &signs, room);
+}
+
+// Surface of buffers that are empty or one byte short, with no marks.
+fn show_short() {
+    let grid = [0u8; LONG];
+    let signs = [0u8; LONG];
+    lend(b"no marks, no room", 2, &grid, &signs, 0);
+    lend(b"level 1, no bytes", 1, &grid[0..0], &signs[0..0], 0);
+    lend(b"a grid byte short", 2, &grid[0..124], &signs, 0);
+    lend(b"a sign byte short", 2, &grid, &signs[0..124], 0);
+}
+
+// Surface of example 2 with one more grid byte and one more sign byte put in, and room for some numbers.
+fn show_bytes(
+    name: &[u8],
+    grid_at: usize,
+    grid_byte: u8,
+    sign_at: usize,
+    sign_byte: u8,
+    room: usize,
+) {
+    let mut grid = [0u8; LONG];
+    let mut signs = [0u8; LONG];
+    mark_single(&mut grid);
+    put(&mut signs, 62, 1);
+    put(&mut grid, grid_at, grid_byte);
+    put(&mut signs, sign_at, sign_byte);
+    lend(name, 2, &grid, &signs, room);
+}
+
+// The calls of sign.
+fn run_sign() {
+    let mut grid = [0u8; LONG];
+    show_sign(b"no marks", 2, &grid);
+    mark_single(&mut grid);
+    show_sign(b"example 2", 2, &grid);
+    put(&mut grid, 62, 6);
+    show_sign(b"example 3", 2, &grid);
+    show_sign(b"level 1, no bytes", 1, &grid[0..0]);
+    show_sign(b"level 6", 6, &grid);
+    show_sign(b"a byte short", 2, &grid[0..124]);
+    show_sign(b"level 3, short", 3, &grid);
+    put(&mut grid, 62, 8);
+    show_sign(b"a byte of 8, odd faces", 2, &grid);
+}
+
+fn main() {
+    run_sign();
+    show_room(b"example 2, room for 30", 30);
+    show_room(b"example 2, room for 24", 24);
+    show_room(b"example 2, room for 23", 23);
+    show_short();
+    show_bytes(b"a byte of 8, a sign of 2, no room", 62, 8, 62, 2, 23);
+    show_bytes(b"a sign of 2, no room", 62, 7, 62, 2, 23);
+    show_bytes(b"a sign of 2 at an unmarked point", 62, 7, 93, 2, 30);
+    show_bytes(b"(0,0,0) inside", 62, 7, 0, 1, 30);
+    show_bytes(b"a change and no mark", 62, 7, 93, 1, 30);
+    show_bytes(b"marks and no change", 62, 7, 62, 0, 30);
+    show_bytes(b"a mark gone", 62, 6, 62, 1, 30);
+    show_bytes(b"a point of the outer skin inside", 62, 7, 124, 1, 30);
+    show_bytes(b"dirty bytes behind grid and signs", 125, 77, 125, 77, 30);
+}
