@@ -1,0 +1,3 @@
+pub mod Lowest
+pub mod Levels
+pub mod Numbers
