@@ -11,8 +11,8 @@ use Rattle.rules.specs.declared.Point.{Point}
 use Rattle.rules.specs.Lists.{allOf, All}
 use Rattle.rules.specs.Lattice.{Set, points, pointNumber, pointCount, inner, edgeIn, whole, sameAxis, OfGrid}
 use Rattle.rules.specs.Grid.{has, bytes, marks, byteFits, goodByte, isGrid}
-use Rattle.rules.specs.Rims.{evenFaces}
-use Rattle.rules.specs.Patch.{patched}
+use Rattle.rules.specs.Rims.{rims, evenFaces}
+use Rattle.rules.specs.Patch.{patched, flipCount}
 use Rattle.rules.proofs.Boxes.{inBox→}
 use Rattle.rules.proofs.Lists.{all-weaken, allOf←}
 use Rattle.rules.proofs.Numbers.{bytes-length, marks-inner}
@@ -21,6 +21,7 @@ use Rattle.rules.proofs.Patched.{patched-even, patched-inner}
 use Rattle.rules.proofs.OddList.{even-all}
 use Rattle.rules.proofs.Again.{bytes-grid, read-back, patched-grid}
 use Rattle.lattice.proofs.Laws.{num-below}
+use Rattle.patching.specs.Call.{Outcome, counted, patchDone}
 
 -- an inner edge's point is a point of the grid
 inner-point : (n : ℕ) (a : Axis) (p : Point) → inner n a p ≡ true → OfGrid n p
@@ -102,3 +103,17 @@ module _ (n : ℕ) (g : List ℕ) where
 
   pub patched-is-even : evenFaces n (marks n now) ≡ true
   patched-is-even = ap (evenFaces n) patched-has-marks ∙ even-all n (patched n (marks n g)) inside .1 (patched-even n (marks n g) (marks-inner n g))
+
+-- what patch leaves of a grid
+pub left-by-patch : (n : ℕ) (g w : List ℕ) {r f : ℕ} {g′ w′ : List ℕ} → counted r f g′ w′ ≡ patchDone n g w
+    → (r ≡ length (rims n (marks n g))) × (f ≡ flipCount n (marks n g)) × (isGrid n g′ ≡ true) × (marks n g′ ≡ patched n (marks n g))
+    × (evenFaces n (marks n g′) ≡ true)
+unfolding patchDone
+left-by-patch n g w e =
+    let b = ap (λ (o : Outcome). o .grid) e in (
+      ap (λ (o : Outcome). o .rims) e,
+      ap (λ (o : Outcome). o .flips) e,
+      ap (isGrid n) b ∙ patched-is-grid n g,
+      ap (marks n) b ∙ patched-has-marks n g,
+      ap (λ (h : List ℕ). evenFaces n (marks n h)) b ∙ patched-is-even n g,
+    )

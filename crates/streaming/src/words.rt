@@ -5,7 +5,7 @@ ghost use lib.ListN.{length, drop};
 ghost use Rattle.streaming.specs.Words.{wordAt, signedOf, numbers};
 
 // A byte as a wider number.
-fn wide(x: u8) -> u32
+pub fn wide(x: u8) -> u32
     ensures { λ r. ⌜ (r ≡ x) × (r < 256) ⌝ }
 {
     x as u32
