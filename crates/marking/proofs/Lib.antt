@@ -4,3 +4,4 @@ pub mod Outside
 pub mod Adding
 pub mod Scanning
 pub mod Clearing
+pub mod Written

@@ -13,7 +13,7 @@ ghost use mathlib.Core.List.{_++_};
 ghost use Prim.Native.Nat.{_≤_};
 ghost use lib.ListN.{length, drop, replicate};
 ghost use Rattle.marking.specs.Open.{openTold, openCall};
-ghost use Rattle.marking.specs.Mark.{markTold, markCall};
+ghost use Rattle.marking.specs.Mark.{markTold, markAt, markCall};
 
 // What open answers.
 pub enum OpenAnswer {
@@ -67,6 +67,13 @@ pub fn mark(level: u32, grid: &mut [u8], triangle: &[i32]) -> MarkAnswer
     let LevelRead::Known(l) = Level::read(level) else {
         return MarkAnswer::BadLevel;
     };
+    mark_at(l, grid, triangle)
+}
+
+// The call mark at a known level.
+fn mark_at(l: Level, grid: &mut [u8], triangle: &[i32]) -> MarkAnswer
+    ensures { λ r. ⌜ markTold r (now (grid .exit)) ≡ markAt l (now (grid .entry)) (now (triangle .entry)) ⌝ }
+{
     if grid.len() < l.points() {
         return MarkAnswer::ShortBuffer;
     }

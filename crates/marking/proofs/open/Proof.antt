@@ -1,47 +1,55 @@
+use mathlib.Core.Path.{_≡_, sym, ap, _∙_}
+use Prim.Native.Nat.{_≤_, _<_}
+use borrow.Author.Tests.{lt-ltb, le-ltb}
+use native.Mathlib.Omega.{arith}
+use lib.ListN.{length}
+use Rattle.lattice.specs.declared.level.LevelRead.the-variants.{Known, Unknown}
+use Rattle.lattice.specs.Levels.{levelOf, pointsOf}
+use Rattle.marking.specs.Outcome.{done}
+use Rattle.marking.specs.Open.{opened, openAt, openFor, openCall}
 use borrow.Author.Needs.{needs}
 use Rattle.marking.proofs.open.Statement.{statement}
 use Rattle.marking.proofs.open.Tie as tie
-use Rattle.marking.proofs.open.Reads as reads
-use Rattle.marking.proofs.open.Lts as lts
-use Rattle.lattice.proofs.level.Level.points.Reads as points-reads
-use Rattle.lattice.proofs.level.Level.read.Reads as read-reads
-use Rattle.marking.proofs.clear.Reads as clear-reads
 
--- src/lib.rt:51:31
 read-requires : tie.Need-read-requires
 read-requires c κs = search needs
 
--- src/lib.rt:51:26
 enum-known-l : tie.Need-enum-known-l
 enum-known-l c = search needs
 
--- src/lib.rt:52:9
 enum-told : tie.Need-enum-told
 enum-told c = search needs
 
--- src/lib.rt:52:9
 returns : tie.Need-returns
-returns c = ?
+unfolding openCall openFor
+returns c =
+    let h : levelOf (c .before .before .before .before .args .level) ≡ Unknown = sym (c .before .before .read .ensures) ∙ c .enum-told .given .1 in
+    rw h
 
--- src/lib.rt:54:9
 points-requires : tie.Need-points-requires
 points-requires c κs = search needs
 
--- src/lib.rt:56:9
 returns-2 : tie.Need-returns-2
-returns-2 c = ?
+unfolding openCall openFor openAt
+returns-2 c =
+    let l = c .before .before .before .l .given .0 .0 in
+    let h : levelOf (c .before .before .before .before .before .before .before .args .level) ≡ Known l = sym (c .before .before .before .before .before .read .ensures) ∙ c .before .before .before .l .given .1 in
+    let k : length (c .before .before .before .before .before .before .before .args .grid .now) < pointsOf l = rw (c .before .points .ensures) at (c .if1 .taken) in
+    simp (h, lt-ltb _ _ k)
 
--- src/lib.rt:58:5
 clear-requires : tie.Need-clear-requires
 clear-requires c κs = search needs
 
--- src/lib.rt:48:1
 same-length : tie.Need-same-length
 same-length c = search needs
 
--- src/lib.rt:48:1
 returns-3 : tie.Need-returns-3
-returns-3 c = ?
+unfolding openCall openFor openAt opened
+returns-3 c =
+    let l = c .before .before .before .before .before .before .before .l .given .0 .0 in
+    let h : levelOf (c .before .before .before .before .before .before .before .before .before .before .before .args .level) ≡ Known l = sym (c .before .before .before .before .before .before .before .before .before .read .ensures) ∙ c .before .before .before .before .before .before .before .l .given .1 in
+    let k : pointsOf l ≤ length (c .before .before .before .before .before .before .before .before .before .before .before .args .grid .now) = rw (c .before .before .before .before .before .points .ensures) at (c .before .before .before .before .if1 .left) in
+    simp (h, le-ltb _ _ k) (ap done (rw (c .before .before .before .before .before .points .ensures) at (c .before .before .clear .ensures)))
 
 pub open-spec : {M : Type 1} → statement M
 open-spec =

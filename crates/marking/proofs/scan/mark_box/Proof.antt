@@ -47,9 +47,10 @@ loop-again c =
     let n = cellsOf (s .args .l) in
     let m = cells-most (s .args .l) in
     let l = c .before .before .before .before .before .before .before .loop in
-    rw (c .next-cell .ensures)
-    (next-standing n m (s .args .b) (l .c) (l .inv .0) (c .before .before .before .before .before .if1 .taken),
-    passed-next n m (s .args .b) (l .c) (l .inv .0) (c .before .before .before .before .before .if1 .taken) (met (s .args .l) (s .args .t)) (l .inv .1) (c .before .before .before .mark-cell .ensures))
+    rw (c .next-cell .ensures) (
+      next-standing n m (s .args .b) (l .c) (l .inv .0) (c .before .before .before .before .before .if1 .taken),
+      passed-next n m (s .args .b) (l .c) (l .inv .0) (c .before .before .before .before .before .if1 .taken) (met (s .args .l) (s .args .t)) (l .inv .1) (c .before .before .before .mark-cell .ensures),
+    )
 
 same-length : tie.Need-same-length Inv-loop μ-loop
 same-length c = c .before .before .loop .inv .1 .long

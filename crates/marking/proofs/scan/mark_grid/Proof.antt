@@ -1,25 +1,25 @@
+use Rattle.rules.specs.Lattice.{Set}
+use Rattle.lattice.specs.Levels.{cellsOf}
+use Rattle.marking.specs.Met.{met, marked}
+use Rattle.marking.proofs.Ranges.{within-inside}
+use Rattle.marking.proofs.Written.{added-written}
 use Rattle.marking.proofs.scan.mark_grid.Statement.{statement}
 use Rattle.marking.proofs.scan.mark_grid.Tie as tie
-use Rattle.marking.proofs.scan.mark_grid.Reads as reads
-use Rattle.marking.proofs.scan.mark_grid.Lts as lts
-use Rattle.marking.proofs.scan.box_of.Reads as box-of-reads
-use Rattle.marking.proofs.scan.mark_box.Reads as mark-box-reads
 
--- src/scan.rt:197:9
 box-of-requires : tie.Need-box-of-requires
-box-of-requires c κs = ?
+box-of-requires c κs = c .before .pre .0
 
--- src/scan.rt:198:5
 mark-box-requires : tie.Need-mark-box-requires
-mark-box-requires c κs = ?
+mark-box-requires c κs = ((within-inside (c .before .before .before .args .l) (c .before .before .before .args .t) (c .before .before .before .pre .0), c .before .box-of .ensures), c .before .before .before .pre .1 .0)
 
--- src/scan.rt:192:1
 same-length : tie.Need-same-length
-same-length c = ?
+same-length c = c .before .before .mark-box .ensures .long
 
--- src/scan.rt:192:1
 returns : tie.Need-returns
-returns c = ?
+unfolding marked
+returns c =
+    let s = c .before .before .before .before .before .before in
+    added-written (cellsOf (s .args .l)) (met (s .args .l) (s .args .t)) (s .args .grid .now) _ (s .pre .1 .0) (s .pre .1 .1) (c .before .before .mark-box .ensures)
 
 pub mark-grid-spec : {M : Type 1} → statement M
 mark-grid-spec = tie.close (tie.spec box-of-requires mark-box-requires same-length returns)
