@@ -1,0 +1,93 @@
+// The five calls as C functions, for the slicer to link: an answer is its number, and counts go behind references. Each promise is
+// that of the call it hands on to, read the same way: number, counts and every buffer, for all inputs.
+use marking::MarkAnswer;
+use marking::OpenAnswer;
+use patching::PatchAnswer;
+use signing::SignAnswer;
+use surfacing::SurfaceAnswer;
+ghost use mathlib.Core.Path.{_≡_};
+ghost use Rattle.marking.specs.Outcome.{Outcome as MarkOutcome};
+ghost use Rattle.marking.specs.Open.{openCall};
+ghost use Rattle.marking.specs.Mark.{markCall};
+ghost use Rattle.patching.specs.Call.{Outcome as PatchOutcome, patchCall};
+ghost use Rattle.signing.specs.Call.{Outcome as SignOutcome, signCall};
+ghost use Rattle.surfacing.specs.Call.{Outcome as SurfaceOutcome, surfaceCall};
+
+// Open (level, grid): the P bytes become 0.
+#[no_mangle]
+pub extern "C" fn omphirun_open(level: u32, grid: &mut [u8]) -> u32
+    ensures { λ r. ⌜ _≡_ {A = MarkOutcome} (record { number = r; grid = now (grid .exit) }) (openCall level (now (grid .entry))) ⌝ }
+{
+    match marking::open(level, grid) {
+        OpenAnswer::Done => 0,
+        OpenAnswer::BadLevel => 1,
+        OpenAnswer::ShortBuffer => 2,
+    }
+}
+
+// Mark (level, grid, triangle as nine i32): the marks of edges met are added; none is removed.
+#[no_mangle]
+pub extern "C" fn omphirun_mark(level: u32, grid: &mut [u8], triangle: &[i32]) -> u32
+    ensures { λ r. ⌜ _≡_ {A = MarkOutcome} (record { number = r; grid = now (grid .exit) }) (markCall level (now (grid .entry)) (now (triangle .entry))) ⌝ }
+{
+    match marking::mark(level, grid, triangle) {
+        MarkAnswer::Done => 0,
+        MarkAnswer::BadLevel => 1,
+        MarkAnswer::ShortBuffer => 2,
+        MarkAnswer::NotNine => 3,
+        MarkAnswer::OutOfRange => 4,
+        MarkAnswer::NoGrid => 5,
+    }
+}
+
+// Patch (level, grid, work buffer): the grid is patched, and the number of rims and of flips is returned.
+#[no_mangle]
+pub extern "C" fn omphirun_patch(level: u32, grid: &mut [u8], work: &mut [u8], rims: &mut u32, flips: &mut u32) -> u32
+    ensures { λ r. ⌜ _≡_ {A = PatchOutcome} (record { number = r; rims = now (rims .exit); flips = now (flips .exit); grid = now (grid .exit); work = now (work .exit) }) (patchCall level (now (grid .entry)) (now (work .entry))) ⌝ }
+{
+    *rims = 0;
+    *flips = 0;
+    match patching::patch(level, grid, work) {
+        PatchAnswer::Done { rims: r, flips: f } => {
+            *rims = r;
+            *flips = f;
+            0
+        }
+        PatchAnswer::BadLevel => 1,
+        PatchAnswer::ShortBuffer => 2,
+        PatchAnswer::NoGrid => 5,
+    }
+}
+
+// Sign (level, grid, signs): fills the P sign bytes.
+#[no_mangle]
+pub extern "C" fn omphirun_sign(level: u32, grid: &[u8], signs: &mut [u8]) -> u32
+    ensures { λ r. ⌜ _≡_ {A = SignOutcome} (record { number = r; signs = now (signs .exit) }) (signCall level (now (grid .entry)) (now (signs .entry))) ⌝ }
+{
+    match signing::sign(level, grid, signs) {
+        SignAnswer::Done => 0,
+        SignAnswer::BadLevel => 1,
+        SignAnswer::ShortBuffer => 2,
+        SignAnswer::NoGrid => 5,
+        SignAnswer::OddFace => 6,
+    }
+}
+
+// Surface (level, grid, signs, list of u16): writes four cell numbers a quad and returns the number of quads.
+#[no_mangle]
+pub extern "C" fn omphirun_surface(level: u32, grid: &[u8], signs: &[u8], list: &mut [u16], quads: &mut u32) -> u32
+    ensures { λ r. ⌜ _≡_ {A = SurfaceOutcome} (record { number = r; quads = now (quads .exit); list = now (list .exit) }) (surfaceCall level (now (grid .entry)) (now (signs .entry)) (now (list .entry))) ⌝ }
+{
+    *quads = 0;
+    match surfacing::surface(level, grid, signs, list) {
+        SurfaceAnswer::Done { quads: q } => {
+            *quads = q;
+            0
+        }
+        SurfaceAnswer::BadLevel => 1,
+        SurfaceAnswer::ShortBuffer => 2,
+        SurfaceAnswer::NoGrid => 5,
+        SurfaceAnswer::SignsMisfit => 7,
+        SurfaceAnswer::ShortList => 8,
+    }
+}
