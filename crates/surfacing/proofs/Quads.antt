@@ -128,7 +128,7 @@ pub quads-byte : (n : ℕ) (g s : List ℕ) (p : ℕ) (q : Point) → Grids n g 
 unfolding byteQuads
 quads-byte n g s p q k a h = ap₂ _++_ (one X) (ap₂ _++_ (one Y) (ap₂ _++_ (one Z) refl))
   where
-    one : (b : Axis) → byteQuad n (getD g p 0) (eqb (getD s p 0) 1) (record { axis = b; at = q }) ≡ cond (marks n g b q) (quad n (inside n s) (record { axis = b; at = q })) []
+    one : (b : Axis) → byteQuad n (getD g p 0) (eqb (getD s p 0) 1) b q ≡ cond (marks n g b q) (quad n (inside n s) (record { axis = b; at = q })) []
     one b = ap₂ (λ (c d : Bool). cond c (quad n (λ r. d) (record { axis = b; at = q })) [])
         (ap (λ (i : ℕ). has b (getD g i 0)) (sym (a .is)) ∙ grid-marks n g (k .g-long) (k .grid) b q (at-grid n p q a h))
         (ap (λ (i : ℕ). eqb (getD s i 0) 1) (sym (a .is)))

@@ -6,7 +6,6 @@ use Prim.Native.Nat.{ℕ, suc, _+_, _*_}
 use Rattle.rules.specs.declared.Axis.{Axis}
 use Rattle.rules.specs.declared.Axis.the-variants.{X, Y, Z}
 use Rattle.rules.specs.declared.Point.{Point}
-use Rattle.rules.specs.declared.Place.{Place}
 use Rattle.rules.specs.Lists.{count, each}
 use Rattle.rules.specs.Lattice.{places, placesAt, Set, isIn, inner}
 use Rattle.rules.specs.Grid.{value, has}
@@ -22,13 +21,13 @@ cellStep n X = 1
 cellStep n Y = n
 cellStep n Z = n * n
 
--- the quad of the edge, if its byte has its mark; its lower end is inside or outside
-abbrev pub byteQuad : ℕ → ℕ → Bool → Place → List ℕ
-byteQuad n b inside e = cond (has (e .axis) b) (quad n (λ p. inside) e) []
+-- the quad of an edge, if the byte b of its lower end has its mark; that end is inside or outside
+abbrev pub byteQuad : ℕ → ℕ → Bool → Axis → Point → List ℕ
+byteQuad n b inside a p = cond (has a b) (quad n (λ q. inside) (record { axis = a; at = p })) []
 
 -- the quads of the three edges at a point
 unfoldable pub byteQuads : ℕ → ℕ → Bool → Point → List ℕ
-byteQuads n b inside p = each (byteQuad n b inside) (placesAt p)
+byteQuads n b inside p = each (λ e. byteQuad n b inside (e .axis) (e .at)) (placesAt p)
 
 -- how many marks a byte has
 abbrev pub byteMarks : ℕ → ℕ

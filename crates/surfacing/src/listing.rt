@@ -3,7 +3,6 @@ use lattice::bit;
 use lattice::level::point_count;
 use lattice::scan::next_point;
 use rules::Axis;
-use rules::Place;
 use rules::Point;
 ghost use mathlib.Core.Path.{_≡_};
 ghost use mathlib.Core.Bool.{true};
@@ -31,23 +30,24 @@ fn next(a: Axis) -> Axis
 }
 
 // The step from a cell's number to that of the next cell along an axis.
-fn cell_step(n: usize, a: Axis) -> usize
+fn cell_step(n: usize, a: Axis) -> u16
     requires { ⌜ n ≤ 32 ⌝ }
     ensures { λ r. ⌜ r ≡ cellStep n a ⌝ }
 {
     match a {
         Axis::X => 1,
-        Axis::Y => n,
-        Axis::Z => n * n,
+        Axis::Y => n as u16,
+        Axis::Z => (n * n) as u16,
     }
 }
 
 // The number of a cell.
-fn cell_number(n: usize, c: Point) -> usize
+fn cell_number(n: usize, c: Point) -> u16
     requires { ⌜ (n ≤ 32) × Cell n c ⌝ }
-    ensures { λ r. ⌜ (r ≡ cellNumber n c) × (r < 32768) ⌝ }
+    ensures { λ r. ⌜ r ≡ cellNumber n c ⌝ }
 {
-    c.i + n * (c.j + n * c.k)
+    let k = c.i + n * (c.j + n * c.k);
+    k as u16
 }
 
 // Writes four numbers into the list.
@@ -61,87 +61,40 @@ fn put_four(list: &mut [u16], at: usize, a: u16, b: u16, c: u16, d: u16)
     list[at + 3] = d;
 }
 
-// Writes the quad of an edge, if the byte b of its lower end has its mark, and answers where the next one goes.
-fn put_quad(n: usize, b: u8, inside: bool, e: Place, list: &mut [u16], at: usize) -> usize
-    requires { ⌜ (n ≤ 32) × (has (e .axis) b ≡ true → inner n (e .axis) (e .at) ≡ true) ⌝ }
-    requires { ⌜ at + length (byteQuad n b inside e) ≤ length (now list) ⌝ }
-    ensures { λ r. ⌜ (r ≡ at + length (byteQuad n b inside e)) × (now (list .exit) ≡ sets (now (list .entry)) at (byteQuad n b inside e)) ⌝ }
+// Writes the quad of the edge along a at the point q, if q's byte b has its mark, and answers where the next one goes.
+fn put_quad(n: usize, b: u8, inside: bool, a: Axis, q: Point, list: &mut [u16], at: usize) -> usize
+    requires { ⌜ (n ≤ 32) × (has a b ≡ true → inner n a q ≡ true) × (at + length (byteQuad n b inside a q) ≤ length (now list)) ⌝ }
+    ensures { λ r. ⌜ (r ≡ at + length (byteQuad n b inside a q)) × (now (list .exit) ≡ sets (now (list .entry)) at (byteQuad n b inside a q)) ⌝ }
 {
-    let a = e.axis;
     if !bit(b, a) {
         return at;
     }
     let u = next(a);
     let along = cell_step(n, u);
     let across = cell_step(n, next(u));
-    let third = cell_number(n, e.at);
+    let third = cell_number(n, q);
     let second = third - across;
     let fourth = third - along;
     let first = second - along;
     if inside {
-        put_four(
-            list,
-            at,
-            first as u16,
-            second as u16,
-            third as u16,
-            fourth as u16,
-        );
+        put_four(list, at, first, second, third, fourth);
         return at + 4;
     }
-    put_four(
-        list,
-        at,
-        first as u16,
-        fourth as u16,
-        third as u16,
-        second as u16,
-    );
+    put_four(list, at, first, fourth, third, second);
     at + 4
 }
 
 // Writes the quads of the three edges at the point q, b being its byte, and answers where the next one goes.
 fn put_quads(n: usize, b: u8, inside: bool, q: Point, list: &mut [u16], at: usize) -> usize
-    requires { ⌜ (n ≤ 32) × MarksInner n b q ⌝ }
-    requires { ⌜ at + length (byteQuads n b inside q) ≤ length (now list) ⌝ }
+    requires { ⌜ (n ≤ 32) × MarksInner n b q × (at + length (byteQuads n b inside q) ≤ length (now list)) ⌝ }
     ensures { λ r. ⌜ (r ≡ at + length (byteQuads n b inside q)) × (now (list .exit) ≡ sets (now (list .entry)) at (byteQuads n b inside q)) ⌝ }
 {
     if b == 0 {
         return at;
     }
-    let on_x = put_quad(
-        n,
-        b,
-        inside,
-        Place {
-            axis: Axis::X,
-            at: q,
-        },
-        list,
-        at,
-    );
-    let on_y = put_quad(
-        n,
-        b,
-        inside,
-        Place {
-            axis: Axis::Y,
-            at: q,
-        },
-        list,
-        on_x,
-    );
-    put_quad(
-        n,
-        b,
-        inside,
-        Place {
-            axis: Axis::Z,
-            at: q,
-        },
-        list,
-        on_y,
-    )
+    let on_x = put_quad(n, b, inside, Axis::X, q, list, at);
+    let on_y = put_quad(n, b, inside, Axis::Y, q, list, on_x);
+    put_quad(n, b, inside, Axis::Z, q, list, on_y)
 }
 
 // The number of marks of a byte.

@@ -11,7 +11,9 @@ bit-requires : tie.Need-bit-requires
 bit-requires c κs = search needs
 
 returns : tie.Need-returns
-returns c = differ-is (c .before .args .inside) (c .bit .result) ∙ ap (λ (b : Bool). c .before .args .inside ⊕ b) (c .bit .ensures)
+returns c =
+    let start = c .before in
+    differ-is (start .args .inside) (c .bit .result) ∙ ap (λ (b : Bool). start .args .inside ⊕ b) (c .bit .ensures)
 
 pub across-spec : {M : Type 1} → statement M
 across-spec = tie.close (tie.spec bit-requires returns)

@@ -32,7 +32,9 @@ point-count-requires : tie.Need-point-count-requires Inv-loop μ-loop
 point-count-requires c κs = omega arith
 
 loop-holds : tie.Need-loop-holds Inv-loop μ-loop
-loop-holds c = (c .point-count .ensures .0, omega arith, refl, sym (first-outside (c .before .before .before .args .n) (c .before .before .before .args .grid .now) (c .before .before .before .pre .0 .1) (c .before .before .before .pre .1 .0) (c .before .before .before .pre .1 .1)), refl)
+loop-holds c =
+    let start = c .before .before .before in
+    (c .point-count .ensures .0, omega arith, refl, sym (first-outside (start .args .n) (start .args .grid .now) (start .pre .0 .1) (start .pre .1 .0) (start .pre .1 .1)), refl)
 
 sign-byte-requires : tie.Need-sign-byte-requires Inv-loop μ-loop
 sign-byte-requires c κs = tt

@@ -16,14 +16,16 @@ point-count-requires c κs = search needs
 returns : tie.Need-returns
 unfolding surfaceSized
 returns c =
-    let g : length (c .before .before .before .before .before .args .grid .now) < pointCount (c .before .before .before .before .before .args .n) = omega (arith, c .before .point-count .ensures .0) in
+    let start = c .before .before .before .before .before in
+    let g : length (start .args .grid .now) < pointCount (start .args .n) = omega (arith, c .before .point-count .ensures .0) in
     simp (lt-ltb _ _ g)
 
 returns-2 : tie.Need-returns-2
 unfolding surfaceSized
 returns-2 c =
-    let g : pointCount (c .before .before .before .before .before .before .args .n) ≤ length (c .before .before .before .before .before .before .args .grid .now) = omega (arith, c .before .before .point-count .ensures .0) in
-    let s : length (c .before .before .before .before .before .before .args .signs .now) < pointCount (c .before .before .before .before .before .before .args .n) = omega (arith, c .before .before .point-count .ensures .0) in
+    let start = c .before .before .before .before .before .before in
+    let g : pointCount (start .args .n) ≤ length (start .args .grid .now) = omega (arith, c .before .before .point-count .ensures .0) in
+    let s : length (start .args .signs .now) < pointCount (start .args .n) = omega (arith, c .before .before .point-count .ensures .0) in
     simp (le-ltb _ _ g, lt-ltb _ _ s)
 
 is-grid-requires : tie.Need-is-grid-requires
@@ -32,28 +34,32 @@ is-grid-requires c κs = search needs
 returns-3 : tie.Need-returns-3
 unfolding surfaceSized
 returns-3 c =
-    let g : pointCount (c .before .before .before .before .before .before .before .before .args .n) ≤ length (c .before .before .before .before .before .before .before .before .args .grid .now) = omega (arith, c .before .before .before .before .point-count .ensures .0) in
-    let s : pointCount (c .before .before .before .before .before .before .before .before .args .n) ≤ length (c .before .before .before .before .before .before .before .before .args .signs .now) = omega (arith, c .before .before .before .before .point-count .ensures .0) in
+    let start = c .before .before .before .before .before .before .before .before in
+    let g : pointCount (start .args .n) ≤ length (start .args .grid .now) = omega (arith, c .before .before .before .before .point-count .ensures .0) in
+    let s : pointCount (start .args .n) ≤ length (start .args .signs .now) = omega (arith, c .before .before .before .before .point-count .ensures .0) in
     simp (le-ltb _ _ g, le-ltb _ _ s, fails (c .before .is-grid .ensures) (c .if3 .taken))
 
 signs-fit-requires : tie.Need-signs-fit-requires
 signs-fit-requires c κs =
-    let g : pointCount (c .before .before .before .before .before .before .before .before .args .n) ≤ length (c .before .before .before .before .before .before .before .before .args .grid .now) = omega (arith, c .before .before .before .before .point-count .ensures .0) in
-    let s : pointCount (c .before .before .before .before .before .before .before .before .args .n) ≤ length (c .before .before .before .before .before .before .before .before .args .signs .now) = omega (arith, c .before .before .before .before .point-count .ensures .0) in
-    (c .before .before .before .before .before .before .before .before .pre, record { g-long = g; s-long = s; grid = holds (c .before .is-grid .ensures) (c .if3 .left) })
+    let start = c .before .before .before .before .before .before .before .before in
+    let g : pointCount (start .args .n) ≤ length (start .args .grid .now) = omega (arith, c .before .before .before .before .point-count .ensures .0) in
+    let s : pointCount (start .args .n) ≤ length (start .args .signs .now) = omega (arith, c .before .before .before .before .point-count .ensures .0) in
+    (start .pre, record { g-long = g; s-long = s; grid = holds (c .before .is-grid .ensures) (c .if3 .left) })
 
 returns-4 : tie.Need-returns-4
 unfolding surfaceSized
 returns-4 c =
-    let g : pointCount (c .before .before .before .before .before .before .before .before .before .before .args .n) ≤ length (c .before .before .before .before .before .before .before .before .before .before .args .grid .now) = omega (arith, c .before .before .before .before .before .before .point-count .ensures .0) in
-    let s : pointCount (c .before .before .before .before .before .before .before .before .before .before .args .n) ≤ length (c .before .before .before .before .before .before .before .before .before .before .args .signs .now) = omega (arith, c .before .before .before .before .before .before .point-count .ensures .0) in
+    let start = c .before .before .before .before .before .before .before .before .before .before in
+    let g : pointCount (start .args .n) ≤ length (start .args .grid .now) = omega (arith, c .before .before .before .before .before .before .point-count .ensures .0) in
+    let s : pointCount (start .args .n) ≤ length (start .args .signs .now) = omega (arith, c .before .before .before .before .before .before .point-count .ensures .0) in
     simp (le-ltb _ _ g, le-ltb _ _ s, holds (c .before .before .before .is-grid .ensures) (c .before .before .if3 .left), fails (c .before .signs-fit .ensures) (c .if4 .taken))
 
 list-quads-requires : tie.Need-list-quads-requires
 list-quads-requires c κs =
-    let g : pointCount (c .before .before .before .before .before .before .before .before .before .before .before .args .n) ≤ length (c .before .before .before .before .before .before .before .before .before .before .before .args .grid .now) = omega (arith, c .before .before .before .before .before .before .before .point-count .ensures .0) in
-    let s : pointCount (c .before .before .before .before .before .before .before .before .before .before .before .args .n) ≤ length (c .before .before .before .before .before .before .before .before .before .before .before .args .signs .now) = omega (arith, c .before .before .before .before .before .before .before .point-count .ensures .0) in
-    (c .before .before .before .before .before .before .before .before .before .before .before .pre, record { g-long = g; s-long = s; grid = holds (c .before .before .before .before .is-grid .ensures) (c .before .before .before .if3 .left) })
+    let start = c .before .before .before .before .before .before .before .before .before .before .before in
+    let g : pointCount (start .args .n) ≤ length (start .args .grid .now) = omega (arith, c .before .before .before .before .before .before .before .point-count .ensures .0) in
+    let s : pointCount (start .args .n) ≤ length (start .args .signs .now) = omega (arith, c .before .before .before .before .before .before .before .point-count .ensures .0) in
+    (start .pre, record { g-long = g; s-long = s; grid = holds (c .before .before .before .before .is-grid .ensures) (c .before .before .before .if3 .left) })
 
 same-length : tie.Need-same-length
 same-length c = search needs
@@ -61,8 +67,9 @@ same-length c = search needs
 returns-5 : tie.Need-returns-5
 unfolding surfaceSized
 returns-5 c =
-    let g : pointCount (c .before .before .before .before .before .before .before .before .before .before .before .before .before .before .args .n) ≤ length (c .before .before .before .before .before .before .before .before .before .before .before .before .before .before .args .grid .now) = omega (arith, c .before .before .before .before .before .before .before .before .before .before .point-count .ensures .0, c .before .before .before .before .before .before .before .before .before .if1 .left) in
-    let s : pointCount (c .before .before .before .before .before .before .before .before .before .before .before .before .before .before .args .n) ≤ length (c .before .before .before .before .before .before .before .before .before .before .before .before .before .before .args .signs .now) = omega (arith, c .before .before .before .before .before .before .before .before .before .before .point-count .ensures .0, c .before .before .before .before .before .before .before .before .if2 .left) in
+    let start = c .before .before .before .before .before .before .before .before .before .before .before .before .before .before in
+    let g : pointCount (start .args .n) ≤ length (start .args .grid .now) = omega (arith, c .before .before .before .before .before .before .before .before .before .before .point-count .ensures .0, c .before .before .before .before .before .before .before .before .before .if1 .left) in
+    let s : pointCount (start .args .n) ≤ length (start .args .signs .now) = omega (arith, c .before .before .before .before .before .before .before .before .before .before .point-count .ensures .0, c .before .before .before .before .before .before .before .before .if2 .left) in
     simp (le-ltb _ _ g, le-ltb _ _ s, holds (c .before .before .before .before .before .before .before .is-grid .ensures) (c .before .before .before .before .before .before .if3 .left), holds (c .before .before .before .before .before .signs-fit .ensures) (c .before .before .before .before .if4 .left)) (c .before .before .list-quads .ensures)
 
 pub surface-sized-spec : {M : Type 1} → statement M

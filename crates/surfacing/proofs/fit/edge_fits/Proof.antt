@@ -13,29 +13,40 @@ coordinate-requires : tie.Need-coordinate-requires
 coordinate-requires c κs = search needs
 
 returns : tie.Need-returns
-returns c = edge-beyond _ _ _ (c .before .before .before .before .args .a) (c .before .before .before .before .args .q) (rw (sym (c .before .coordinate .ensures)) (c .if1 .taken))
+returns c =
+    let start = c .before .before .before .before in
+    edge-beyond _ _ _ (start .args .a) (start .args .q) (rw (sym (c .before .coordinate .ensures)) (c .if1 .taken))
 
 point-step-requires : tie.Need-point-step-requires
 point-step-requires c κs = search needs
 
 add-r : tie.Need-add-r
-add-r c = let b = up-below (c .before .before .before .before .before .args .n) (c .before .before .before .before .before .args .a) (c .before .before .before .before .before .args .q) (c .before .before .before .before .before .pre .2) (rw (sym (c .before .before .coordinate .ensures)) (omega arith)) in omega (arith, c .point-step .ensures)
+add-r c =
+    let start = c .before .before .before .before .before in
+    let b = up-below (start .args .n) (start .args .a) (start .args .q) (start .pre .2) (rw (sym (c .before .before .coordinate .ensures)) (omega arith)) in omega (arith, c .point-step .ensures)
 
 shared-slice-read-change : tie.Need-shared-slice-read-change
-shared-slice-read-change c = omega (arith, below (c .before .before .before .before .before .before .args .n) (c .before .before .before .before .before .before .args .q) (c .before .before .before .before .before .before .pre .2))
+shared-slice-read-change c =
+    let start = c .before .before .before .before .before .before in
+    omega (arith, below (start .args .n) (start .args .q) (start .pre .2))
 
 shared-slice-read-change-2 : tie.Need-shared-slice-read-change-2
-shared-slice-read-change-2 c = let b = up-below (c .before .before .before .before .before .before .before .args .n) (c .before .before .before .before .before .before .before .args .a) (c .before .before .before .before .before .before .before .args .q) (c .before .before .before .before .before .before .before .pre .2) (rw (sym (c .before .before .before .before .coordinate .ensures)) (omega arith)) in omega (arith, c .before .before .point-step .ensures)
+shared-slice-read-change-2 c =
+    let start = c .before .before .before .before .before .before .before in
+    let b = up-below (start .args .n) (start .args .a) (start .args .q) (start .pre .2) (rw (sym (c .before .before .before .before .coordinate .ensures)) (omega arith)) in omega (arith, c .before .before .point-step .ensures)
 
 shared-slice-read-bit : tie.Need-shared-slice-read-bit
-shared-slice-read-bit c = omega (arith, below (c .before .before .before .before .before .before .before .before .args .n) (c .before .before .before .before .before .before .before .before .args .q) (c .before .before .before .before .before .before .before .before .pre .2))
+shared-slice-read-bit c =
+    let start = c .before .before .before .before .before .before .before .before in
+    omega (arith, below (start .args .n) (start .args .q) (start .pre .2))
 
 bit-requires : tie.Need-bit-requires
 bit-requires c κs = search needs
 
 returns-2 : tie.Need-returns-2
 returns-2 c =
-    edge-is (c .before .before .before .before .before .before .before .before .before .args .n) (c .before .before .before .before .before .before .before .before .before .args .grid .now) (c .before .before .before .before .before .before .before .before .before .args .signs .now) (c .before .before .before .before .before .before .before .before .before .args .a) (c .before .before .before .before .before .before .before .before .before .args .q) (c .before .before .before .before .before .before .before .before .before .args .p) _ _ (c .before .before .before .before .before .before .before .before .before .pre .1) (c .before .before .before .before .before .before .before .before .before .pre .2) (rw (sym (c .before .before .before .before .before .before .coordinate .ensures)) (omega arith)) (c .before .before .before .before .before .before .before .before .before .pre .3) (c .before .before .before .before .point-step .ensures) (c .bit .ensures)
+    let start = c .before .before .before .before .before .before .before .before .before in
+    edge-is (start .args .n) (start .args .grid .now) (start .args .signs .now) (start .args .a) (start .args .q) (start .args .p) _ _ (start .pre .1) (start .pre .2) (rw (sym (c .before .before .before .before .before .before .coordinate .ensures)) (omega arith)) (start .pre .3) (c .before .before .before .before .point-step .ensures) (c .bit .ensures)
 
 pub edge-fits-spec : {M : Type 1} → statement M
 edge-fits-spec =

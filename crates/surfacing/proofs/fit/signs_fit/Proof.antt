@@ -24,7 +24,9 @@ abbrev μ-loop : tie.MeasureT-loop
 μ-loop n grid signs count q₀ p₀ q p = count - p
 
 shared-slice-read-if1 : tie.Need-shared-slice-read-if1 Inv-loop μ-loop
-shared-slice-read-if1 c = omega (arith, count-some (c .before .before .before .args .n), c .before .before .before .pre .1 .s-long)
+shared-slice-read-if1 c =
+    let start = c .before .before .before in
+    omega (arith, count-some (start .args .n), start .pre .1 .s-long)
 
 returns : tie.Need-returns Inv-loop μ-loop
 returns c = origin-inside _ _ (c .before .before .before .before .args .signs .now) (c .if1 .taken)
@@ -37,21 +39,24 @@ loop-holds c = (c .point-count .ensures .0, omega arith, at-start _, all-start _
 
 point-fits-requires : tie.Need-point-fits-requires Inv-loop μ-loop
 point-fits-requires c κs =
+    let start = c .before .before .before .before .before .before .before in
     let l = c .before .loop in
-    let h : l .p < pointCount (c .before .before .before .before .before .before .before .args .n) = omega arith in
-    (c .before .before .before .before .before .before .before .pre .0, c .before .before .before .before .before .before .before .pre .1, at-grid _ (l .p) (l .q) (l .inv .2) h, sym (l .inv .2 .is))
+    let h : l .p < pointCount (start .args .n) = omega arith in
+    (start .pre .0, start .pre .1, at-grid _ (l .p) (l .q) (l .inv .2) h, sym (l .inv .2 .is))
 
 returns-2 : tie.Need-returns-2 Inv-loop μ-loop
 returns-2 c =
+    let start = c .before .before .before .before .before .before .before .before .before in
     let l = c .before .before .before .loop in
-    let h : l .p < pointCount (c .before .before .before .before .before .before .before .before .before .args .n) = omega arith in
-    sym (all-fails (pointFits _ (marks _ (c .before .before .before .before .before .before .before .before .before .args .grid .now)) (c .before .before .before .before .before .before .before .before .before .args .signs .now)) _ (l .p) (l .q) (l .inv .2) h (fails (c .before .point-fits .ensures) (c .if2 .taken))) ∙ l .inv .3
+    let h : l .p < pointCount (start .args .n) = omega arith in
+    sym (all-fails (pointFits _ (marks _ (start .args .grid .now)) (start .args .signs .now)) _ (l .p) (l .q) (l .inv .2) h (fails (c .before .point-fits .ensures) (c .if2 .taken))) ∙ l .inv .3
 
 next-point-requires : tie.Need-next-point-requires Inv-loop μ-loop
 next-point-requires c κs =
+    let start = c .before .before .before .before .before .before .before .before .before in
     let l = c .before .before .before .loop in
-    let h : l .p < pointCount (c .before .before .before .before .before .before .before .before .before .args .n) = omega arith in
-    (c .before .before .before .before .before .before .before .before .before .pre .0, at-grid _ (l .p) (l .q) (l .inv .2) h)
+    let h : l .p < pointCount (start .args .n) = omega arith in
+    (start .pre .0, at-grid _ (l .p) (l .q) (l .inv .2) h)
 
 add-p : tie.Need-add-p Inv-loop μ-loop
 add-p c = omega (arith, c .before .before .before .loop-test .taken, c .before .before .before .before .before .point-count .ensures .1)
@@ -61,15 +66,17 @@ loop-less c = omega (arith, c .before .before .before .loop-test .taken)
 
 loop-again : tie.Need-loop-again Inv-loop μ-loop
 loop-again c =
+    let start = c .before .before .before .before .before .before .before .before .before .before in
     let l = c .before .before .before .before .loop in
-    let h : l .p < pointCount (c .before .before .before .before .before .before .before .before .before .before .args .n) = omega (arith, l .inv .0, c .before .before .before .loop-test .taken) in
-    let m = all-more (pointFits _ (marks _ (c .before .before .before .before .before .before .before .before .before .before .args .grid .now)) (c .before .before .before .before .before .before .before .before .before .before .args .signs .now)) _ (l .p) (l .q) (l .inv .2) h (holds (c .before .before .point-fits .ensures) (c .before .if2 .left)) in
+    let h : l .p < pointCount (start .args .n) = omega (arith, l .inv .0, c .before .before .before .loop-test .taken) in
+    let m = all-more (pointFits _ (marks _ (start .args .grid .now)) (start .args .signs .now)) _ (l .p) (l .q) (l .inv .2) h (holds (c .before .before .point-fits .ensures) (c .before .if2 .left)) in
     (l .inv .0, omega arith, rw (add-one, c .next-point .ensures) (at-next _ (l .p) (l .q) (l .inv .2) h), rw add-one (m ∙ l .inv .3))
 
 returns-3 : tie.Need-returns-3 Inv-loop μ-loop
 returns-3 c =
+    let start = c .before .before .before .before .before .before .before in
     let l = c .before .loop in
-    sym (all-end (pointFits _ (marks _ (c .before .before .before .before .before .before .before .args .grid .now)) (c .before .before .before .before .before .before .before .args .signs .now)) _ (l .p) (omega (arith, l .inv .0, c .loop-test .left))) ∙ l .inv .3
+    sym (all-end (pointFits _ (marks _ (start .args .grid .now)) (start .args .signs .now)) _ (l .p) (omega (arith, l .inv .0, c .loop-test .left))) ∙ l .inv .3
 
 pub signs-fit-spec : {M : Type 1} → statement M
 signs-fit-spec =

@@ -1,26 +1,29 @@
 -- `surfacing::listing::cell_number` meets its contract. Assumes nothing.
-use mathlib.Core.Path.{refl}
+use borrow.Author.Needs.{needs}
 use native.Mathlib.Omega.{arith}
 use Rattle.surfacing.proofs.Around.{cell-below, cube-most, parts-most}
 use Rattle.surfacing.proofs.listing.cell_number.Statement.{statement}
 use Rattle.surfacing.proofs.listing.cell_number.Tie as tie
 
-mul-result : tie.Need-mul-result
-mul-result c = omega (arith, parts-most (c .before .args .n) (c .before .args .c) (c .before .pre .0) (c .before .pre .1))
+mul-k : tie.Need-mul-k
+mul-k c = let start = c .before in omega (arith, parts-most (start .args .n) (start .args .c) (start .pre .0) (start .pre .1))
 
-add-result : tie.Need-add-result
-add-result c = omega (arith, parts-most (c .before .before .args .n) (c .before .before .args .c) (c .before .before .pre .0) (c .before .before .pre .1))
+add-k : tie.Need-add-k
+add-k c = let start = c .before .before in omega (arith, parts-most (start .args .n) (start .args .c) (start .pre .0) (start .pre .1))
 
-mul-result-2 : tie.Need-mul-result-2
-mul-result-2 c = omega (arith, parts-most (c .before .before .args .n) (c .before .before .args .c) (c .before .before .pre .0) (c .before .before .pre .1))
+mul-k-2 : tie.Need-mul-k-2
+mul-k-2 c = let start = c .before .before in omega (arith, parts-most (start .args .n) (start .args .c) (start .pre .0) (start .pre .1))
 
-add-result-2 : tie.Need-add-result-2
-add-result-2 c = omega (arith, parts-most (c .before .before .before .args .n) (c .before .before .before .args .c) (c .before .before .before .pre .0) (c .before .before .before .pre .1))
+add-k-2 : tie.Need-add-k-2
+add-k-2 c = let start = c .before .before .before in omega (arith, parts-most (start .args .n) (start .args .c) (start .pre .0) (start .pre .1))
+
+cast-result : tie.Need-cast-result
+cast-result c =
+    let start = c .before .before .before in
+    omega (arith, cell-below (start .args .n) (start .args .c) (start .pre .1), cube-most (start .args .n) (start .pre .0) .1)
 
 returns : tie.Need-returns
-returns c =
-    let s = c .before .before .before in
-    (refl, omega (arith, cell-below (s .args .n) (s .args .c) (s .pre .1), cube-most (s .args .n) (s .pre .0) .1))
+returns c = search needs
 
 pub cell-number-spec : {M : Type 1} → statement M
-cell-number-spec = tie.close (tie.spec mul-result add-result mul-result-2 add-result-2 returns)
+cell-number-spec = tie.close (tie.spec mul-k add-k mul-k-2 add-k-2 cast-result returns)

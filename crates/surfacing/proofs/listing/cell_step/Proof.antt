@@ -11,11 +11,17 @@ enum-told c = search needs
 enum-told-2 : tie.Need-enum-told-2
 enum-told-2 c = search needs
 
+cast-result : tie.Need-cast-result
+cast-result c = search needs
+
 enum-told-3 : tie.Need-enum-told-3
 enum-told-3 c = search needs
 
 mul-result : tie.Need-mul-result
 mul-result c = omega (arith, cube-most (c .before .before .args .n) (omega arith) .0)
+
+cast-result-2 : tie.Need-cast-result-2
+cast-result-2 c = omega (arith, cube-most (c .before .before .args .n) (omega arith) .0)
 
 returns : tie.Need-returns
 returns c = search needs
@@ -28,4 +34,14 @@ returns-3 c = rw (c .enum-told3 .given .1)
 
 pub cell-step-spec : {M : Type 1} → statement M
 cell-step-spec =
-    tie.close (tie.spec enum-told enum-told-2 enum-told-3 mul-result returns returns-2 returns-3)
+    tie.close
+    (tie.spec
+    enum-told
+    enum-told-2
+    cast-result
+    enum-told-3
+    mul-result
+    cast-result-2
+    returns
+    returns-2
+    returns-3)

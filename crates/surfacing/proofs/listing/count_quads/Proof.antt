@@ -25,7 +25,8 @@ point-count-requires c κs = c .before .pre .0
 
 loop-holds : tie.Need-loop-holds Inv-loop μ-loop
 loop-holds c =
-    (c .point-count .ensures .0, omega arith, omega arith, zero-add (countFrom (c .before .before .args .n) (marks (c .before .before .args .n) (c .before .before .args .grid .now)) 0) ∙ count-start (c .before .before .args .n) (marks (c .before .before .args .n) (c .before .before .args .grid .now)))
+    let start = c .before .before in
+    (c .point-count .ensures .0, omega arith, omega arith, zero-add (countFrom (start .args .n) (marks (start .args .n) (start .args .grid .now)) 0) ∙ count-start (start .args .n) (marks (start .args .n) (start .args .grid .now)))
 
 shared-slice-read-marks-in : tie.Need-shared-slice-read-marks-in Inv-loop μ-loop
 shared-slice-read-marks-in c = omega arith
@@ -44,11 +45,12 @@ loop-less c = omega arith
 
 loop-again : tie.Need-loop-again Inv-loop μ-loop
 loop-again c =
+    let start = c .before .before .before .before .before .before in
     let l = c .before .before .before .loop in
-    let n = c .before .before .before .before .before .before .args .n in
-    let g = c .before .before .before .before .before .before .args .grid .now in
+    let n = start .args .n in
+    let g = start .args .grid .now in
     let h : l .p < pointCount n = omega (arith, l .inv .0, c .before .before .loop-test .taken) in
-    let e = count-step n g (l .p) (pointOf n (l .p)) (c .before .before .before .before .before .before .pre .1) (c .before .before .before .before .before .before .pre .2) (at-pointOf n (l .p) h) h in
+    let e = count-step n g (l .p) (pointOf n (l .p)) (start .pre .1) (start .pre .2) (at-pointOf n (l .p) h) h in
     let m = c .marks-in .ensures .0 in
     (l .inv .0, omega arith, omega (arith, c .marks-in .ensures .1), rw (add-one (l .p), m) (again (l .k) _ _ _ _ e (l .inv .3)))
   where
@@ -57,8 +59,9 @@ loop-again c =
 
 returns : tie.Need-returns Inv-loop μ-loop
 returns c =
+    let start = c .before .before .before .before in
     let l = c .before .loop in
-    let e = count-end (c .before .before .before .before .args .n) (marks (c .before .before .before .before .args .n) (c .before .before .before .before .args .grid .now)) (l .p) (omega (arith, l .inv .0, c .loop-test .left)) in
+    let e = count-end (start .args .n) (marks (start .args .n) (start .args .grid .now)) (l .p) (omega (arith, l .inv .0, c .loop-test .left)) in
     (sym (ap (λ (i : ℕ). l .k + i) e ∙ add-zero (l .k)) ∙ l .inv .3, omega (arith, l .inv .1, l .inv .2, c .before .before .point-count .ensures))
 
 pub count-quads-spec : {M : Type 1} → statement M

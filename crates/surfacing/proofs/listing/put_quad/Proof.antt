@@ -1,10 +1,7 @@
 -- `surfacing::listing::put_quad` meets its contract. Assumes nothing.
 use borrow.Author.Needs.{needs}
 use mathlib.Core.Path.{refl, ap, _∙_}
-use mathlib.Core.List.{List}
-use Prim.Native.Nat.{ℕ}
 use native.Mathlib.Nat.{add-zero}
-use native.Mathlib.Omega.{arith}
 use lib.Seq.{sets}
 use Rattle.rules.specs.Quads.{next}
 use Rattle.lattice.proofs.Tests.{fails, holds}
@@ -33,21 +30,21 @@ cell-step-requires-2 c κs = search needs
 
 cell-number-requires : tie.Need-cell-number-requires
 cell-number-requires c κs =
-    (c .before .before .before .before .before .before .before .pre .0 .0, inner→ (c .before .before .before .before .before .before .before .args .n) (c .before .before .before .before .before .before .before .args .e .axis) (c .before .before .before .before .before .before .before .args .e .at) (c .before .before .before .before .before .before .before .pre .0 .1 (holds (c .before .before .before .before .before .bit .ensures) (c .before .before .before .before .if1 .left))) .cell)
+    let start = c .before .before .before .before .before .before .before in
+    (start .pre .0, inner→ (start .args .n) (start .args .a) (start .args .q) (start .pre .1 (holds (c .before .before .before .before .before .bit .ensures) (c .before .before .before .before .if1 .left))) .cell)
 
 -- the numbers of the four cells
 numbers : (c : tie.After-cell-number) →
-    Around (c .before .before .before .before .before .before .before .before .args .n)
-    (c .before .before .before .before .before .before .before .before .args .e .axis)
-    (c .before .before .before .before .before .before .before .before .args .e .at)
-    (c .before .before .before .cell-step .result) (c .before .cell-step2 .result) (c .cell-number .result)
+    let start = c .before .before .before .before .before .before .before .before in
+    Around (start .args .n) (start .args .a) (start .args .q) (c .before .before .before .cell-step .result) (c .before .cell-step2 .result) (c .cell-number .result)
 numbers c =
-    let s = c .before .before .before .before .before .before .before .before in
-    around (s .args .n) (s .args .e .axis) (s .args .e .at) _ _ _
-    (s .pre .0 .1 (holds (c .before .before .before .before .before .before .bit .ensures) (c .before .before .before .before .before .if1 .left)))
-    (c .before .before .before .cell-step .ensures ∙ ap (cellStep (s .args .n)) (c .before .before .before .before .next .ensures))
-    (c .before .cell-step2 .ensures ∙ ap (cellStep (s .args .n)) (c .before .before .next2 .ensures ∙ ap next (c .before .before .before .before .next .ensures)))
-    (c .cell-number .ensures .0)
+    let start = c .before .before .before .before .before .before .before .before in
+    let next-is = c .before .before .before .before .next .ensures in
+    around (start .args .n) (start .args .a) (start .args .q) _ _ _
+    (start .pre .1 (holds (c .before .before .before .before .before .before .bit .ensures) (c .before .before .before .before .before .if1 .left)))
+    (c .before .before .before .cell-step .ensures ∙ ap (cellStep (start .args .n)) next-is)
+    (c .before .cell-step2 .ensures ∙ ap (cellStep (start .args .n)) (c .before .before .next2 .ensures ∙ ap next next-is))
+    (c .cell-number .ensures)
 
 sub-second : tie.Need-sub-second
 sub-second c = numbers c .across-fits
@@ -58,20 +55,8 @@ sub-fourth c = numbers c .along-fits
 sub-first : tie.Need-sub-first
 sub-first c = numbers c .both-fit
 
-cast-put-four : tie.Need-cast-put-four
-cast-put-four c = search needs
-
-cast-put-four-2 : tie.Need-cast-put-four-2
-cast-put-four-2 c = search needs
-
-cast-put-four-3 : tie.Need-cast-put-four-3
-cast-put-four-3 c = search needs
-
-cast-put-four-4 : tie.Need-cast-put-four-4
-cast-put-four-4 c = search needs
-
 put-four-requires : tie.Need-put-four-requires
-put-four-requires c κs = simp (holds (c .before .before .before .before .before .before .before .before .bit .ensures) (c .before .before .before .before .before .before .before .if1 .left), c .before .if2 .taken) at (c .before .before .before .before .before .before .before .before .before .before .pre .1)
+put-four-requires c κs = simp (holds (c .before .before .before .before .before .before .before .before .bit .ensures) (c .before .before .before .before .before .before .before .if1 .left), c .before .if2 .taken) at (c .before .before .before .before .before .before .before .before .before .before .pre .2)
 
 add-result : tie.Need-add-result
 add-result c = search needs
@@ -81,23 +66,12 @@ same-length c = search needs
 
 returns-2 : tie.Need-returns-2
 returns-2 c =
+    let start = c .before .before .before .before .before .before .before .before .before .before .before .before .before in
     simp (holds (c .before .before .before .before .before .before .before .before .before .before .before .bit .ensures) (c .before .before .before .before .before .before .before .before .before .before .if1 .left), c .before .before .before .before .if2 .taken)
-    (refl, c .before .before .put-four .ensures ∙ ap (sets (c .before .before .before .before .before .before .before .before .before .before .before .before .before .args .list .now) (c .before .before .before .before .before .before .before .before .before .before .before .before .before .args .at)) (quad-inside (numbers (c .before .before .before .before .before)) (c .before .before .before .before .before .cell-number .ensures .0)))
-
-cast-put-four-5 : tie.Need-cast-put-four-5
-cast-put-four-5 c = search needs
-
-cast-put-four-6 : tie.Need-cast-put-four-6
-cast-put-four-6 c = search needs
-
-cast-put-four-7 : tie.Need-cast-put-four-7
-cast-put-four-7 c = search needs
-
-cast-put-four-8 : tie.Need-cast-put-four-8
-cast-put-four-8 c = search needs
+    (refl, c .before .before .put-four .ensures ∙ ap (sets (start .args .list .now) (start .args .at)) (quad-inside (numbers (c .before .before .before .before .before)) (c .before .before .before .before .before .cell-number .ensures)))
 
 put-four-requires-2 : tie.Need-put-four-requires-2
-put-four-requires-2 c κs = simp (holds (c .before .before .before .before .before .before .before .before .bit .ensures) (c .before .before .before .before .before .before .before .if1 .left), c .before .if2 .left) at (c .before .before .before .before .before .before .before .before .before .before .pre .1)
+put-four-requires-2 c κs = simp (holds (c .before .before .before .before .before .before .before .before .bit .ensures) (c .before .before .before .before .before .before .before .if1 .left), c .before .if2 .left) at (c .before .before .before .before .before .before .before .before .before .before .pre .2)
 
 add-result-2 : tie.Need-add-result-2
 add-result-2 c = search needs
@@ -107,8 +81,9 @@ same-length-2 c = search needs
 
 returns-3 : tie.Need-returns-3
 returns-3 c =
+    let start = c .before .before .before .before .before .before .before .before .before .before .before .before .before in
     simp (holds (c .before .before .before .before .before .before .before .before .before .before .before .bit .ensures) (c .before .before .before .before .before .before .before .before .before .before .if1 .left), c .before .before .before .before .if2 .left)
-    (refl, c .before .before .put-four2 .ensures ∙ ap (sets (c .before .before .before .before .before .before .before .before .before .before .before .before .before .args .list .now) (c .before .before .before .before .before .before .before .before .before .before .before .before .before .args .at)) (quad-outside (numbers (c .before .before .before .before .before)) (c .before .before .before .before .before .cell-number .ensures .0)))
+    (refl, c .before .before .put-four2 .ensures ∙ ap (sets (start .args .list .now) (start .args .at)) (quad-outside (numbers (c .before .before .before .before .before)) (c .before .before .before .before .before .cell-number .ensures)))
 
 pub put-quad-spec : {M : Type 1} → statement M
 put-quad-spec =
@@ -124,18 +99,10 @@ put-quad-spec =
     sub-second
     sub-fourth
     sub-first
-    cast-put-four
-    cast-put-four-2
-    cast-put-four-3
-    cast-put-four-4
     put-four-requires
     add-result
     same-length
     returns-2
-    cast-put-four-5
-    cast-put-four-6
-    cast-put-four-7
-    cast-put-four-8
     put-four-requires-2
     add-result-2
     same-length-2

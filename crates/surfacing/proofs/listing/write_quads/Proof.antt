@@ -37,11 +37,12 @@ point-count-requires c κs = c .before .before .before .pre .0
 
 loop-holds : tie.Need-loop-holds Inv-loop μ-loop
 loop-holds c =
-    let n = c .before .before .before .before .args .n in
-    let E = marks n (c .before .before .before .before .args .grid .now) in
-    let s = inside n (c .before .before .before .before .args .signs .now) in
+    let start = c .before .before .before .before in
+    let n = start .args .n in
+    let E = marks n (start .args .grid .now) in
+    let s = inside n (start .args .signs .now) in
     let e = quads-start n E s in
-    (c .point-count .ensures .0, omega arith, at-start _, refl, omega (arith, ap length e, quads-length n E s, c .before .before .before .before .pre .2), ap (sets (c .before .before .before .before .args .list .now) 0) e)
+    (c .point-count .ensures .0, omega arith, at-start _, refl, omega (arith, ap length e, quads-length n E s, start .pre .2), ap (sets (start .args .list .now) 0) e)
 
 shared-slice-read-put-quads : tie.Need-shared-slice-read-put-quads Inv-loop μ-loop
 shared-slice-read-put-quads c = omega (arith, c .before .before .before .before .before .before .before .pre .1 .g-long)
@@ -51,20 +52,23 @@ shared-slice-read-put-quads-2 c = omega (arith, c .before .before .before .befor
 
 put-quads-requires : tie.Need-put-quads-requires Inv-loop μ-loop
 put-quads-requires c κs =
+    let start = c .before .before .before .before .before .before .before .before .before in
     let l = c .before .before .before .before .loop in
-    let n = c .before .before .before .before .before .before .before .before .before .args .n in
-    let g = c .before .before .before .before .before .before .before .before .before .args .grid .now in
-    let s = c .before .before .before .before .before .before .before .before .before .args .signs .now in
+    let n = start .args .n in
+    let g = start .args .grid .now in
+    let s = start .args .signs .now in
     let h : l .p < pointCount n = omega (arith, l .inv .0, c .before .before .before .loop-test .taken) in (
-      (c .before .before .before .before .before .before .before .before .before .pre .0, marks-inner-at n g (l .p) (l .q) (c .before .before .before .before .before .before .before .before .before .pre .1 .g-long) (c .before .before .before .before .before .before .before .before .before .pre .1 .grid) (l .inv .2) h),
-      rw (quads-byte n g s (l .p) (l .q) (c .before .before .before .before .before .before .before .before .before .pre .1) (l .inv .2) h) (quads-room n (marks n g) (inside n s) (l .p) (l .q) (l .inv .2) h (l .at) (l .list) (l .inv .4)),
+      start .pre .0,
+      marks-inner-at n g (l .p) (l .q) (start .pre .1 .g-long) (start .pre .1 .grid) (l .inv .2) h,
+      rw (quads-byte n g s (l .p) (l .q) (start .pre .1) (l .inv .2) h) (quads-room n (marks n g) (inside n s) (l .p) (l .q) (l .inv .2) h (l .at) (l .list) (l .inv .4)),
     )
 
 next-point-requires : tie.Need-next-point-requires Inv-loop μ-loop
 next-point-requires c κs =
+    let start = c .before .before .before .before .before .before .before .before .before .before .before .before in
     let l = c .before .before .before .before .before .before .before .loop in
-    let h : l .p < pointCount (c .before .before .before .before .before .before .before .before .before .before .before .before .args .n) = omega (arith, l .inv .0, c .before .before .before .before .before .before .loop-test .taken) in
-    (c .before .before .before .before .before .before .before .before .before .before .before .before .pre .0, at-grid _ (l .p) (l .q) (l .inv .2) h)
+    let h : l .p < pointCount (start .args .n) = omega (arith, l .inv .0, c .before .before .before .before .before .before .loop-test .taken) in
+    (start .pre .0, at-grid _ (l .p) (l .q) (l .inv .2) h)
 
 add-p : tie.Need-add-p Inv-loop μ-loop
 add-p c = omega (arith, c .before .before .before .before .before .before .before .loop-test .taken, c .before .before .before .before .before .before .before .before .before .point-count .ensures .1)
@@ -74,12 +78,13 @@ loop-less c = omega (arith, c .before .before .before .before .before .before .b
 
 loop-again : tie.Need-loop-again Inv-loop μ-loop
 loop-again c =
+    let start = c .before .before .before .before .before .before .before .before .before .before .before .before .before in
     let l = c .before .before .before .before .before .before .before .before .loop in
-    let n = c .before .before .before .before .before .before .before .before .before .before .before .before .before .args .n in
-    let g = c .before .before .before .before .before .before .before .before .before .before .before .before .before .args .grid .now in
-    let s = c .before .before .before .before .before .before .before .before .before .before .before .before .before .args .signs .now in
+    let n = start .args .n in
+    let g = start .args .grid .now in
+    let s = start .args .signs .now in
     let h : l .p < pointCount n = omega (arith, l .inv .0, c .before .before .before .before .before .before .before .loop-test .taken) in
-    let e = rw (quads-byte n g s (l .p) (l .q) (c .before .before .before .before .before .before .before .before .before .before .before .before .before .pre .1) (l .inv .2) h) at (c .before .before .before .put-quads .ensures) in
+    let e = rw (quads-byte n g s (l .p) (l .q) (start .pre .1) (l .inv .2) h) at (c .before .before .before .put-quads .ensures) in
     let w = quads-written n (marks n g) (inside n s) (l .p) (l .q) (l .inv .2) h (l .at) _ (l .list) _ e (l .inv .4) in
     (l .inv .0, omega arith, rw (add-one, c .next-point .ensures) (at-next n (l .p) (l .q) (l .inv .2) h), w .0 ∙ l .inv .3, rw add-one (w .1), rw add-one (w .2 ∙ l .inv .5))
 
@@ -88,13 +93,14 @@ same-length c = c .before .loop .inv .3
 
 returns : tie.Need-returns Inv-loop μ-loop
 returns c =
+    let start = c .before .before .before .before .before .before in
     let l = c .before .loop in
-    let n = c .before .before .before .before .before .before .args .n in
-    let E = marks n (c .before .before .before .before .before .before .args .grid .now) in
-    let s = inside n (c .before .before .before .before .before .before .args .signs .now) in
+    let n = start .args .n in
+    let E = marks n (start .args .grid .now) in
+    let s = inside n (start .args .signs .now) in
     sym (ap (sets (l .list) (l .at)) (quads-end n E s (l .p) (omega (arith, l .inv .0, c .loop-test .left))))
     ∙ l .inv .5
-    ∙ written (c .before .before .before .before .before .before .args .list .now) (quads n E s) (4 * quadCount n E) (quads-length n E s) (c .before .before .before .before .before .before .pre .2)
+    ∙ written (start .args .list .now) (quads n E s) (4 * quadCount n E) (quads-length n E s) (start .pre .2)
 
 pub write-quads-spec : {M : Type 1} → statement M
 write-quads-spec =
