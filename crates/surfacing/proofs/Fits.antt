@@ -8,10 +8,12 @@ use lib.Dec.{leb, eqb}
 use lib.ListN.{getD}
 use borrow.Author.Tests.{le-leb, lt-leb, eq-eqb, ne-eqb}
 use Rattle.rules.specs.declared.Axis.{Axis}
+use Rattle.rules.specs.declared.Axis.the-variants.{X, Y, Z}
 use Rattle.rules.specs.declared.Point.{Point}
 use Rattle.rules.specs.Lists.{_⊕_, allOf}
 use Rattle.rules.specs.Lattice.{coord, up, origin, pointNumber, points, Set, OfGrid}
 use Rattle.rules.specs.Grid.{has, marks}
+use Rattle.rules.proofs.Bits.{&&-true}
 use Rattle.signing.specs.SignBytes.{signByte, inside}
 use Rattle.signing.proofs.Differ.{differ-is}
 use Rattle.lattice.proofs.GridFacts.{grid-marks}
@@ -42,6 +44,20 @@ module _ (n : ℕ) (s : List ℕ) (q : Point) (p : ℕ) (at : p ≡ pointNumber 
 
   pub sign-fits : getD s p 0 ≤ 1 → leb (signByte n s q) 1 ≡ true
   sign-fits h = le-leb (signByte n s q) 1 (subst (λ (i : ℕ). getD s i 0 ≤ 1) at h)
+
+-- the three edges of a point whose sign is not above 1, one after the other
+module _ (n : ℕ) (E : Set) (s : List ℕ) (q : Point) (small : leb (signByte n s q) 1 ≡ true) where
+  pub x-fails : edgeFits n E (inside n s) X q ≡ false → false ≡ pointFits n E s q
+  unfolding pointFits
+  x-fails x = rw (small, x)
+
+  pub y-fails : edgeFits n E (inside n s) X q ≡ true → edgeFits n E (inside n s) Y q ≡ false → false ≡ pointFits n E s q
+  unfolding pointFits
+  y-fails x y = rw (small, x, y)
+
+  pub z-tells : edgeFits n E (inside n s) X q ≡ true → edgeFits n E (inside n s) Y q ≡ true → edgeFits n E (inside n s) Z q ≡ pointFits n E s q
+  unfolding pointFits
+  z-tells x y = rw (small, x, y) (sym (&&-true (edgeFits n E (inside n s) Z q)))
 
 -- the sign of (0,0,0)
 module _ (n : ℕ) (E : Set) (s : List ℕ) where

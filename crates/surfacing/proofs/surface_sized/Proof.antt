@@ -6,6 +6,7 @@ use native.Mathlib.Omega.{arith}
 use lib.ListN.{length}
 use Rattle.rules.specs.Lattice.{pointCount}
 use Rattle.lattice.proofs.Tests.{fails, holds}
+use Rattle.surfacing.specs.Fit.{Grids}
 use Rattle.surfacing.specs.Call.{surfaceSized}
 use Rattle.surfacing.proofs.surface_sized.Statement.{statement}
 use Rattle.surfacing.proofs.surface_sized.Tie as tie
@@ -28,38 +29,40 @@ returns-2 c =
     let s : length (start .args .signs .now) < pointCount (start .args .n) = omega (arith, c .before .before .point-count .ensures .0) in
     simp (le-ltb _ _ g, lt-ltb _ _ s)
 
+-- behind the two tests of length both buffers are long enough
+long : (c : tie.Else2) →
+    let start = c .before .before .before .before .before .before in
+    (pointCount (start .args .n) ≤ length (start .args .grid .now)) × (pointCount (start .args .n) ≤ length (start .args .signs .now))
+long c = (omega (arith, c .before .before .point-count .ensures .0), omega (arith, c .before .before .point-count .ensures .0))
+
 is-grid-requires : tie.Need-is-grid-requires
-is-grid-requires c κs = search needs
+is-grid-requires c κs = (c .before .before .before .before .before .before .pre, long c .0)
 
 returns-3 : tie.Need-returns-3
 unfolding surfaceSized
 returns-3 c =
+    let w = long (c .before .before) in
+    simp (le-ltb _ _ (w .0), le-ltb _ _ (w .1), fails (c .before .is-grid .ensures) (c .if3 .taken))
+
+-- behind the test of the grid the buffers are a grid and signs
+known : (c : tie.Else3) →
     let start = c .before .before .before .before .before .before .before .before in
-    let g : pointCount (start .args .n) ≤ length (start .args .grid .now) = omega (arith, c .before .before .before .before .point-count .ensures .0) in
-    let s : pointCount (start .args .n) ≤ length (start .args .signs .now) = omega (arith, c .before .before .before .before .point-count .ensures .0) in
-    simp (le-ltb _ _ g, le-ltb _ _ s, fails (c .before .is-grid .ensures) (c .if3 .taken))
+    Grids (start .args .n) (start .args .grid .now) (start .args .signs .now)
+known c =
+    let w = long (c .before .before) in
+    record { g-long = w .0; s-long = w .1; grid = holds (c .before .is-grid .ensures) (c .if3 .left) }
 
 signs-fit-requires : tie.Need-signs-fit-requires
-signs-fit-requires c κs =
-    let start = c .before .before .before .before .before .before .before .before in
-    let g : pointCount (start .args .n) ≤ length (start .args .grid .now) = omega (arith, c .before .before .before .before .point-count .ensures .0) in
-    let s : pointCount (start .args .n) ≤ length (start .args .signs .now) = omega (arith, c .before .before .before .before .point-count .ensures .0) in
-    (start .pre, record { g-long = g; s-long = s; grid = holds (c .before .is-grid .ensures) (c .if3 .left) })
+signs-fit-requires c κs = (c .before .before .before .before .before .before .before .before .pre, known c)
 
 returns-4 : tie.Need-returns-4
 unfolding surfaceSized
 returns-4 c =
-    let start = c .before .before .before .before .before .before .before .before .before .before in
-    let g : pointCount (start .args .n) ≤ length (start .args .grid .now) = omega (arith, c .before .before .before .before .before .before .point-count .ensures .0) in
-    let s : pointCount (start .args .n) ≤ length (start .args .signs .now) = omega (arith, c .before .before .before .before .before .before .point-count .ensures .0) in
-    simp (le-ltb _ _ g, le-ltb _ _ s, holds (c .before .before .before .is-grid .ensures) (c .before .before .if3 .left), fails (c .before .signs-fit .ensures) (c .if4 .taken))
+    let k = known (c .before .before) in
+    simp (le-ltb _ _ (k .g-long), le-ltb _ _ (k .s-long), k .grid, fails (c .before .signs-fit .ensures) (c .if4 .taken))
 
 list-quads-requires : tie.Need-list-quads-requires
-list-quads-requires c κs =
-    let start = c .before .before .before .before .before .before .before .before .before .before .before in
-    let g : pointCount (start .args .n) ≤ length (start .args .grid .now) = omega (arith, c .before .before .before .before .before .before .before .point-count .ensures .0) in
-    let s : pointCount (start .args .n) ≤ length (start .args .signs .now) = omega (arith, c .before .before .before .before .before .before .before .point-count .ensures .0) in
-    (start .pre, record { g-long = g; s-long = s; grid = holds (c .before .before .before .before .is-grid .ensures) (c .before .before .before .if3 .left) })
+list-quads-requires c κs = (c .before .before .before .before .before .before .before .before .before .before .before .pre, known (c .before .before .before))
 
 same-length : tie.Need-same-length
 same-length c = search needs
@@ -67,10 +70,8 @@ same-length c = search needs
 returns-5 : tie.Need-returns-5
 unfolding surfaceSized
 returns-5 c =
-    let start = c .before .before .before .before .before .before .before .before .before .before .before .before .before .before in
-    let g : pointCount (start .args .n) ≤ length (start .args .grid .now) = omega (arith, c .before .before .before .before .before .before .before .before .before .before .point-count .ensures .0, c .before .before .before .before .before .before .before .before .before .if1 .left) in
-    let s : pointCount (start .args .n) ≤ length (start .args .signs .now) = omega (arith, c .before .before .before .before .before .before .before .before .before .before .point-count .ensures .0, c .before .before .before .before .before .before .before .before .if2 .left) in
-    simp (le-ltb _ _ g, le-ltb _ _ s, holds (c .before .before .before .before .before .before .before .is-grid .ensures) (c .before .before .before .before .before .before .if3 .left), holds (c .before .before .before .before .before .signs-fit .ensures) (c .before .before .before .before .if4 .left)) (c .before .before .list-quads .ensures)
+    let k = known (c .before .before .before .before .before .before) in
+    simp (le-ltb _ _ (k .g-long), le-ltb _ _ (k .s-long), k .grid, holds (c .before .before .before .before .before .signs-fit .ensures) (c .before .before .before .before .if4 .left)) (c .before .before .list-quads .ensures)
 
 pub surface-sized-spec : {M : Type 1} → statement M
 surface-sized-spec =

@@ -1,52 +1,59 @@
 -- `surfacing::fit::point_fits` meets its contract. Assumes nothing.
-use borrow.Author.Needs.{needs}
-use mathlib.Core.Path.{sym, _∙_}
+use mathlib.Core.Path.{_≡_, _∙_}
+use mathlib.Core.Bool.{true}
 use native.Mathlib.Omega.{arith}
-use Rattle.rules.proofs.Bits.{&&-true}
+use lib.Dec.{leb}
+use Rattle.rules.specs.Grid.{marks}
 use Rattle.lattice.proofs.Tests.{fails, holds}
-use Rattle.surfacing.specs.Fit.{pointFits}
+use Rattle.signing.specs.SignBytes.{signByte}
 use Rattle.surfacing.proofs.Steps.{below}
-use Rattle.surfacing.proofs.Fits.{sign-above, sign-fits}
+use Rattle.surfacing.proofs.Fits.{sign-above, sign-fits, x-fails, y-fails, z-tells}
 use Rattle.surfacing.proofs.fit.point_fits.Statement.{statement}
 use Rattle.surfacing.proofs.fit.point_fits.Tie as tie
 
 shared-slice-read-if1 : tie.Need-shared-slice-read-if1
-shared-slice-read-if1 c =
-    let start = c .before .before .before in
-    omega (arith, below (start .args .n) (start .args .q) (start .pre .2))
+shared-slice-read-if1 c = let start = c .before .before .before in omega (arith, below (start .args .n) (start .args .q) (start .pre .2))
 
 returns : tie.Need-returns
-returns c =
+returns c = let start = c .before .before .before .before in sign-above _ (start .args .signs .now) (start .args .q) (start .args .p) (start .pre .3) _ (c .if1 .taken)
+
+-- behind the first test the sign is not above 1
+small : (c : tie.Else1) →
     let start = c .before .before .before .before in
-    sign-above _ (start .args .signs .now) (start .args .q) (start .args .p) (start .pre .3) _ (c .if1 .taken)
+    leb (signByte (start .args .n) (start .args .signs .now) (start .args .q)) 1 ≡ true
+small c =
+    let start = c .before .before .before .before in
+    sign-fits (start .args .n) (start .args .signs .now) (start .args .q) (start .args .p) (start .pre .3) (omega arith)
 
 edge-fits-requires : tie.Need-edge-fits-requires
 edge-fits-requires c κs = c .before .before .before .before .pre
 
 returns-2 : tie.Need-returns-2
-unfolding pointFits
 returns-2 c =
     let start = c .before .before .before .before .before .before in
-    rw (sign-fits (start .args .n) (start .args .signs .now) (start .args .q) (start .args .p) (start .pre .3) (omega arith), fails (c .before .edge-fits .ensures) (c .if2 .taken))
+    let E = marks (start .args .n) (start .args .grid .now) in
+    x-fails (start .args .n) E (start .args .signs .now) (start .args .q) (small (c .before .before)) (fails (c .before .edge-fits .ensures) (c .if2 .taken))
 
 edge-fits-requires-2 : tie.Need-edge-fits-requires-2
 edge-fits-requires-2 c κs = c .before .before .before .before .before .before .pre
 
 returns-3 : tie.Need-returns-3
-unfolding pointFits
 returns-3 c =
     let start = c .before .before .before .before .before .before .before .before in
-    rw (sign-fits (start .args .n) (start .args .signs .now) (start .args .q) (start .args .p) (start .pre .3) (omega arith), holds (c .before .before .before .edge-fits .ensures) (c .before .before .if2 .left), fails (c .before .edge-fits2 .ensures) (c .if3 .taken))
+    let E = marks (start .args .n) (start .args .grid .now) in
+    y-fails (start .args .n) E (start .args .signs .now) (start .args .q) (small (c .before .before .before .before))
+    (holds (c .before .before .before .edge-fits .ensures) (c .before .before .if2 .left)) (fails (c .before .edge-fits2 .ensures) (c .if3 .taken))
 
 edge-fits-requires-3 : tie.Need-edge-fits-requires-3
 edge-fits-requires-3 c κs = c .before .before .before .before .before .before .before .before .pre
 
 returns-4 : tie.Need-returns-4
-unfolding pointFits
 returns-4 c =
     let start = c .before .before .before .before .before .before .before .before .before in
-    rw (sign-fits (start .args .n) (start .args .signs .now) (start .args .q) (start .args .p) (start .pre .3) (omega arith), holds (c .before .before .before .before .edge-fits .ensures) (c .before .before .before .if2 .left), holds (c .before .before .edge-fits2 .ensures) (c .before .if3 .left))
-    (c .edge-fits3 .ensures ∙ sym (&&-true _))
+    let E = marks (start .args .n) (start .args .grid .now) in
+    c .edge-fits3 .ensures
+    ∙ z-tells (start .args .n) E (start .args .signs .now) (start .args .q) (small (c .before .before .before .before .before))
+    (holds (c .before .before .before .before .edge-fits .ensures) (c .before .before .before .if2 .left)) (holds (c .before .before .edge-fits2 .ensures) (c .before .if3 .left))
 
 pub point-fits-spec : {M : Type 1} → statement M
 point-fits-spec =

@@ -1,6 +1,7 @@
 -- `surfacing::fit::signs_fit` meets its contract. The loop's invariant: the scan stands at point q, of number p, and the points
 -- from there on fit exactly when the signs do. Assumes nothing.
 use mathlib.Core.Path.{_≡_, sym, _∙_}
+use mathlib.Core.Bool.{true, false}
 use Prim.Native.Nat.{_-_, _≤_, _<_}
 use native.Mathlib.Omega.{arith}
 use native.Mathlib.Numerals.{add-one}
@@ -48,8 +49,10 @@ returns-2 : tie.Need-returns-2 Inv-loop μ-loop
 returns-2 c =
     let start = c .before .before .before .before .before .before .before .before .before in
     let l = c .before .before .before .loop in
+    let f = pointFits (start .args .n) (marks (start .args .n) (start .args .grid .now)) (start .args .signs .now) in
     let h : l .p < pointCount (start .args .n) = omega arith in
-    sym (all-fails (pointFits _ (marks _ (start .args .grid .now)) (start .args .signs .now)) _ (l .p) (l .q) (l .inv .2) h (fails (c .before .point-fits .ensures) (c .if2 .taken))) ∙ l .inv .3
+    let e : f (l .q) ≡ false = fails {a = f (l .q)} (c .before .point-fits .ensures) (c .if2 .taken) in
+    sym (all-fails f _ (l .p) (l .q) (l .inv .2) h e) ∙ l .inv .3
 
 next-point-requires : tie.Need-next-point-requires Inv-loop μ-loop
 next-point-requires c κs =
@@ -68,9 +71,10 @@ loop-again : tie.Need-loop-again Inv-loop μ-loop
 loop-again c =
     let start = c .before .before .before .before .before .before .before .before .before .before in
     let l = c .before .before .before .before .loop in
+    let f = pointFits (start .args .n) (marks (start .args .n) (start .args .grid .now)) (start .args .signs .now) in
     let h : l .p < pointCount (start .args .n) = omega (arith, l .inv .0, c .before .before .before .loop-test .taken) in
-    let m = all-more (pointFits _ (marks _ (start .args .grid .now)) (start .args .signs .now)) _ (l .p) (l .q) (l .inv .2) h (holds (c .before .before .point-fits .ensures) (c .before .if2 .left)) in
-    (l .inv .0, omega arith, rw (add-one, c .next-point .ensures) (at-next _ (l .p) (l .q) (l .inv .2) h), rw add-one (m ∙ l .inv .3))
+    let e : f (l .q) ≡ true = holds {a = f (l .q)} (c .before .before .point-fits .ensures) (c .before .if2 .left) in
+    (l .inv .0, omega arith, rw (add-one, c .next-point .ensures) (at-next _ (l .p) (l .q) (l .inv .2) h), rw add-one (all-more f _ (l .p) (l .q) (l .inv .2) h e ∙ l .inv .3))
 
 returns-3 : tie.Need-returns-3 Inv-loop μ-loop
 returns-3 c =
