@@ -5,3 +5,5 @@ pub mod Adding
 pub mod Scanning
 pub mod Clearing
 pub mod Written
+pub mod Marks
+pub mod Calls
