@@ -4,3 +4,4 @@ pub mod Outcome
 pub mod Open
 pub mod Mark
 pub mod Scan
+pub mod Examples
