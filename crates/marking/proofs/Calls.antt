@@ -99,9 +99,10 @@ module _ (l : Level) (g : List ℕ) (c : List ℤ) where
       go : Ends l g c → (length (markAt l g c .grid) ≡ length g) × (isGrid (cellsOf l) (markAt l g c .grid) ≡ isGrid (cellsOf l) g)
       go (refuses k t e) = (ap (λ (o : Outcome). length (o .grid)) e, ap (λ (o : Outcome). isGrid (cellsOf l) (o .grid)) e)
       go (marks-it t e) =
-          let h = taken t in
-          (ap (λ (o : Outcome). length (o .grid)) e ∙ marked-length l (triangleOf c) g (h .0),
-          ap (λ (o : Outcome). isGrid (cellsOf l) (o .grid)) e ∙ grid-after l (triangleOf c) (h .2) g ∙ sym (h .1))
+          let h = taken t in (
+            ap (λ (o : Outcome). length (o .grid)) e ∙ marked-length l (triangleOf c) g (h .0),
+            ap (λ (o : Outcome). isGrid (cellsOf l) (o .grid)) e ∙ grid-after l (triangleOf c) (h .2) g ∙ sym (h .1),
+          )
 
 -- ---- one call after another
 module _ (l : Level) (g : List ℕ) (c d : List ℤ) where

@@ -35,7 +35,6 @@ or-either false y e = inr e
 
 -- ---- marking a grid with a triangle in range
 module _ (l : Level) (t : Triangle) (w : TriangleWithin l t) where
-
   module _ (g : List ℕ) where
     marks-in : (a : Axis) (p : Point) → added (marks (cellsOf l) g) (met l t) a p ≡ true → inner (cellsOf l) a p ≡ true
     marks-in a p e = ⊎-elim (marks-inner (cellsOf l) g a p) (met-inner l t a p w) (or-either (marks (cellsOf l) g a p) (met l t a p) e)

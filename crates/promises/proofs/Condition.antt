@@ -69,9 +69,10 @@ module _ (l : Level) (h : List ℕ) (long : pointsOf l ≤ length h) (grid : isG
       let E = marks (cellsOf l) h in
       let ends = route-ends (cellsOf l) p q r w in
       let e = route-parity E even (cellsOf l) p q r w in
-      subst₂ (λ (x y : ℕ). (parity (isIn E) r ≡ true) ↔ (x ≢ y)) (sym (taken-byte p (ends .0))) (sym (taken-byte q (ends .1)))
-      (λ o. bytes-differ (sign E p) (sign E q) .0 (differ (sign E p) (sign E q) .0 (sym e ∙ o)),
-      λ d. e ∙ differ (sign E p) (sign E q) .1 (bytes-differ (sign E p) (sign E q) .1 d))
+      subst₂ (λ (x y : ℕ). (parity (isIn E) r ≡ true) ↔ (x ≢ y)) (sym (taken-byte p (ends .0))) (sym (taken-byte q (ends .1))) (
+        λ o. bytes-differ (sign E p) (sign E q) .0 (differ (sign E p) (sign E q) .0 (sym e ∙ o)),
+        λ d. e ∙ differ (sign E p) (sign E q) .1 (bytes-differ (sign E p) (sign E q) .1 d),
+      )
 
 -- ---- the promised stage
 -- the four parts, of a grid g and the grid h that is left of it

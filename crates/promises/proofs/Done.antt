@@ -41,8 +41,8 @@ patch-at l g w e =
     let e₂ : patchFor (Known l) g w .number ≡ 0 = ap (λ (r : LevelRead). patchFor r g w .number) (sym (level-known l)) ∙ e in
     let P = pointsOf l in
     let r = chain-done (λ o. o .number)
-        ((ltb (length g) P, Patching.refused 2 g w) ∷ ((ltb (length w) P, Patching.refused 2 g w) ∷ ((not (isGrid (cellsOf l) g), Patching.refused 5 g w) ∷ [])))
-        (patchDone (cellsOf l) g w) (λ q. omega arith, (λ q. omega arith, (λ q. omega arith, tt))) e₂ in
+    ((ltb (length g) P, Patching.refused 2 g w) ∷ ((ltb (length w) P, Patching.refused 2 g w) ∷ ((not (isGrid (cellsOf l) g), Patching.refused 5 g w) ∷ [])))
+    (patchDone (cellsOf l) g w) (λ q. omega arith, (λ q. omega arith, (λ q. omega arith, tt))) e₂ in
     record {
       l = l;
       level = refl;

@@ -28,7 +28,7 @@ patchTold x = Patching.told (x .0) (x .1) (x .2)
 patchRead : Patching.Outcome → PatchAnswer × List ℕ × List ℕ
 patchRead o = (
   cond (eqb (o .number) 0) (Patch.Done (o .rims) (o .flips))
-  (cond (eqb (o .number) 1) Patch.BadLevel (cond (eqb (o .number) 2) Patch.ShortBuffer Patch.NoGrid)),
+      (cond (eqb (o .number) 1) Patch.BadLevel (cond (eqb (o .number) 2) Patch.ShortBuffer Patch.NoGrid)),
   o .grid,
   o .work,
 )

@@ -1,0 +1,82 @@
+-- `show_nine` ends. Assumes nothing.
+use borrow.Author.Needs.{needs}
+use Prim.Native.Nat.{_-_}
+use Rattle.marking_examples.proofs.show_nine.Statement.{statement}
+use Rattle.marking_examples.proofs.show_nine.Tie as tie
+
+abbrev Inv-loop : tie.InvT-loop
+Inv-loop name v k₀ t6 t7 k = Unit
+
+abbrev μ-loop : tie.MeasureT-loop
+μ-loop name v k₀ t6 t7 k = 9 - k
+
+slice-aggregate-say : tie.Need-slice-aggregate-say Inv-loop μ-loop
+slice-aggregate-say c = search needs
+
+say-requires : tie.Need-say-requires Inv-loop μ-loop
+say-requires c κs = search needs
+
+say-requires-2 : tie.Need-say-requires-2 Inv-loop μ-loop
+say-requires-2 c κs = search needs
+
+slice-aggregate-say-2 : tie.Need-slice-aggregate-say-2 Inv-loop μ-loop
+slice-aggregate-say-2 c = search needs
+
+say-requires-3 : tie.Need-say-requires-3 Inv-loop μ-loop
+say-requires-3 c κs = search needs
+
+loop-holds : tie.Need-loop-holds Inv-loop μ-loop
+loop-holds c = search needs
+
+slice-aggregate-say-3 : tie.Need-slice-aggregate-say-3 Inv-loop μ-loop
+slice-aggregate-say-3 c = search needs
+
+say-requires-4 : tie.Need-say-requires-4 Inv-loop μ-loop
+say-requires-4 c κs = search needs
+
+number-with-requires : tie.Need-number-with-requires Inv-loop μ-loop
+number-with-requires c κs = search needs
+
+say-number-requires : tie.Need-say-number-requires Inv-loop μ-loop
+say-number-requires c κs = search needs
+
+add-k : tie.Need-add-k Inv-loop μ-loop
+add-k c = search needs
+
+loop-less : tie.Need-loop-less Inv-loop μ-loop
+loop-less c = search needs
+
+loop-again : tie.Need-loop-again Inv-loop μ-loop
+loop-again c = search needs
+
+slice-aggregate-say-4 : tie.Need-slice-aggregate-say-4 Inv-loop μ-loop
+slice-aggregate-say-4 c = search needs
+
+say-requires-5 : tie.Need-say-requires-5 Inv-loop μ-loop
+say-requires-5 c κs = search needs
+
+returns : tie.Need-returns Inv-loop μ-loop
+returns c = search needs
+
+pub show-nine-spec : {M : Type 1} → statement M
+show-nine-spec =
+    tie.close
+    (tie.spec
+    Inv-loop
+    μ-loop
+    slice-aggregate-say
+    say-requires
+    say-requires-2
+    slice-aggregate-say-2
+    say-requires-3
+    loop-holds
+    slice-aggregate-say-3
+    say-requires-4
+    number-with-requires
+    say-number-requires
+    add-k
+    loop-less
+    loop-again
+    slice-aggregate-say-4
+    say-requires-5
+    returns)

@@ -1,0 +1,331 @@
+// Runs open and mark at level 2: examples 8 to 11 of the rules, triangles of no area, numbers at the ends of the range and of
+// i32, lists of other lengths, and inputs to which several numbers apply. It prints the number and the edges marked; `kept`
+// says that nothing of the buffer changed, `rest` that the bytes behind the last point are as they were.
+use libc::STDOUT_FILENO;
+use marking::MarkAnswer;
+use marking::OpenAnswer;
+use marking::mark;
+use marking::open;
+
+// The points of level 2, and the bytes of a buffer that is longer.
+const POINTS: usize = 125;
+
+const LONG: usize = 130;
+// What every byte holds before a grid is opened, and every byte behind it afterwards.
+const DIRTY: u8 = 90;
+
+fn say(text: &[u8]) {
+    io::write_all(STDOUT_FILENO, text);
+}
+
+fn say_number(k: u32) {
+    io::print_decimal(STDOUT_FILENO, k as u64);
+}
+
+// Puts a byte into a buffer.
+fn put(buffer: &mut [u8], p: usize, v: u8) {
+    if p < buffer.len() {
+        buffer[p] = v;
+    }
+}
+
+// Whether the bytes from `from` on all hold v.
+fn bytes_hold(buffer: &[u8], from: usize, v: u8) -> bool {
+    let mut p = from;
+    while p < buffer.len() {
+        if buffer[p] != v {
+            return false;
+        }
+        p += 1;
+    }
+    true
+}
+
+fn say_point(p: usize) {
+    say_number((p % 5) as u32);
+    say_number((p / 5 % 5) as u32);
+    say_number((p / 25 % 5) as u32);
+}
+
+// Prints the marks of a point.
+fn say_byte(p: usize, b: u8) {
+    if b % 2 == 1 {
+        say(b" x");
+        say_point(p);
+    }
+    if b / 2 % 2 == 1 {
+        say(b" y");
+        say_point(p);
+    }
+    if b / 4 % 2 == 1 {
+        say(b" z");
+        say_point(p);
+    }
+}
+
+// Prints the marks of a grid, by rising point number.
+fn say_marks(grid: &[u8]) {
+    let mut p: usize = 0;
+    while p < grid.len() {
+        if p < POINTS {
+            say_byte(p, grid[p]);
+        }
+        p += 1;
+    }
+}
+
+fn open_number(answer: OpenAnswer) -> u32 {
+    match answer {
+        OpenAnswer::Done => 0,
+        OpenAnswer::BadLevel => 1,
+        OpenAnswer::ShortBuffer => 2,
+    }
+}
+
+fn mark_number(answer: MarkAnswer) -> u32 {
+    match answer {
+        MarkAnswer::Done => 0,
+        MarkAnswer::BadLevel => 1,
+        MarkAnswer::ShortBuffer => 2,
+        MarkAnswer::NotNine => 3,
+        MarkAnswer::OutOfRange => 4,
+        MarkAnswer::NoGrid => 5,
+    }
+}
+
+// Says a number, and whether the buffer is as dirty as it was.
+fn say_opened(name: &[u8], number: u32, grid: &[u8]) {
+    say(b"open, ");
+    say(name);
+    say(b": ");
+    say_number(number);
+    if bytes_hold(grid, 0, DIRTY) {
+        say(b", kept");
+    }
+}
+
+// Opens a grid in a buffer that is longer and dirty.
+fn show_open(name: &[u8], level: u32) {
+    let mut grid = [DIRTY; LONG];
+    let number = open_number(open(level, &mut grid));
+    say_opened(name, number, &grid);
+    if number == 0 {
+        if bytes_hold(&grid, POINTS, DIRTY) {
+            say(b", rest");
+        }
+        say_marks(&grid);
+    }
+    say(b"\n");
+}
+
+// Opens a grid in a buffer that is a byte short.
+fn show_open_short() {
+    let mut grid = [DIRTY; 124];
+    let number = open_number(open(2, &mut grid));
+    say_opened(b"a byte short", number, &grid);
+    say(b"\n");
+}
+
+// Says a number, and the marks of the first points.
+fn say_marked(name: &[u8], number: u32, grid: &[u8]) {
+    say(b"mark, ");
+    say(name);
+    say(b": ");
+    say_number(number);
+    if bytes_hold(grid, POINTS, DIRTY) {
+        say(b", rest");
+    }
+    say_marks(grid);
+    say(b"\n");
+}
+
+// Marks a triangle in a new grid in which one byte is put; the buffer is longer.
+fn show_put(name: &[u8], level: u32, p: usize, v: u8, numbers: &[i32]) {
+    let mut grid = [DIRTY; LONG];
+    open(2, &mut grid);
+    put(&mut grid, p, v);
+    let number = mark_number(mark(level, &mut grid, numbers));
+    say_marked(name, number, &grid);
+}
+
+// Marks a triangle in a new grid.
+fn show(name: &[u8], numbers: &[i32]) {
+    show_put(name, 2, 0, 0, numbers);
+}
+
+// Marks one triangle after another in one grid.
+fn show_both(name: &[u8], first: &[i32], second: &[i32]) {
+    let mut grid = [DIRTY; LONG];
+    open(2, &mut grid);
+    mark(2, &mut grid, first);
+    let number = mark_number(mark(2, &mut grid, second));
+    say_marked(name, number, &grid);
+}
+
+// Puts a number into a list.
+fn put_number(numbers: &mut [i32], k: usize, v: i32) {
+    if k < numbers.len() {
+        numbers[k] = v;
+    }
+}
+
+// The number that is given when one of the nine numbers is v.
+fn number_with(k: usize, v: i32) -> u32 {
+    let mut grid = [0u8; POINTS];
+    let mut numbers = [524_288; 9];
+    put_number(&mut numbers, k, v);
+    mark_number(mark(2, &mut grid, &numbers))
+}
+
+// Says the number that is given when the first, .., the ninth number is v.
+fn show_nine(name: &[u8], v: i32) {
+    say(b"mark, ");
+    say(name);
+    say(b" at each of nine places:");
+    let mut k: usize = 0;
+    while k < 9 {
+        say(b" ");
+        say_number(number_with(k, v));
+        k += 1;
+    }
+    say(b"\n");
+}
+
+fn show_examples() {
+    let eight = [
+        393_216,
+        400_000,
+        400_000,
+        393_216,
+        700_000,
+        400_000,
+        393_216,
+        400_000,
+        700_000,
+    ];
+    let nine = [524_288; 9];
+    show(b"example 8", &eight);
+    show(b"example 9", &nine);
+    show_both(b"example 8 after 9", &nine, &eight);
+    show_both(b"example 9 after 8", &eight, &nine);
+    show_both(b"example 8 twice", &eight, &eight);
+    show_nine(b"262144", 262_144);
+    show_nine(b"262143", 262_143);
+    show_nine(b"786432", 786_432);
+    show_nine(b"786433", 786_433);
+    show_nine(b"the least i32", -2_147_483_648);
+    show_nine(b"the greatest i32", 2_147_483_647);
+    show_put(
+        b"a byte of 8, a coordinate of 0",
+        2,
+        62,
+        8,
+        &[
+            0,
+            524_288,
+            524_288,
+            524_288,
+            524_288,
+            524_288,
+            524_288,
+            524_288,
+            524_288,
+        ],
+    );
+    show_put(b"a byte of 8, mended", 2, 62, 8, &nine);
+}
+
+fn show_flat() {
+    show(b"the range's lowest point", &[262_144; 9]);
+    show(b"the range's highest point", &[786_432; 9]);
+    show(b"a point in a cell", &[600_000; 9]);
+    show(
+        b"a point on an edge",
+        &[
+            600_000,
+            524_288,
+            524_288,
+            600_000,
+            524_288,
+            524_288,
+            600_000,
+            524_288,
+            524_288,
+        ],
+    );
+    show(
+        b"a line from A to B and back",
+        &[
+            300_000,
+            524_288,
+            524_288,
+            700_000,
+            524_288,
+            524_288,
+            300_000,
+            524_288,
+            524_288,
+        ],
+    );
+    show(
+        b"a line through three vertices",
+        &[
+            300_000,
+            300_000,
+            300_000,
+            500_000,
+            500_000,
+            500_000,
+            700_000,
+            700_000,
+            700_000,
+        ],
+    );
+    show(
+        b"the plane between two cells",
+        &[
+            524_288,
+            300_000,
+            300_000,
+            524_288,
+            700_000,
+            300_000,
+            524_288,
+            300_000,
+            700_000,
+        ],
+    );
+}
+
+fn show_refusals() {
+    let nine = [524_288; 9];
+    show(b"no number", &[0; 0]);
+    show(b"eight numbers", &[524_288; 8]);
+    show(b"ten numbers", &[524_288; 10]);
+    show(b"eight numbers, all 0", &[0; 8]);
+    show_put(b"level 0", 0, 0, 0, &nine);
+    show_put(b"level 1", 1, 0, 0, &nine);
+    show_put(b"level 6, eight numbers", 6, 0, 0, &[524_288; 8]);
+    show_put(b"level 3, short, eight numbers", 3, 0, 0, &[524_288; 8]);
+    show_put(b"a mark on the outside", 2, 0, 1, &nine);
+    show_put(b"a mark beyond the grid", 2, 64, 1, &nine);
+    show_put(b"a byte of 8 behind the grid", 2, 125, 8, &nine);
+    show_put(b"a mark that is there", 2, 31, 1, &nine);
+    let mut none = [0u8; 0];
+    say(b"mark, level 1, no bytes: ");
+    say_number(mark_number(mark(1, &mut none, &nine)));
+    say(b"\nopen, level 1, no bytes: ");
+    say_number(open_number(open(1, &mut none)));
+    say(b"\n");
+}
+
+fn main() {
+    show_open(b"level 2", 2);
+    show_open(b"level 1", 1);
+    show_open(b"level 6", 6);
+    show_open(b"level 3, short", 3);
+    show_open_short();
+    show_examples();
+    show_flat();
+    show_refusals();
+}
