@@ -1,24 +1,22 @@
 -- What number 0 tells of patch and of sign. Assumes nothing.
 use mathlib.Core.Path.{_≡_, refl, sym, ap, subst, _∙_}
-use mathlib.Core.Bool.{Bool, true, false, not, cond, _||_}
+use mathlib.Core.Bool.{true, not}
 use mathlib.Core.List.{List, [], _∷_, _++_}
-use mathlib.Core.Logic.{_⊎_, inl, inr, _≢_}
+use mathlib.Core.Logic.{_⊎_, inl, inr}
 use Prim.Native.Nat.{ℕ, _≤_}
 use native.Mathlib.Omega.{arith}
 use borrow.Author.Tests.{ltb-false, le-ltb, not-false}
 use lib.Dec.{ltb}
 use lib.ListN.{length, drop}
-use Rattle.rules.specs.Lattice.{pointCount}
 use Rattle.rules.specs.Grid.{marks, isGrid}
 use Rattle.rules.specs.Rims.{evenFaces}
 use Rattle.rules.specs.Signs.{signBytes}
 use Rattle.lattice.specs.declared.level.Level.{Level}
 use Rattle.lattice.specs.declared.level.LevelRead.{LevelRead}
-use Rattle.lattice.specs.declared.level.LevelRead.the-variants.{Known, Unknown}
-use Rattle.lattice.specs.Levels.{levelOf, numberOf, cellsOf, pointsOf}
+use Rattle.lattice.specs.declared.level.LevelRead.the-variants.{Known}
+use Rattle.lattice.specs.Levels.{numberOf, cellsOf, pointsOf}
 use Rattle.patching.specs.Call as Patching
 use Rattle.patching.specs.Call.{patchCall, patchFor, patchSized, patchDone}
-use Rattle.signing.specs.Call as Signing
 use Rattle.signing.specs.Call.{signCall, signFor, signSized}
 use Rattle.promises.specs.Table.{cells, pointsAt}
 use Rattle.promises.proofs.Lines.{chain-done}
@@ -32,16 +30,14 @@ pub record PatchDone (L : ℕ) (g w : List ℕ) : Type 0 where
   pub grid : isGrid (cells L) g ≡ true
   pub outcome : patchCall L g w ≡ patchDone (cells L) g w
 
-not-nought : (k : ℕ) → 0 ≢ k → k ≢ 0
-not-nought k h e = h (sym e)
-
 patch-at : (l : Level) (g w : List ℕ) → patchCall (numberOf l) g w .number ≡ 0 → PatchDone (numberOf l) g w
 unfolding patchCall patchSized
 patch-at l g w e =
     let e₂ : patchFor (Known l) g w .number ≡ 0 = ap (λ (r : LevelRead). patchFor r g w .number) (sym (level-known l)) ∙ e in
     let P = pointsOf l in
     let r = chain-done (λ o. o .number)
-    ((ltb (length g) P, Patching.refused 2 g w) ∷ ((ltb (length w) P, Patching.refused 2 g w) ∷ ((not (isGrid (cellsOf l) g), Patching.refused 5 g w) ∷ [])))
+    ((ltb (length g) P, Patching.refused 2 g w)
+    ∷ ((ltb (length w) P, Patching.refused 2 g w) ∷ ((not (isGrid (cellsOf l) g), Patching.refused 5 g w) ∷ [])))
     (patchDone (cellsOf l) g w) (λ q. omega arith, (λ q. omega arith, (λ q. omega arith, tt))) e₂ in
     record {
       l = l;

@@ -2,13 +2,12 @@
 use mathlib.Core.Path.{_≡_, refl, sym, ap, _∙_}
 use mathlib.Core.Bool.{Bool, true, false, not, _&&_, true≢false}
 use mathlib.Core.Logic.{_⊎_, inl, inr}
-use Prim.Native.Nat.{ℕ, _≤_}
+use Prim.Native.Nat.{ℕ}
 use native.Mathlib.Omega.{arith}
 use lib.Dec.{leb, eqb}
 use Rattle.rules.proofs.Bits.{leb→, is-false, and-left, and-right, eqb→, eqb-yes}
 use Rattle.lattice.specs.declared.level.Level.{Level}
 use Rattle.lattice.specs.declared.level.Level.the-variants.{Two, Three, Four, Five}
-use Rattle.lattice.specs.declared.level.LevelRead.{LevelRead}
 use Rattle.lattice.specs.declared.level.LevelRead.the-variants.{Known, Unknown}
 use Rattle.lattice.specs.Levels.{levelOf, numberOf}
 use Rattle.promises.specs.Table.{badLevel}
@@ -49,7 +48,8 @@ none-of-four L a b c d = record {
 pub level-cases : (L : ℕ) → ((l : Level) × (L ≡ numberOf l)) ⊎ NoLevel L
 level-cases L = go (eqb L 2) (eqb L 3) (eqb L 4) (eqb L 5) refl refl refl refl
   where
-    go : (a b c d : Bool) → eqb L 2 ≡ a → eqb L 3 ≡ b → eqb L 4 ≡ c → eqb L 5 ≡ d → ((l : Level) × (L ≡ numberOf l)) ⊎ NoLevel L
+    go : (a b c d : Bool) → eqb L 2 ≡ a → eqb L 3 ≡ b → eqb L 4 ≡ c → eqb L 5 ≡ d →
+        ((l : Level) × (L ≡ numberOf l)) ⊎ NoLevel L
     go true b c d e f g h = inl (Two, eqb→ L 2 e)
     go false true c d e f g h = inl (Three, eqb→ L 3 f)
     go false false true d e f g h = inl (Four, eqb→ L 4 g)

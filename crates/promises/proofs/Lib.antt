@@ -2,6 +2,8 @@ pub mod Lowest
 pub mod Lines
 pub mod Levels
 pub mod Numbers
+pub mod OneOutcome
 pub mod Done
 pub mod Condition
-pub mod OneOutcome
+pub mod TurnedAway
+pub mod Examples

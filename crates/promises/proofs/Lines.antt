@@ -19,7 +19,8 @@ module _ {O : Type 0} where
   rowOf number x = row (number (x .1)) (x .0)
 
   -- the number of the first line that applies is that of the first row
-  pub chain-first : (number : O → ℕ) (l : List (Bool × O)) (done : O) → number done ≡ 0 → number (chain l done) ≡ firstOf (map (rowOf number) l)
+  pub chain-first : (number : O → ℕ) (l : List (Bool × O)) (done : O) → number done ≡ 0 →
+      number (chain l done) ≡ firstOf (map (rowOf number) l)
   chain-first number [] done e = e
   chain-first number (x ∷ l) done e = go (x .0) (chain-first number l done e)
     where
@@ -38,6 +39,11 @@ module _ {O : Type 0} where
           ((x .0 ≡ false) × All (λ y. y .0 ≡ false) l) × (cond b (x .1) (chain l done) ≡ done)
       go true f d rest = absurd (refuse .0 d)
       go false f d rest = let r = rest d in ((f, r .0), r .1)
+
+-- a test, and the list of it alone
+pub alone : (k : ℕ) (a : Bool) (rows : List Row) → firstOf (row k a ∷ rows) ≡ firstOf (row k (a || false) ∷ rows)
+alone k true rows = refl
+alone k false rows = refl
 
 -- two rows of one number are one row
 pub merged : (k : ℕ) (a b : Bool) (rows : List Row) → firstOf (row k a ∷ (row k b ∷ rows)) ≡ firstOf (row k (a || (b || false)) ∷ rows)

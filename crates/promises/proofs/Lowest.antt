@@ -37,7 +37,9 @@ skip : (k : ℕ) (l : List Row) (j : ℕ) → Lowest l j → Lowest (row k false
 skip k l zero h = λ m. skipped k l m ∙ h m
 skip k l (suc j) h = (skipped k l (suc j) ∙ h .0, λ m e. skipped k l m ∙ h .1 m e)
 
-first : (k : ℕ) (c : Bool) (l : List Row) (b : ℕ) → b < k → Rising k l → Lowest l (firstOf l) → Lowest (row k c ∷ l) (cond c k (firstOf l))
+-- a row ahead of the others
+first : (k : ℕ) (c : Bool) (l : List Row) (b : ℕ) → b < k → Rising k l → Lowest l (firstOf l) →
+    Lowest (row k c ∷ l) (cond c k (firstOf l))
 first zero c l b z h ih = absurd (not-suc-le-zero z)
 first (suc k) true l b z h ih = (
   ap (λ (x : Bool). x && true || applies l (suc k)) (eqb-yes (suc k) (suc k) refl),
@@ -45,6 +47,7 @@ first (suc k) true l b z h ih = (
 )
 first (suc k) false l b z h ih = skip (suc k) l (firstOf l) ih
 
+-- the first row that applies is the lowest
 pub first-lowest : (l : List Row) (b : ℕ) → Rising b l → Lowest l (firstOf l)
 first-lowest [] b h = λ m. refl
 first-lowest (r ∷ l) b h = first (r .number) (r .so) l b (h .0) (h .1) (first-lowest l (r .number) (h .1))

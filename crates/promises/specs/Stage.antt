@@ -1,55 +1,83 @@
 -- What a stage is, what it promises, and the conditions that it is held to. Assumes nothing.
 use mathlib.Core.Path.{_≡_}
 use mathlib.Core.Bool.{true, false}
-use mathlib.Core.List.{List, _++_}
+use mathlib.Core.List.{List}
 use mathlib.Core.Logic.{_↔_, _≢_}
-use Prim.Native.Nat.{ℕ, _*_, _≤_}
-use lib.ListN.{length, drop, replicate}
+use Prim.Native.Nat.{ℕ, _≤_}
+use lib.IntN.{ℤ}
+use lib.ListN.{length}
 use Rattle.rules.specs.declared.Axis.{Axis}
 use Rattle.rules.specs.declared.Point.{Point}
 use Rattle.rules.specs.declared.Place.{Place}
 use Rattle.rules.specs.Lists.{parity, anyOf}
 use Rattle.rules.specs.Lattice.{Set, isIn, edgeIn}
 use Rattle.rules.specs.Cell.{oddFace}
-use Rattle.rules.specs.Grid.{marks, bytes}
+use Rattle.rules.specs.Grid.{marks}
 use Rattle.rules.specs.Rims.{boxOf, rims}
 use Rattle.rules.specs.Patch.{patched, flipCount}
 use Rattle.rules.specs.Condition.{Route}
+use Rattle.marking.specs.Outcome.{Outcome as Marking}
+use Rattle.marking.specs.Open.{openCall}
+use Rattle.marking.specs.Mark.{markCall}
 use Rattle.patching.specs.Call.{Outcome as Patching, patchCall}
 use Rattle.signing.specs.Call.{Outcome as Signing, signCall}
 use Rattle.signing.specs.SignBytes.{signByte}
 use Rattle.surfacing.specs.Call.{Outcome as Surfacing, surfaceCall}
 use Rattle.promises.specs.Table.{cells, pointsAt, Call, Open, Mark, Patch, Sign, Surface, table, Lowest}
 
--- a stage: what comes of each of the five calls, whatever level and buffers it is lent
+-- a stage: the outcome of each of the five calls, whatever level and buffers it is lent
 pub record Stage : Type 0 where
-  pub patch : ℕ → List ℕ → List ℕ → Patching
-  pub sign : ℕ → List ℕ → List ℕ → Signing
-  pub surface : ℕ → List ℕ → List ℕ → List ℕ → Surfacing
+  pub opens : ℕ → List ℕ → Marking
+  pub marks : ℕ → List ℕ → List ℤ → Marking
+  pub patches : ℕ → List ℕ → List ℕ → Patching
+  pub signs : ℕ → List ℕ → List ℕ → Signing
+  pub surfaces : ℕ → List ℕ → List ℕ → List ℕ → Surfacing
 
 -- the stage that is promised
 abbrev pub promised : Stage
-promised = record { patch = patchCall; sign = signCall; surface = surfaceCall }
+promised = record { opens = openCall; marks = markCall; patches = patchCall; signs = signCall; surfaces = surfaceCall }
 
 -- a stage keeps the promises when nobody can tell it from the promised one: number, counts and buffers are the same
 pub record Keeps (s : Stage) : Type 0 where
-  pub patch : (L : ℕ) (g w : List ℕ) → s .patch L g w ≡ patchCall L g w
-  pub sign : (L : ℕ) (g b : List ℕ) → s .sign L g b ≡ signCall L g b
-  pub surface : (L : ℕ) (g b q : List ℕ) → s .surface L g b q ≡ surfaceCall L g b q
+  pub opens : (L : ℕ) (g : List ℕ) → s .opens L g ≡ openCall L g
+  pub marks : (L : ℕ) (g : List ℕ) (t : List ℤ) → s .marks L g t ≡ markCall L g t
+  pub patches : (L : ℕ) (g w : List ℕ) → s .patches L g w ≡ patchCall L g w
+  pub signs : (L : ℕ) (g b : List ℕ) → s .signs L g b ≡ signCall L g b
+  pub surfaces : (L : ℕ) (g b q : List ℕ) → s .surfaces L g b q ≡ surfaceCall L g b q
 
--- ---- condition 3, of the grid that patch leaves where it is done
+-- the number that a stage gives
+abbrev pub numberBy : Stage → ℕ → Call → ℕ
+numberBy s L (Open g) = s .opens L g .number
+numberBy s L (Mark g t) = s .marks L g t .number
+numberBy s L (Patch g w) = s .patches L g w .number
+numberBy s L (Sign g b) = s .signs L g b .number
+numberBy s L (Surface g b q) = s .surfaces L g b q .number
+
+-- ---- condition 1: each number is given exactly when its column says, the lowest where several apply
+abbrev pub Condition1 : Stage → Type 0
+Condition1 s = (L : ℕ) (c : Call) (k : ℕ) → (numberBy s L c ≡ k) ↔ Lowest (table L c) k
+
+-- ---- what patch leaves where it is done
 -- patch is done
 abbrev pub Done : Stage → ℕ → List ℕ → List ℕ → Type 0
-Done s L g w = s .patch L g w .number ≡ 0
+Done s L g w = s .patches L g w .number ≡ 0
 
 -- the marks afterwards
 abbrev pub marksAfter : Stage → ℕ → List ℕ → List ℕ → Set
-marksAfter s L g w = marks (cells L) (s .patch L g w .grid)
+marksAfter s L g w = marks (cells L) (s .patches L g w .grid)
 
 -- what sign makes of the grid with the sign buffer b
 abbrev pub signAfter : Stage → ℕ → List ℕ → List ℕ → List ℕ → Signing
-signAfter s L g w b = s .sign L (s .patch L g w .grid) b
+signAfter s L g w b = s .signs L (s .patches L g w .grid) b
 
+-- ---- condition 2, of patch: the number of rims and of flips is returned, and the grid is patched
+pub record Condition2 (s : Stage) : Type 0 where
+  pub counted : (L : ℕ) (g w : List ℕ) → Done s L g w → s .patches L g w .rims ≡ length (rims (cells L) (marks (cells L) g))
+  pub flipped : (L : ℕ) (g w : List ℕ) → Done s L g w → s .patches L g w .flips ≡ flipCount (cells L) (marks (cells L) g)
+  pub patched : (L : ℕ) (g w : List ℕ) → Done s L g w → (a : Axis) (p : Point) →
+      marksAfter s L g w a p ≡ patched (cells L) (marks (cells L) g) a p
+
+-- ---- condition 3
 -- every cell face has an even number of marked edges
 abbrev pub Even : Stage → Type 0
 Even s = (L : ℕ) (g w : List ℕ) → Done s L g w → (a : Axis) (p : Point) → oddFace (marksAfter s L g w) a p ≡ false
@@ -69,6 +97,7 @@ abbrev pub Boxed : Stage → Type 0
 Boxed s = (L : ℕ) (g w : List ℕ) → Done s L g w → (a : Axis) (p : Point) → marks (cells L) g a p ≢ marksAfter s L g w a p →
     anyOf (λ r. edgeIn (boxOf r) a p) (rims (cells L) (marks (cells L) g)) ≡ true
 
+-- the three parts of condition 3 for the calls, parity being told by sign's own bytes
 pub record Condition3 (s : Stage) : Type 0 where
   pub even : Even s
   pub signed : Signed s

@@ -8,6 +8,9 @@ use Rattle.rules.specs.Lattice.{Edge, Face, Set, setOf, symdiff}
 use Rattle.rules.specs.Grid.{marks, bytes}
 use Rattle.rules.specs.Rims.{rims}
 use Rattle.rules.specs.Patch.{patchRim}
+use Rattle.marking.specs.Outcome as Marking
+use Rattle.marking.specs.Open.{openCall}
+use Rattle.marking.specs.Mark.{markCall}
 use Rattle.patching.specs.Call as Patching
 use Rattle.patching.specs.Call.{patchCall}
 use Rattle.signing.specs.Call as Signing
@@ -20,17 +23,21 @@ use Rattle.promises.specs.Stage.{Stage}
 -- a stage that refuses everything, each call by some number
 unfoldable pub refusing : (ℕ → Call → ℕ) → Stage
 refusing f = record {
-  patch = λ L g w. Patching.refused (f L (Patch g w)) g w;
-  sign = λ L g b. Signing.refused (f L (Sign g b)) b;
-  surface = λ L g b q. Surfacing.refused (f L (Surface g b q)) q;
+  opens = λ L g. Marking.refused (f L (Open g)) g;
+  marks = λ L g t. Marking.refused (f L (Mark g t)) g;
+  patches = λ L g w. Patching.refused (f L (Patch g w)) g w;
+  signs = λ L g b. Signing.refused (f L (Sign g b)) b;
+  surfaces = λ L g b q. Surfacing.refused (f L (Surface g b q)) q;
 }
 
 -- the promised stage, but for what patch does where it is done
 abbrev pub withPatch : (ℕ → List ℕ → Patching.Outcome → Patching.Outcome) → Stage
 withPatch f = record {
-  patch = λ L g w. let o = patchCall L g w in cond (eqb (o .number) 0) (f L g o) o;
-  sign = signCall;
-  surface = surfaceCall;
+  opens = openCall;
+  marks = markCall;
+  patches = λ L g w. let o = patchCall L g w in cond (eqb (o .number) 0) (f L g o) o;
+  signs = signCall;
+  surfaces = surfaceCall;
 }
 
 -- with these marks in the grid, and the counts as they are
