@@ -42,7 +42,13 @@ pub extern "C" fn omphirun_mark(level: u32, grid: &mut [u8], triangle: &[i32]) -
 
 // Patch (level, grid, work buffer): the grid is patched, and the number of rims and of flips is returned.
 #[no_mangle]
-pub extern "C" fn omphirun_patch(level: u32, grid: &mut [u8], work: &mut [u8], rims: &mut u32, flips: &mut u32) -> u32
+pub extern "C" fn omphirun_patch(
+    level: u32,
+    grid: &mut [u8],
+    work: &mut [u8],
+    rims: &mut u32,
+    flips: &mut u32,
+) -> u32
     ensures { λ r. ⌜ _≡_ {A = PatchOutcome} (record { number = r; rims = now (rims .exit); flips = now (flips .exit); grid = now (grid .exit); work = now (work .exit) }) (patchCall level (now (grid .entry)) (now (work .entry))) ⌝ }
 {
     *rims = 0;
@@ -75,7 +81,13 @@ pub extern "C" fn omphirun_sign(level: u32, grid: &[u8], signs: &mut [u8]) -> u3
 
 // Surface (level, grid, signs, list of u16): writes four cell numbers a quad and returns the number of quads.
 #[no_mangle]
-pub extern "C" fn omphirun_surface(level: u32, grid: &[u8], signs: &[u8], list: &mut [u16], quads: &mut u32) -> u32
+pub extern "C" fn omphirun_surface(
+    level: u32,
+    grid: &[u8],
+    signs: &[u8],
+    list: &mut [u16],
+    quads: &mut u32,
+) -> u32
     ensures { λ r. ⌜ _≡_ {A = SurfaceOutcome} (record { number = r; quads = now (quads .exit); list = now (list .exit) }) (surfaceCall level (now (grid .entry)) (now (signs .entry)) (now (list .entry))) ⌝ }
 {
     *quads = 0;

@@ -1,85 +1,63 @@
 use borrow.Author.Needs.{needs}
 use Rattle.stage.proofs.omphirun_mark.Statement.{statement}
 use Rattle.stage.proofs.omphirun_mark.Tie as tie
-use Rattle.stage.proofs.omphirun_mark.Reads as reads
-use Rattle.stage.proofs.omphirun_mark.Lts as lts
-use Rattle.marking.proofs.mark.Reads as mark-reads
 
--- src/lib.rt:33:11
 mark-requires : tie.Need-mark-requires
 mark-requires c κs = search needs
 
--- src/lib.rt:34:29
 enum-told : tie.Need-enum-told
 enum-told c = search needs
 
--- src/lib.rt:35:33
 enum-told-2 : tie.Need-enum-told-2
 enum-told-2 c = search needs
 
--- src/lib.rt:36:36
 enum-told-3 : tie.Need-enum-told-3
 enum-told-3 c = search needs
 
--- src/lib.rt:37:32
 enum-told-4 : tie.Need-enum-told-4
 enum-told-4 c = search needs
 
--- src/lib.rt:38:35
 enum-told-5 : tie.Need-enum-told-5
 enum-told-5 c = search needs
 
--- src/lib.rt:39:31
 enum-told-6 : tie.Need-enum-told-6
 enum-told-6 c = search needs
 
--- src/lib.rt:29:1
 same-length : tie.Need-same-length
 same-length c = search needs
 
--- src/lib.rt:29:1
 returns : tie.Need-returns
-returns c = ?
+returns c = rw (c .enum-told .given .1) at (c .before .before .before .before .mark .ensures)
 
--- src/lib.rt:29:1
 same-length-2 : tie.Need-same-length-2
 same-length-2 c = search needs
 
--- src/lib.rt:29:1
 returns-2 : tie.Need-returns-2
-returns-2 c = ?
+returns-2 c = rw (c .enum-told2 .given .1) at (c .before .before .before .before .mark .ensures)
 
--- src/lib.rt:29:1
 same-length-3 : tie.Need-same-length-3
 same-length-3 c = search needs
 
--- src/lib.rt:29:1
 returns-3 : tie.Need-returns-3
-returns-3 c = ?
+returns-3 c = rw (c .enum-told3 .given .1) at (c .before .before .before .before .mark .ensures)
 
--- src/lib.rt:29:1
 same-length-4 : tie.Need-same-length-4
 same-length-4 c = search needs
 
--- src/lib.rt:29:1
 returns-4 : tie.Need-returns-4
-returns-4 c = ?
+returns-4 c = rw (c .enum-told4 .given .1) at (c .before .before .before .before .mark .ensures)
 
--- src/lib.rt:29:1
 same-length-5 : tie.Need-same-length-5
 same-length-5 c = search needs
 
--- src/lib.rt:29:1
 returns-5 : tie.Need-returns-5
-returns-5 c = ?
+returns-5 c = rw (c .enum-told5 .given .1) at (c .before .before .before .before .mark .ensures)
 
--- src/lib.rt:29:1
 same-length-6 : tie.Need-same-length-6
 same-length-6 c = search needs
 
--- src/lib.rt:29:1
 returns-6 : tie.Need-returns-6
-returns-6 c = ?
+returns-6 c = rw (c .enum-told6 .given .1) at (c .before .before .before .before .mark .ensures)
 
 pub omphirun-mark-spec : {M : Type 1} → statement M
 omphirun-mark-spec =

@@ -1,73 +1,54 @@
 use borrow.Author.Needs.{needs}
 use Rattle.stage.proofs.omphirun_sign.Statement.{statement}
 use Rattle.stage.proofs.omphirun_sign.Tie as tie
-use Rattle.stage.proofs.omphirun_sign.Reads as reads
-use Rattle.stage.proofs.omphirun_sign.Lts as lts
-use Rattle.signing.proofs.sign.Reads as sign-reads
 
--- src/lib.rt:67:11
 sign-requires : tie.Need-sign-requires
 sign-requires c κs = search needs
 
--- src/lib.rt:68:29
 enum-told : tie.Need-enum-told
 enum-told c = search needs
 
--- src/lib.rt:69:33
 enum-told-2 : tie.Need-enum-told-2
 enum-told-2 c = search needs
 
--- src/lib.rt:70:36
 enum-told-3 : tie.Need-enum-told-3
 enum-told-3 c = search needs
 
--- src/lib.rt:71:31
 enum-told-4 : tie.Need-enum-told-4
 enum-told-4 c = search needs
 
--- src/lib.rt:72:32
 enum-told-5 : tie.Need-enum-told-5
 enum-told-5 c = search needs
 
--- src/lib.rt:63:1
 same-length : tie.Need-same-length
 same-length c = search needs
 
--- src/lib.rt:63:1
 returns : tie.Need-returns
-returns c = ?
+returns c = rw (c .enum-told .given .1) at (c .before .before .before .before .sign .ensures)
 
--- src/lib.rt:63:1
 same-length-2 : tie.Need-same-length-2
 same-length-2 c = search needs
 
--- src/lib.rt:63:1
 returns-2 : tie.Need-returns-2
-returns-2 c = ?
+returns-2 c = rw (c .enum-told2 .given .1) at (c .before .before .before .before .sign .ensures)
 
--- src/lib.rt:63:1
 same-length-3 : tie.Need-same-length-3
 same-length-3 c = search needs
 
--- src/lib.rt:63:1
 returns-3 : tie.Need-returns-3
-returns-3 c = ?
+returns-3 c = rw (c .enum-told3 .given .1) at (c .before .before .before .before .sign .ensures)
 
--- src/lib.rt:63:1
 same-length-4 : tie.Need-same-length-4
 same-length-4 c = search needs
 
--- src/lib.rt:63:1
 returns-4 : tie.Need-returns-4
-returns-4 c = ?
+returns-4 c = rw (c .enum-told4 .given .1) at (c .before .before .before .before .sign .ensures)
 
--- src/lib.rt:63:1
 same-length-5 : tie.Need-same-length-5
 same-length-5 c = search needs
 
--- src/lib.rt:63:1
 returns-5 : tie.Need-returns-5
-returns-5 c = ?
+returns-5 c = rw (c .enum-told5 .given .1) at (c .before .before .before .before .sign .ensures)
 
 pub omphirun-sign-spec : {M : Type 1} → statement M
 omphirun-sign-spec =
