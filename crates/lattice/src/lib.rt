@@ -287,7 +287,7 @@ pub fn corner_edge(n: usize, c: Point, a: Axis) -> Place
     move_to(n, c, corner_rule(a))
 }
 
-fn differ(a: bool, b: bool) -> bool
+pub fn differ(a: bool, b: bool) -> bool
     ensures { λ r. ⌜ r ≡ a ⊕ b ⌝ }
 {
     if a {

@@ -1,14 +1,15 @@
 // What every scan of the points needs: the point after a point, inner edges, "is a grid", "no face is odd".
 use crate::bit;
+use crate::differ;
 use crate::level::point_count;
-use crate::odd;
+use crate::number_of;
 use rules::Axis;
 use rules::Point;
 ghost use mathlib.Core.Path.{_≡_};
 ghost use mathlib.Core.Bool.{true, not, _||_};
 ghost use Prim.Native.Nat.{_≤_};
 ghost use lib.ListN.{length};
-ghost use Rattle.rules.specs.Lists.{between};
+ghost use Rattle.rules.specs.Lists.{_⊕_, between};
 ghost use Rattle.rules.specs.Lattice.{inner, pointCount};
 ghost use Rattle.rules.specs.Grid.{has, byteFits, isGrid, marks};
 ghost use Rattle.rules.specs.Lattice.{OfGrid};
@@ -123,18 +124,34 @@ pub fn is_grid(n: usize, grid: &[u8]) -> bool
     true
 }
 
-// Whether none of a cell's three lower faces is odd.
+// Whether a face is odd, from the bytes at its lowest corner, one step along its later axis c and one along its earlier axis b.
+fn odd_by_bytes(here: u8, later: u8, earlier: u8, b: Axis, c: Axis) -> bool
+    ensures { λ r. ⌜ r ≡ ((has b here ⊕ has b later) ⊕ (has c here ⊕ has c earlier)) ⌝ }
+{
+    differ(
+        differ(bit(here, b), bit(later, b)),
+        differ(bit(here, c), bit(earlier, c)),
+    )
+}
+
+// Whether none of a cell's three lower faces is odd: four bytes tell.
 fn lower_even(n: usize, grid: &[u8], c: Point) -> bool
     requires { ⌜ (n ≤ 32) × (pointCount n ≤ length (now grid)) × (isGrid n (now grid) ≡ true) × Cell n c ⌝ }
     ensures { λ r. ⌜ r ≡ lowerEven (marks n (now (grid .entry))) c ⌝ }
 {
-    if odd(n, grid, 1, c, 0) {
+    let w = n + 1;
+    let p = number_of(n, c);
+    let here = grid[p];
+    let x = grid[p + 1];
+    let y = grid[p + w];
+    let z = grid[p + w * w];
+    if odd_by_bytes(here, z, y, Axis::Y, Axis::Z) {
         return false;
     }
-    if odd(n, grid, 1, c, 1) {
+    if odd_by_bytes(here, z, x, Axis::X, Axis::Z) {
         return false;
     }
-    !odd(n, grid, 1, c, 2)
+    !odd_by_bytes(here, y, x, Axis::X, Axis::Y)
 }
 
 // Whether no face of a grid is odd. Each face that can be is a lower face of one cell.
