@@ -28,7 +28,8 @@ plain-requires-2 c κs =
 sub-t6 : tie.Need-sub-t6
 sub-t6 c =
     let e : Plain w64 (c .before .before .before .before .before .args .x .low) = search needs in
-    plain-within (c .before .before .before .before .before .args .l) _ _ (sym e ∙ c .before .before .plain .ensures) (c .before .before .before .before .before .pre .0) .0
+    let h = plain-within (c .before .before .before .before .before .args .l) _ _ (sym e ∙ c .before .before .plain .ensures) (c .before .before .before .before .before .pre .0) .0 in
+    omega arith
 
 div-t7 : tie.Need-div-t7
 div-t7 c = rw (c .before .before .before .before .side .ensures) (side-some (c .before .before .before .before .before .args .l))
