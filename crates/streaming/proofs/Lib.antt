@@ -1,5 +1,10 @@
 pub mod Decimal
+pub mod Examples
+pub mod Feeding
 pub mod Grids
 pub mod Numbers
+pub mod Opened
+pub mod Order
+pub mod Pictures
 pub mod Reports
 pub mod Texts

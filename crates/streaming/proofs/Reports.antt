@@ -33,7 +33,7 @@ use Rattle.lattice.specs.Levels.{cellsOf, pointsOf}
 use Rattle.signing.specs.SignBytes.{inside}
 use Rattle.signing.proofs.Rows.{signs-length}
 use Rattle.surfacing.specs.declared.SurfaceAnswer.{SurfaceAnswer}
-use Rattle.surfacing.specs.declared.SurfaceAnswer.the-variants.{Done, UnknownLevel, ShortBuffer, NoGrid, SignsMisfit, ShortList}
+use Rattle.surfacing.specs.declared.SurfaceAnswer.the-variants.{Done, BadLevel, ShortBuffer, NoGrid, SignsMisfit, ShortList}
 use Rattle.surfacing.specs.Listing.{quadCount}
 use Rattle.surfacing.specs.Call.{Outcome, told, refused, listed}
 use Rattle.surfacing.proofs.SurfaceAnswer.{the-type}
@@ -43,7 +43,7 @@ use Rattle.streaming.specs.Text.{quadLine, refusedLine, listing}
 use Rattle.streaming.specs.Report.{total, Closed, countsOf, repaired}
 
 module _ {A B : Type 0} where
-  each-same : (f g : A → List B) (l : List A) → All (λ x. f x ≡ g x) l → each f l ≡ each g l
+  pub each-same : (f g : A → List B) (l : List A) → All (λ x. f x ≡ g x) l → each f l ≡ each g l
   each-same f g [] h = refl
   each-same f g (x ∷ l) h = λ i. h .0 i ++ each-same f g l (h .1) i
 
@@ -113,7 +113,7 @@ module _ (n : ℕ) (E : Set) (s : Point → Bool) (l l′ : List ℕ) where
   other (Done q) h z =
       ⊎-elim (λ e. omega arith)
       (⊎-elim (λ e. omega arith) (⊎-elim (λ e. omega arith) (⊎-elim (λ e. omega arith) (λ e. omega arith)))) h
-  other UnknownLevel h z = omega arith
+  other BadLevel h z = omega arith
   other ShortBuffer h z = omega arith
   other NoGrid h z = omega arith
   other SignsMisfit h z = omega arith

@@ -1,4 +1,126 @@
 // The program's work: a stream of triangles in, a listing of quads out.
+pub mod feed;
+pub mod picture;
 pub mod report;
 pub mod text;
 pub mod words;
+
+use crate::feed::Fed;
+use crate::feed::feed;
+use crate::picture::show;
+use crate::report::report;
+use crate::text::put_refusal;
+use crate::words::wide;
+use lattice::level::Level;
+use lattice::level::LevelRead;
+use libc::STDIN_FILENO;
+use libc::STDOUT_FILENO;
+ghost use mathlib.Core.Path.{_≡_};
+ghost use Prim.Native.Nat.{_≤_};
+ghost use lib.ListN.{length, take, replicate};
+ghost use Rattle.rules.specs.Grid.{marks};
+ghost use Rattle.lattice.specs.Levels.{cellsOf};
+ghost use Rattle.streaming.specs.Feed.{Ready};
+ghost use Rattle.streaming.specs.Read.{Streamed, PrintedAt, Printed};
+
+// What is printed for a stream that is not refused: the listing of its surface, or its layers of points.
+pub enum Wanted {
+    Listing,
+    Layers,
+}
+
+// The bytes that are read at once: 113 triangles.
+pub const BLOCK: usize = 4068;
+
+// An empty grid, of whatever level.
+fn empty_grid() -> [u8; 35937]
+    ensures { λ r. ⌜ r ≡ replicate 35937 0 ⌝ }
+{
+    [0u8; 35937]
+}
+
+// The list that is lent to surface.
+fn empty_list() -> [u16; 32768]
+    ensures { λ r. ⌜ length r ≡ 32768 ⌝ }
+{
+    [0u16; 32768]
+}
+
+// Room for the longest listing, of 8,192 quads.
+fn empty_text() -> [u8; 213098]
+    ensures { λ r. ⌜ length r ≡ 213098 ⌝ }
+{
+    [0u8; 213098]
+}
+
+// Room for what is read at once.
+fn empty_block() -> [u8; 4068]
+    ensures { λ r. ⌜ length r ≡ 4068 ⌝ }
+{
+    [0u8; 4068]
+}
+
+// Reads standard input to its end or to the first refused triangle, and marks the triangles block by block.
+fn feed_all(l: Level, grid: &mut [u8]) -> Fed
+    requires { ⌜ Ready l (now grid) ⌝ }
+    ensures { λ r. ⌜ Streamed l (marks (cellsOf l) (now (grid .entry))) r (now (grid .exit)) ⌝ }
+{
+    let mut triangles: u32 = 0;
+    let mut block = empty_block();
+    loop {
+        let got = io::read_full(STDIN_FILENO, &mut block);
+        let fed = feed(l, grid, triangles, &block[..got]);
+        let Fed::Marked { triangles: count } = fed else {
+            return fed;
+        };
+        if got < BLOCK {
+            return fed;
+        }
+        triangles = count;
+    }
+}
+
+// Reads the triangles of a stream, repairs, and puts what is wanted into a buffer; answers its length.
+fn repair_at(wanted: Wanted, level: u32, l: Level, out: &mut [u8]) -> usize
+    requires { ⌜ 213098 ≤ length (now out) ⌝ }
+    ensures { λ r. ⌜ PrintedAt wanted level l (now (out .exit)) r ⌝ }
+{
+    let mut grid = empty_grid();
+    match feed_all(l, &mut grid) {
+        Fed::Marked { triangles } => {
+            let mut second = empty_grid();
+            match wanted {
+                Wanted::Listing => {
+                    let mut list = empty_list();
+                    report(level, l, triangles, &mut grid, &mut second, &mut list, out)
+                }
+                Wanted::Layers => show(l, &mut grid, &mut second, out),
+            }
+        }
+        Fed::Refused { number } => put_refusal(out, number),
+    }
+}
+
+// Reads a stream, its level byte first, and puts what is wanted, or a refusal, into a buffer; answers its length.
+fn repair_stream(wanted: Wanted, out: &mut [u8]) -> usize
+    requires { ⌜ 213098 ≤ length (now out) ⌝ }
+    ensures { λ r. ⌜ Printed wanted (now (out .exit)) r ⌝ }
+{
+    let mut first = [0u8; 1];
+    let got = io::read_full(STDIN_FILENO, &mut first);
+    if got == 0 {
+        return put_refusal(out, 1);
+    }
+    let level = wide(first[0]);
+    let LevelRead::Known(l) = Level::read(level) else {
+        return put_refusal(out, 1);
+    };
+    repair_at(wanted, level, l, out)
+}
+
+// The program: a stream from standard input; what is wanted, or a refusal, to standard output, written at once.
+pub fn run(wanted: Wanted) {
+    let mut out = empty_text();
+    let length = repair_stream(wanted, &mut out);
+    io::write_all(STDOUT_FILENO, &out[..length]);
+}

@@ -6,7 +6,7 @@ use crate::words::wide;
 use lattice::level::Level;
 use patching::Counts;
 use patching::patch_grid;
-use signing::sign_points;
+use signing::sign_grid;
 use surfacing::SurfaceAnswer;
 use surfacing::list_quads;
 ghost use mathlib.Core.Path.{_≡_};
@@ -33,12 +33,12 @@ fn total_of(bytes: &[u8], count: usize) -> u32
 }
 
 // Patches a grid and gives its points their signs. The second buffer serves as work bytes first, and holds the signs then.
-fn close_grid(n: usize, grid: &mut [u8], second: &mut [u8]) -> Counts
+pub fn close_grid(n: usize, grid: &mut [u8], second: &mut [u8]) -> Counts
     requires { ⌜ (1 ≤ n) × (n ≤ 32) × (pointCount n ≤ length (now grid)) × (pointCount n ≤ length (now second)) × (isGrid n (now grid) ≡ true) ⌝ }
     ensures { λ r. ⌜ Closed n (marks n (now (grid .entry))) (r .rims) (r .flips) (now (grid .exit)) (now (second .exit)) ⌝ }
 {
     let counts = patch_grid(n, grid, second);
-    sign_points(n, grid, second);
+    sign_grid(n, grid, second);
     counts
 }
 
@@ -55,7 +55,7 @@ pub fn report(
 ) -> usize
     requires { ⌜ (pointsOf l ≤ length (now grid)) × (pointsOf l ≤ length (now second)) × (isGrid (cellsOf l) (now grid) ≡ true) ⌝ }
     requires { ⌜ (length (now list) ≡ 32768) × (213098 ≤ length (now out)) ⌝ }
-    ensures { λ r. ⌜ take r (now (out .exit)) ≡ repaired level l triangles (marks (cellsOf l) (now (grid .entry))) ⌝ }
+    ensures { λ r. ⌜ (take r (now (out .exit)) ≡ repaired level l triangles (marks (cellsOf l) (now (grid .entry)))) × (r ≤ length (now (out .exit))) ⌝ }
 {
     let n = l.cells();
     let counts = close_grid(n, grid, second);

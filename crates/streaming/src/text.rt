@@ -127,7 +127,7 @@ fn put_head(
 // Puts the whole listing, and answers its length.
 pub fn put_listing(out: &mut [u8], done: Repaired, list: &[u16]) -> usize
     requires { ⌜ (106 + 26 * done .quads ≤ length (now out)) × (4 * done .quads ≤ length (now list)) ⌝ }
-    ensures { λ r. ⌜ take r (now (out .exit)) ≡ listing done (now (list .entry)) ⌝ }
+    ensures { λ r. ⌜ (take r (now (out .exit)) ≡ listing done (now (list .entry))) × (r ≤ length (now (out .exit))) ⌝ }
 {
     let quads = done.quads as usize;
     let at = put_head(
@@ -146,7 +146,7 @@ pub fn put_listing(out: &mut [u8], done: Repaired, list: &[u16]) -> usize
 // Puts a refusal alone, and answers its length.
 pub fn put_refusal(out: &mut [u8], number: u32) -> usize
     requires { ⌜ 106 ≤ length (now out) ⌝ }
-    ensures { λ r. ⌜ take r (now (out .exit)) ≡ refusedLine number ⌝ }
+    ensures { λ r. ⌜ (take r (now (out .exit)) ≡ refusedLine number) × (r ≤ length (now (out .exit))) ⌝ }
 {
     let next = put_field(out, 0, b"refused ", number);
     put_text(out, next, b"\n")

@@ -7,8 +7,8 @@ use Rattle.streaming.proofs.report.close_grid.Tie as tie
 patch-grid-requires : tie.Need-patch-grid-requires
 patch-grid-requires c κs = search needs
 
-sign-points-requires : tie.Need-sign-points-requires
-sign-points-requires c κs =
+sign-grid-requires : tie.Need-sign-grid-requires
+sign-grid-requires c κs =
     let s = c .before .before .before .before .before .before .before .before .before .before .before in
     let p = c .before .before .before .before .before .before .patch-grid in
     let h = left-by-patch _ _ _ (p .ensures) in
@@ -30,9 +30,9 @@ returns c =
       grid = h .2;
       marks-are = h .3;
       behind = _;
-      signs-are = rw (h .3) at (c .before .before .sign-points .ensures);
+      signs-are = rw (h .3) at (c .before .before .sign-grid .ensures);
     }
 
 pub close-grid-spec : {M : Type 1} → statement M
 close-grid-spec =
-    tie.close (tie.spec patch-grid-requires sign-points-requires same-length same-length-2 returns)
+    tie.close (tie.spec patch-grid-requires sign-grid-requires same-length same-length-2 returns)

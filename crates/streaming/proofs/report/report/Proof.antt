@@ -48,8 +48,11 @@ returns c =
     let e = c .before .before .before .before .before .before .before .before .before .before .before .before .before .before .before .before .before .before .cells .ensures in
     let k = c .before .before .before .before .before .before .before .before .before .before .before .before .before .before .before .close-grid in
     let q = c .before .before .before .before .before .before .before .list-quads in
-    c .before .before .put-refusal .ensures
-    ∙ refused-is (s .args .level) (s .args .l) (s .args .triangles) _ _ _ _ _ _ _ (rw e at (k .ensures)) (s .pre .1 .0) (q .result) (rw e at (q .ensures)) (c .before .before .before .before .match .keys2)
+    let p = c .before .before .put-refusal .ensures in (
+      p .0
+          ∙ refused-is (s .args .level) (s .args .l) (s .args .triangles) _ _ _ _ _ _ _ (rw e at (k .ensures)) (s .pre .1 .0) (q .result) (rw e at (q .ensures)) (c .before .before .before .before .match .keys2),
+      p .1,
+    )
 
 points-requires : tie.Need-points-requires
 points-requires c κs = search needs
@@ -90,8 +93,11 @@ returns-2 c =
     let q = c .before .before .before .before .before .before .before .before .before .before .before .before .before .list-quads in
     let d = c .before .before .before .before .before .before .before .before .before .quads .given in
     let h = rw (d .1, e) at (q .ensures) in
-    c .before .before .put-listing .ensures
-    ∙ listing-is (s .args .level) (s .args .l) (s .args .triangles) _ _ _ _ _ _ _ (rw e at (k .ensures)) (s .pre .1 .0) (d .0 .0) h _ (rw (c .before .before .before .before .before .before .points .ensures) at (c .before .before .before .before .before .total-of .ensures))
+    let p = c .before .before .put-listing .ensures in (
+      p .0
+          ∙ listing-is (s .args .level) (s .args .l) (s .args .triangles) _ _ _ _ _ _ _ (rw e at (k .ensures)) (s .pre .1 .0) (d .0 .0) h _ (rw (c .before .before .before .before .before .before .points .ensures) at (c .before .before .before .before .before .total-of .ensures)),
+      p .1,
+    )
 
 pub report-spec : {M : Type 1} → statement M
 report-spec =

@@ -1,4 +1,5 @@
 -- `put_listing` meets its contract. Assumes nothing.
+use native.Mathlib.Omega.{arith}
 use Rattle.streaming.specs.Text.{listing}
 use Rattle.streaming.proofs.Texts.{put-both}
 use borrow.Author.Needs.{needs}
@@ -25,7 +26,13 @@ same-length c = search needs
 
 returns : tie.Need-returns
 unfolding listing
-returns c = put-both (put-both (c .before .before .before .before .before .before .before .before .before .before .before .put-head .ensures .0) (c .before .before .before .before .before .before .before .put-quads .ensures .0)) (c .before .before .put-text .ensures) .holds
+returns c =
+    let a = c .before .before .before .before .before .before .before .before .before .before .before .put-head in
+    let b = c .before .before .before .before .before .before .before .put-quads in
+    let d = c .before .before .put-text in (
+      put-both (put-both (a .ensures .0) (b .ensures .0)) (d .ensures) .holds,
+      omega (arith, c .before .before .before .before .before .before .before .before .before .before .before .before .before .before .before .before .pre .0, a .ensures .1, b .ensures .1, d .ensures .place, a .kept .0, b .kept .0, d .kept .0),
+    )
 
 pub put-listing-spec : {M : Type 1} → statement M
 put-listing-spec =

@@ -25,7 +25,12 @@ same-length c = search needs
 
 returns : tie.Need-returns
 unfolding refusedLine
-returns c = put-both (c .before .before .before .before .before .before .before .put-field .ensures) (c .before .before .put-text .ensures) .holds
+returns c =
+    let a = c .before .before .before .before .before .before .before .put-field in
+    let d = c .before .before .put-text in (
+      put-both (a .ensures) (d .ensures) .holds,
+      omega (arith, c .before .before .before .before .before .before .before .before .before .before .before .pre, u32-digits (c .before .before .before .before .before .before .before .before .before .before .before .args .number) (c .before .before .before .before .before .before .before .before .before .before .before .fits .number), a .ensures .place, d .ensures .place, a .kept .0, d .kept .0),
+    )
 
 pub put-refusal-spec : {M : Type 1} → statement M
 put-refusal-spec =

@@ -1,0 +1,135 @@
+-- `repair_at` meets its contract. Assumes nothing.
+use mathlib.Core.Path.{_∙_}
+use native.Mathlib.Omega.{arith}
+use Rattle.streaming.specs.declared.Wanted.the-variants.{Listing, Layers}
+use Rattle.streaming.proofs.Opened.{empty-long, empty-ready, empty-marks, printed-done, printed-refused}
+use borrow.Author.Needs.{needs}
+use Rattle.streaming.proofs.repair_at.Statement.{statement}
+use Rattle.streaming.proofs.repair_at.Tie as tie
+
+empty-grid-requires : tie.Need-empty-grid-requires
+empty-grid-requires c κs = search needs
+
+slice-aggregate-feed-all : tie.Need-slice-aggregate-feed-all
+slice-aggregate-feed-all c = search needs
+
+feed-all-requires : tie.Need-feed-all-requires
+feed-all-requires c κs = empty-ready (c .before .before .before .args .l) _ (c .before .empty-grid .ensures)
+
+enum-known-triangles : tie.Need-enum-known-triangles
+enum-known-triangles c = search needs
+
+empty-grid-requires-2 : tie.Need-empty-grid-requires-2
+empty-grid-requires-2 c κs = search needs
+
+enum-told : tie.Need-enum-told
+enum-told c = search needs
+
+empty-list-requires : tie.Need-empty-list-requires
+empty-list-requires c κs = search needs
+
+slice-aggregate-report : tie.Need-slice-aggregate-report
+slice-aggregate-report c = search needs
+
+slice-aggregate-report-2 : tie.Need-slice-aggregate-report-2
+slice-aggregate-report-2 c = search needs
+
+slice-aggregate-report-3 : tie.Need-slice-aggregate-report-3
+slice-aggregate-report-3 c = search needs
+
+report-requires : tie.Need-report-requires
+report-requires c κs =
+    let f = c .before .before .before .before .before .before .before .before .before .before .before .before .feed-all .ensures .ready in
+    ((f .long, empty-long (c .before .before .before .before .before .before .before .before .before .before .before .before .before .before .before .before .args .l) _ (c .before .before .before .before .before .before .before .empty-grid2 .ensures), f .grid), (c .before .before .before .before .empty-list .ensures, c .before .before .before .before .before .before .before .before .before .before .before .before .before .before .before .before .pre))
+
+enum-told-2 : tie.Need-enum-told-2
+enum-told-2 c = search needs
+
+slice-aggregate-show : tie.Need-slice-aggregate-show
+slice-aggregate-show c = search needs
+
+slice-aggregate-show-2 : tie.Need-slice-aggregate-show-2
+slice-aggregate-show-2 c = search needs
+
+show-requires : tie.Need-show-requires
+show-requires c κs =
+    let f = c .before .before .before .before .before .before .before .before .before .before .feed-all .ensures .ready in
+    ((f .long, empty-long (c .before .before .before .before .before .before .before .before .before .before .before .before .before .before .args .l) _ (c .before .before .before .before .before .empty-grid2 .ensures), f .grid), omega (arith, c .before .before .before .before .before .before .before .before .before .before .before .before .before .before .pre))
+
+enum-known-number : tie.Need-enum-known-number
+enum-known-number c = search needs
+
+put-refusal-requires : tie.Need-put-refusal-requires
+put-refusal-requires c κs = search needs
+
+same-length : tie.Need-same-length
+same-length c = search needs
+
+returns : tie.Need-returns
+returns c =
+    let a = c .before .before .before .before .before .before .before .before .before .before .before .before .before .before .before .before .before .before .before .before .before .before .args in
+    let s = rw (c .before .before .before .before .before .before .before .before .before .before .before .before .before .before .before .triangles .given .1) at (c .before .before .before .before .before .before .before .before .before .before .before .before .before .before .before .before .before .before .feed-all .ensures) in
+    let p = c .before .before .before .before .before .report .ensures in
+    rw (c .before .before .before .before .before .before .before .before .before .before .before .enum-told .given .1)
+    (record {
+      bytes = s .bytes;
+      fits = p .1;
+      text = p .0 ∙ printed-done Listing (a .level) (a .l) _ _ (empty-marks (a .l) _ (c .before .before .before .before .before .before .before .before .before .before .before .before .before .before .before .before .before .before .before .before .empty-grid .ensures)) (c .before .before .before .before .before .before .before .before .before .before .before .before .before .before .before .triangles .given .0 .0) s;
+    })
+
+same-length-2 : tie.Need-same-length-2
+same-length-2 c = search needs
+
+returns-2 : tie.Need-returns-2
+returns-2 c =
+    let a = c .before .before .before .before .before .before .before .before .before .before .before .before .before .before .before .before .before .before .before .args in
+    let s = rw (c .before .before .before .before .before .before .before .before .before .before .before .before .triangles .given .1) at (c .before .before .before .before .before .before .before .before .before .before .before .before .before .before .before .feed-all .ensures) in
+    let p = c .before .before .before .before .show .ensures in
+    rw (c .before .before .before .before .before .before .before .before .enum-told2 .given .1)
+    (record {
+      bytes = s .bytes;
+      fits = p .1;
+      text = p .0 ∙ printed-done Layers (a .level) (a .l) _ _ (empty-marks (a .l) _ (c .before .before .before .before .before .before .before .before .before .before .before .before .before .before .before .before .before .empty-grid .ensures)) (c .before .before .before .before .before .before .before .before .before .before .before .before .triangles .given .0 .0) s;
+    })
+
+same-length-3 : tie.Need-same-length-3
+same-length-3 c = search needs
+
+returns-3 : tie.Need-returns-3
+returns-3 c =
+    let a = c .before .before .before .before .before .before .before .before .before .before .before .before .args in
+    let s = rw (c .before .before .before .before .before .number .given .1) at (c .before .before .before .before .before .before .before .before .feed-all .ensures) in
+    let p = c .before .before .put-refusal .ensures in
+    record {
+      bytes = s .bytes;
+      fits = p .1;
+      text = p .0 ∙ printed-refused (a .wanted) (a .level) (a .l) _ _ (empty-marks (a .l) _ (c .before .before .before .before .before .before .before .before .before .before .empty-grid .ensures)) (c .before .before .before .before .before .number .given .0 .0) s;
+    }
+
+pub repair-at-spec : {M : Type 1} → statement M
+repair-at-spec =
+    tie.close
+    (tie.spec
+    empty-grid-requires
+    slice-aggregate-feed-all
+    feed-all-requires
+    enum-known-triangles
+    empty-grid-requires-2
+    enum-told
+    empty-list-requires
+    slice-aggregate-report
+    slice-aggregate-report-2
+    slice-aggregate-report-3
+    report-requires
+    enum-told-2
+    slice-aggregate-show
+    slice-aggregate-show-2
+    show-requires
+    enum-known-number
+    put-refusal-requires
+    same-length
+    returns
+    same-length-2
+    returns-2
+    same-length-3
+    returns-3)

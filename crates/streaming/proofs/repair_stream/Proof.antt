@@ -1,0 +1,92 @@
+-- `repair_stream` meets its contract. Assumes nothing.
+use mathlib.Core.Path.{sym, _∙_}
+use mathlib.Core.List.{[], _∷_}
+use Rattle.streaming.proofs.Opened.{printed-none, printed-bad, printed-level}
+use borrow.Author.Needs.{needs}
+use Rattle.streaming.proofs.repair_stream.Statement.{statement}
+use Rattle.streaming.proofs.repair_stream.Tie as tie
+
+slice-aggregate-read-full : tie.Need-slice-aggregate-read-full
+slice-aggregate-read-full c = search needs
+
+read-full-requires : tie.Need-read-full-requires
+read-full-requires c κs = search needs
+
+put-refusal-requires : tie.Need-put-refusal-requires
+put-refusal-requires c κs = search needs
+
+same-length : tie.Need-same-length
+same-length c = search needs
+
+returns : tie.Need-returns
+returns c =
+    let p = c .before .before .put-refusal .ensures in
+    record { bytes = []; fits = p .1; text = p .0 ∙ printed-none (c .before .before .before .before .before .before .before .before .before .args .wanted) }
+
+array-read-wide : tie.Need-array-read-wide
+array-read-wide c = search needs
+
+wide-requires : tie.Need-wide-requires
+wide-requires c κs = search needs
+
+read-requires : tie.Need-read-requires
+read-requires c κs = search needs
+
+enum-known-l : tie.Need-enum-known-l
+enum-known-l c = search needs
+
+enum-told : tie.Need-enum-told
+enum-told c = search needs
+
+put-refusal-requires-2 : tie.Need-put-refusal-requires-2
+put-refusal-requires-2 c κs = search needs
+
+same-length-2 : tie.Need-same-length-2
+same-length-2 c = search needs
+
+returns-2 : tie.Need-returns-2
+returns-2 c =
+    let p = c .before .before .put-refusal2 .ensures in
+    let w = c .before .before .before .before .before .before .before .wide .result in
+    record {
+      bytes = w ∷ [];
+      fits = p .1;
+      text = p .0 ∙ printed-bad (c .before .before .before .before .before .before .before .before .before .before .before .before .before .args .wanted) w [] (sym (c .before .before .before .before .before .before .read .ensures) ∙ c .before .before .before .before .enum-told .given .1);
+    }
+
+repair-at-requires : tie.Need-repair-at-requires
+repair-at-requires c κs = search needs
+
+same-length-3 : tie.Need-same-length-3
+same-length-3 c = search needs
+
+returns-3 : tie.Need-returns-3
+returns-3 c =
+    let p = c .before .before .repair-at .ensures in
+    let w = c .before .before .before .before .before .before .before .before .wide .result in
+    record {
+      bytes = w ∷ p .bytes;
+      fits = p .fits;
+      text = p .text ∙ printed-level (c .before .before .before .before .before .before .before .before .before .before .before .before .before .before .args .wanted) w (p .bytes) (c .before .before .before .before .before .l .given .0 .0) (sym (c .before .before .before .before .before .before .before .read .ensures) ∙ c .before .before .before .before .before .l .given .1);
+    }
+
+pub repair-stream-spec : {M : Type 1} → statement M
+repair-stream-spec =
+    tie.close
+    (tie.spec
+    slice-aggregate-read-full
+    read-full-requires
+    put-refusal-requires
+    same-length
+    returns
+    array-read-wide
+    wide-requires
+    read-requires
+    enum-known-l
+    enum-told
+    put-refusal-requires-2
+    same-length-2
+    returns-2
+    repair-at-requires
+    same-length-3
+    returns-3)
