@@ -1,7 +1,7 @@
 -- Edges that a unit vector separates from the triangle: those outside its box, and those that are not inner. Assumes nothing.
-use mathlib.Core.Path.{_≡_, refl, sym, ap, subst, _∙_}
-use mathlib.Core.Bool.{Bool, true, false, true≢false, _&&_}
-use Prim.Native.Nat.{ℕ, suc, _+_, _-_, _*_, _^_, _≤_, _<_, zero-le}
+use mathlib.Core.Path.{_≡_, refl, sym, subst, _∙_}
+use mathlib.Core.Bool.{true, false, true≢false, _&&_}
+use Prim.Native.Nat.{ℕ, suc, _-_, _*_, _^_, _≤_, _<_, zero-le}
 use native.Mathlib.Nat.{mul-le-mul-right, le-trans, zero-mul}
 use native.Mathlib.Decide.{decLt}
 use native.Mathlib.Omega.{arith}
@@ -14,7 +14,7 @@ use Rattle.rules.specs.declared.Axis.{Axis}
 use Rattle.rules.specs.declared.Axis.the-variants.{X, Y, Z}
 use Rattle.rules.specs.declared.Point.{Point}
 use Rattle.rules.specs.declared.Box.{Box}
-use Rattle.rules.specs.Lattice.{coord, up, sameAxis, inBox, whole, inner, OfGrid}
+use Rattle.rules.specs.Lattice.{coord, up, inBox, whole, inner, OfGrid}
 use Rattle.rules.proofs.Bits.{Bounds, and-left, and-right, leb-yes}
 use Rattle.rules.proofs.Boxes.{inBox←}
 use Rattle.lattice.specs.declared.level.Level.{Level}
@@ -27,12 +27,12 @@ use Rattle.triangles.specs.Vectors.{along, nought, dot}
 use Rattle.triangles.specs.Spans.{Holds}
 use Rattle.triangles.specs.Axes.{units}
 use Rattle.triangles.specs.Meets.{edgeMet}
-use Rattle.triangles.proofs.Order.{≤ℤ-trans, ≤ℤ-<ℤ-trans}
+use Rattle.triangles.proofs.Order.{≤ℤ-<ℤ-trans}
 use Rattle.triangles.proofs.Touching.{vertices-held}
 use Rattle.triangles.proofs.Units.{unit-dot}
 use Rattle.triangles.proofs.Outside.{triangle-first-not-met, edge-first-not-met}
 use Rattle.marking.specs.Ranges.{TriangleWithin}
-use Rattle.marking.specs.Met.{placeOf, endsOf, isPoint, isEdge, met}
+use Rattle.marking.specs.Met.{placeOf, endsOf, isEdge, met}
 use Rattle.marking.specs.Scan.{Covers}
 use Rattle.marking.proofs.Signed.{pos-le, pos-lt}
 use Rattle.marking.proofs.Ranges.{index-small, spanOn, span-within}

@@ -1,10 +1,10 @@
-use Rattle.marking.proofs.Clearing.{cleared-more, cleared-length}
-use mathlib.Core.Path.{_≡_, refl, sym, ap, _∙_}
-use mathlib.Core.List.{List, _++_}
-use Prim.Native.Nat.{ℕ, _+_, _-_, _≤_, _<_}
+-- `clear` meets its contract. Assumes nothing.
+use mathlib.Core.Path.{_≡_, refl, ap, _∙_}
+use mathlib.Core.List.{_++_}
+use Prim.Native.Nat.{ℕ, _+_, _-_, _≤_}
 use native.Mathlib.Omega.{arith}
-use borrow.Author.Needs.{needs}
 use lib.ListN.{length, drop, replicate}
+use Rattle.marking.proofs.Clearing.{cleared-more, cleared-length}
 use Rattle.marking.proofs.clear.Statement.{statement}
 use Rattle.marking.proofs.clear.Tie as tie
 

@@ -1,7 +1,9 @@
-use mathlib.Core.Path.{_≡_, sym, ap, subst, _∙_}
-use mathlib.Core.Bool.{Bool, true, false}
+-- `mark_at` meets its contract. Assumes nothing.
+use mathlib.Core.Path.{_≡_, ap}
+use mathlib.Core.Bool.{true}
 use Prim.Native.Nat.{_≤_, _<_}
 use borrow.Author.Tests.{lt-ltb, le-ltb, eq-eqb, ne-eqb}
+use borrow.Author.Needs.{needs}
 use lib.ListN.{length}
 use Rattle.rules.specs.Grid.{isGrid}
 use Rattle.lattice.specs.Levels.{cellsOf, pointsOf}
@@ -11,7 +13,6 @@ use Rattle.marking.specs.Outcome.{done}
 use Rattle.marking.specs.Ranges.{allInRange}
 use Rattle.marking.specs.Mark.{markAt}
 use Rattle.marking.proofs.Ranges.{triangle-within}
-use borrow.Author.Needs.{needs}
 use Rattle.marking.proofs.mark_at.Statement.{statement}
 use Rattle.marking.proofs.mark_at.Tie as tie
 

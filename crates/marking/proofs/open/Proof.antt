@@ -1,13 +1,13 @@
+-- `open` meets its contract. Assumes nothing.
 use mathlib.Core.Path.{_≡_, sym, ap, _∙_}
 use Prim.Native.Nat.{_≤_, _<_}
 use borrow.Author.Tests.{lt-ltb, le-ltb}
-use native.Mathlib.Omega.{arith}
+use borrow.Author.Needs.{needs}
 use lib.ListN.{length}
 use Rattle.lattice.specs.declared.level.LevelRead.the-variants.{Known, Unknown}
 use Rattle.lattice.specs.Levels.{levelOf, pointsOf}
 use Rattle.marking.specs.Outcome.{done}
 use Rattle.marking.specs.Open.{opened, openAt, openFor, openCall}
-use borrow.Author.Needs.{needs}
 use Rattle.marking.proofs.open.Statement.{statement}
 use Rattle.marking.proofs.open.Tie as tie
 

@@ -1,6 +1,6 @@
 -- `bytes_hold` reads within its buffer and ends. Assumes nothing.
-use borrow.Author.Needs.{needs}
 use Prim.Native.Nat.{_-_}
+use borrow.Author.Needs.{needs}
 use lib.ListN.{length}
 use Rattle.marking_examples.proofs.bytes_hold.Statement.{statement}
 use Rattle.marking_examples.proofs.bytes_hold.Tie as tie

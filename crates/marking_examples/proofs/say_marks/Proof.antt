@@ -1,6 +1,6 @@
 -- `say_marks` reads within its grid and ends. Assumes nothing.
-use borrow.Author.Needs.{needs}
 use Prim.Native.Nat.{_-_}
+use borrow.Author.Needs.{needs}
 use lib.ListN.{length}
 use Rattle.marking_examples.proofs.say_marks.Statement.{statement}
 use Rattle.marking_examples.proofs.say_marks.Tie as tie

@@ -1,6 +1,6 @@
 -- `show_nine` ends. Assumes nothing.
-use borrow.Author.Needs.{needs}
 use Prim.Native.Nat.{_-_}
+use borrow.Author.Needs.{needs}
 use Rattle.marking_examples.proofs.show_nine.Statement.{statement}
 use Rattle.marking_examples.proofs.show_nine.Tie as tie
 

@@ -1,18 +1,15 @@
-use Rattle.marking.proofs.Ranges.{all-fails, all-goes-on}
+-- `all_in_range` meets its contract. Assumes nothing.
+use mathlib.Core.Path.{_≡_, refl, sym, ap, _∙_}
+use mathlib.Core.Bool.{true, false}
+use Prim.Native.Nat.{_-_, _≤_}
+use native.Mathlib.Omega.{arith}
 use borrow.Author.Needs.{needs}
 use borrow.Author.Tests.{not-true, not-false}
-use mathlib.Core.Path.{_≡_, refl, sym, ap, _∙_}
-use mathlib.Core.Bool.{Bool, true, false, _&&_}
-use mathlib.Core.List.{List}
-use Prim.Native.Nat.{ℕ, _+_, _-_, _≤_, _<_}
-use native.Mathlib.Numerals.{add-one}
-use native.Mathlib.Omega.{arith}
-use lib.IntN.{ℤ, pos}
+use lib.IntN.{pos}
 use lib.ListN.{length, getD, drop, drop-of-length-le}
-use lib.Seq.{drop-cons}
 use mir.Syntax.{w32}
 use Rattle.rules.specs.Lists.{allOf}
-use Rattle.lattice.proofs.Tests.{fails, holds}
+use Rattle.marking.proofs.Ranges.{all-fails, all-goes-on}
 use Rattle.marking.specs.Ranges.{inRange, allInRange}
 use Rattle.marking.proofs.Signed.{Plain}
 use Rattle.marking.proofs.range.all_in_range.Statement.{statement}

@@ -1,16 +1,15 @@
-use borrow.Author.Tests.{not-true, not-false}
-use mir.Syntax.{w32}
-use mathlib.Core.Path.{_≡_, sym, _∙_}
+-- `in_range` meets its contract. Assumes nothing.
+use mathlib.Core.Path.{_≡_}
 use mathlib.Core.Bool.{true, false}
+use borrow.Author.Tests.{not-true, not-false}
+use borrow.Author.Needs.{needs}
 use lib.IntN.{pos}
 use lib.Signed.{leZ}
-use mir.Syntax.{w64}
+use mir.Syntax.{w32, w64}
 use Rattle.lattice.specs.Levels.{lowestOf}
 use Rattle.lattice.proofs.LevelFacts.{side-most}
-use Rattle.lattice.proofs.Tests.{fails, holds}
 use Rattle.marking.specs.Ranges.{inRange}
 use Rattle.marking.proofs.Signed.{Plain}
-use borrow.Author.Needs.{needs}
 use Rattle.marking.proofs.range.in_range.Statement.{statement}
 use Rattle.marking.proofs.range.in_range.Tie as tie
 

@@ -1,9 +1,8 @@
-use mir.Syntax.{w32}
-use mathlib.Core.Path.{_∙_}
-use mir.Syntax.{w64}
+-- `lattice_of` meets its contract. Assumes nothing.
+use borrow.Author.Needs.{needs}
+use mir.Syntax.{w32, w64}
 use Rattle.marking.proofs.Signed.{Plain}
 use Rattle.marking.specs.Ranges.{latticeOf}
-use borrow.Author.Needs.{needs}
 use Rattle.marking.proofs.range.lattice_of.Statement.{statement}
 use Rattle.marking.proofs.range.lattice_of.Tie as tie
 

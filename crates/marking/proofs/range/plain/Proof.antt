@@ -1,9 +1,7 @@
-use mathlib.Core.Path.{_≡_, sym, ap, subst, _∙_}
-use lib.Dec.{T}
-use lib.IntN.{ℤ, pos, natAbs}
-use lib.Signed.{nonNeg, yes-nonNeg, pos-natAbs}
+-- `plain` meets its contract. Assumes nothing.
+use mathlib.Core.Path.{sym}
+use lib.Signed.{yes-nonNeg, pos-natAbs}
 use mir.Syntax.{w64}
-use mir.Val.{Fits}
 use mir.Facts.{toZ-ofZ, fits-natAbs}
 use Rattle.marking.proofs.Signed.{Plain}
 use Rattle.marking.proofs.range.plain.Statement.{statement}

@@ -1,6 +1,7 @@
+-- `signed` meets its contract. Assumes nothing.
+use borrow.Author.Needs.{needs}
 use mir.Syntax.{w64}
 use mir.Facts.{toZ-pos}
-use borrow.Author.Needs.{needs}
 use Rattle.marking.proofs.range.signed.Statement.{statement}
 use Rattle.marking.proofs.range.signed.Tie as tie
 

@@ -1,5 +1,6 @@
-use Rattle.marking.specs.Ranges.{triangleOf}
+-- `triangle_of` meets its contract. Assumes nothing.
 use borrow.Author.Needs.{needs}
+use Rattle.marking.specs.Ranges.{triangleOf}
 use Rattle.marking.proofs.range.triangle_of.Statement.{statement}
 use Rattle.marking.proofs.range.triangle_of.Tie as tie
 

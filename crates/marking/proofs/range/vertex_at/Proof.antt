@@ -1,10 +1,11 @@
+-- `vertex_at` meets its contract. Assumes nothing.
+use Prim.Native.Nat.{_+_}
+use borrow.Author.Needs.{needs}
 use lib.IntN.{pos}
 use lib.ListN.{getD}
-use Prim.Native.Nat.{_+_}
 use mir.Syntax.{w32, w64}
 use Rattle.marking.specs.Ranges.{vertexAt}
 use Rattle.marking.proofs.Signed.{Plain}
-use borrow.Author.Needs.{needs}
 use Rattle.marking.proofs.range.vertex_at.Statement.{statement}
 use Rattle.marking.proofs.range.vertex_at.Tie as tie
 

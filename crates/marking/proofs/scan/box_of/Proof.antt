@@ -1,9 +1,7 @@
-use Rattle.rules.specs.declared.Axis.{Axis}
-use Rattle.rules.specs.declared.Axis.the-variants.{X, Y, Z}
-use Rattle.rules.specs.Lattice.{coord}
-use Rattle.marking.specs.Scan.{Touches}
-use Rattle.marking.proofs.Ranges.{spanOn, span-within, on-each}
+-- `box_of` meets its contract. Assumes nothing.
 use borrow.Author.Needs.{needs}
+use Rattle.rules.specs.declared.Axis.the-variants.{X, Y, Z}
+use Rattle.marking.proofs.Ranges.{span-within, on-each}
 use Rattle.marking.proofs.scan.box_of.Statement.{statement}
 use Rattle.marking.proofs.scan.box_of.Tie as tie
 

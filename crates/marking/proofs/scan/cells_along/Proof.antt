@@ -1,14 +1,14 @@
-use native.Mathlib.Nat.{div-le-self}
-use Rattle.marking.proofs.Ranges.{plain-within, touches}
-use mathlib.Core.Path.{_≡_, sym, subst, _∙_}
+-- `cells_along` meets its contract. Assumes nothing.
+use mathlib.Core.Path.{sym, _∙_}
 use Prim.Native.Nat.{zero-le, _≤_}
+use native.Mathlib.Nat.{div-le-self}
 use native.Mathlib.Omega.{arith}
+use borrow.Author.Needs.{needs}
 use mir.Syntax.{w64}
-use Rattle.lattice.specs.Levels.{sideOf}
 use Rattle.lattice.proofs.LevelFacts.{side-some}
 use Rattle.triangles.proofs.Order.{≤ℤ-trans}
-use Rattle.marking.proofs.Signed.{Plain, pos-le, le-pos}
-use borrow.Author.Needs.{needs}
+use Rattle.marking.proofs.Ranges.{plain-within, touches}
+use Rattle.marking.proofs.Signed.{Plain, pos-le}
 use Rattle.marking.proofs.scan.cells_along.Statement.{statement}
 use Rattle.marking.proofs.scan.cells_along.Tie as tie
 

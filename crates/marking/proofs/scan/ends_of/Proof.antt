@@ -1,7 +1,8 @@
+-- `ends_of` meets its contract. Assumes nothing.
 use native.Mathlib.Omega.{arith}
+use borrow.Author.Needs.{needs}
 use Rattle.lattice.proofs.LevelFacts.{cells-most}
 use Rattle.marking.specs.Met.{endsOf}
-use borrow.Author.Needs.{needs}
 use Rattle.marking.proofs.scan.ends_of.Statement.{statement}
 use Rattle.marking.proofs.scan.ends_of.Tie as tie
 

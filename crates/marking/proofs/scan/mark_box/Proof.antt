@@ -1,8 +1,6 @@
-use mathlib.Core.Path.{_≡_, refl, ap, _∙_}
-use Prim.Native.Nat.{_-_, _≤_}
+-- `mark_box` meets its contract. Assumes nothing.
+use Prim.Native.Nat.{_-_}
 use native.Mathlib.Omega.{arith}
-use borrow.Author.Needs.{needs}
-use lib.ListN.{length}
 use Rattle.lattice.specs.Levels.{cellsOf}
 use Rattle.lattice.proofs.LevelFacts.{cells-most}
 use Rattle.marking.specs.Met.{met}

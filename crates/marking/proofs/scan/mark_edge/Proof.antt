@@ -1,5 +1,7 @@
-use mathlib.Core.Path.{_≡_, sym, subst, _∙_}
+-- `mark_edge` meets its contract. Assumes nothing.
+use mathlib.Core.Path.{_≡_, sym, _∙_}
 use mathlib.Core.Bool.{true, false}
+use borrow.Author.Needs.{needs}
 use Rattle.rules.proofs.Store.{stored}
 use Rattle.lattice.specs.Levels.{cellsOf}
 use Rattle.lattice.proofs.LevelFacts.{cells-most}
@@ -8,7 +10,6 @@ use Rattle.marking.specs.Met.{met}
 use Rattle.marking.proofs.Ranges.{ends-inside}
 use Rattle.marking.proofs.Outside.{met-is}
 use Rattle.marking.proofs.Adding.{edge-marked, edge-not-in, edge-turned}
-use borrow.Author.Needs.{needs}
 use Rattle.marking.proofs.scan.mark_edge.Statement.{statement}
 use Rattle.marking.proofs.scan.mark_edge.Tie as tie
 

@@ -1,4 +1,4 @@
-use Rattle.rules.specs.Lattice.{Set}
+-- `mark_grid` meets its contract. Assumes nothing.
 use Rattle.lattice.specs.Levels.{cellsOf}
 use Rattle.marking.specs.Met.{met, marked}
 use Rattle.marking.proofs.Ranges.{within-inside}

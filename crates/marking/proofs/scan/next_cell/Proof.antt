@@ -1,6 +1,7 @@
+-- `next_cell` meets its contract. Assumes nothing.
 use borrow.Author.Tests.{lt-ltb, le-ltb}
-use Rattle.marking.specs.Scan.{nextCell}
 use borrow.Author.Needs.{needs}
+use Rattle.marking.specs.Scan.{nextCell}
 use Rattle.marking.proofs.scan.next_cell.Statement.{statement}
 use Rattle.marking.proofs.scan.next_cell.Tie as tie
 

@@ -1,11 +1,11 @@
+-- `place_along` meets its contract. Assumes nothing.
 use Prim.Native.Nat.{_*_, _≤_, _^_}
-use mathlib.Core.Path.{_≡_, _∙_}
 use native.Mathlib.Nat.{lt-of-le-of-lt}
+use borrow.Author.Needs.{needs}
 use lib.Dec.{lit<}
 use mir.Syntax.{w64}
 use Rattle.lattice.proofs.LevelFacts.{place-most}
 use Rattle.marking.proofs.Signed.{Plain}
-use borrow.Author.Needs.{needs}
 use Rattle.marking.proofs.scan.place_along.Statement.{statement}
 use Rattle.marking.proofs.scan.place_along.Tie as tie
 

@@ -1,7 +1,8 @@
+-- `place_of` meets its contract. Assumes nothing.
+use borrow.Author.Needs.{needs}
 use mir.Syntax.{w64}
 use Rattle.marking.specs.Met.{placeOf}
 use Rattle.marking.proofs.Signed.{Plain}
-use borrow.Author.Needs.{needs}
 use Rattle.marking.proofs.scan.place_of.Statement.{statement}
 use Rattle.marking.proofs.scan.place_of.Tie as tie
 

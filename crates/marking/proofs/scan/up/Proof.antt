@@ -1,7 +1,5 @@
-use mathlib.Core.Path.{sym, ap, _∙_}
+-- `up` meets its contract. Assumes nothing.
 use native.Mathlib.Numerals.{add-one}
-use Rattle.rules.specs.declared.Axis.{Axis}
-use Rattle.rules.specs.Lattice.{up}
 use borrow.Author.Needs.{needs}
 use Rattle.marking.proofs.scan.up.Statement.{statement}
 use Rattle.marking.proofs.scan.up.Tie as tie
