@@ -10,6 +10,7 @@ ghost use mathlib.Core.Path.{_≡_};
 ghost use mathlib.Core.Bool.{true};
 ghost use mathlib.Core.List.{_++_};
 ghost use Prim.Native.Nat.{_≤_};
+ghost use lib.Dec.{eqb};
 ghost use lib.ListN.{length, drop};
 ghost use Rattle.rules.specs.Lists.{_⊕_};
 ghost use Rattle.rules.specs.declared.Axis.the-variants.{X};
@@ -36,6 +37,13 @@ fn sign_byte(inside: bool) -> u8
         return 1;
     }
     0
+}
+
+// Whether a sign byte says inside.
+pub fn is_inside(b: u8) -> bool
+    ensures { λ r. ⌜ r ≡ eqb b 1 ⌝ }
+{
+    b == 1
 }
 
 // Answers whether the far end of an x edge is inside, b being the byte of its near end.

@@ -6,7 +6,7 @@ use Prim.Native.Nat.{ℕ, suc, _+_, _*_, _≤_, _<_}
 use native.Mathlib.Omega.{arith}
 use lib.Dec.{leb, eqb}
 use lib.ListN.{getD}
-use borrow.Author.Tests.{le-leb, lt-leb, eq-eqb, ne-eqb}
+use borrow.Author.Tests.{le-leb, lt-leb}
 use Rattle.rules.specs.declared.Axis.{Axis}
 use Rattle.rules.specs.declared.Axis.the-variants.{X, Y, Z}
 use Rattle.rules.specs.declared.Point.{Point}
@@ -26,12 +26,12 @@ unfolding edgeFits
 edge-beyond n E s a q h = rw (le-leb n (coord a q) h)
 
 -- an edge that exists, by the bytes of its ends
-pub edge-is : (n : ℕ) (g s : List ℕ) (a : Axis) (q : Point) (p t : ℕ) (r : Bool) → Grids n g s → OfGrid n q → coord a q < n → p ≡ pointNumber n q → t ≡ pointStep n a → r ≡ has a (getD g p 0) →
-    Bool·beq (not (Bool·beq (eqb (getD s p 0) 1) (eqb (getD s (p + t) 0) 1))) r ≡ edgeFits n (marks n g) (inside n s) a q
+pub edge-is : (n : ℕ) (g s : List ℕ) (a : Axis) (q : Point) (p t : ℕ) (x y r : Bool) → Grids n g s → OfGrid n q → coord a q < n → p ≡ pointNumber n q → t ≡ pointStep n a →
+    x ≡ eqb (getD s p 0) 1 → y ≡ eqb (getD s (p + t) 0) 1 → r ≡ has a (getD g p 0) → Bool·beq (not (Bool·beq x y)) r ≡ edgeFits n (marks n g) (inside n s) a q
 unfolding edgeFits
-edge-is n g s a q p t r k h l e f m =
+edge-is n g s a q p t x y r k h l e f i j m =
     ap₂ Bool·beq
-    (differ-is (eqb (getD s p 0) 1) (eqb (getD s (p + t) 0) 1)
+    (differ-is x y ∙ ap₂ _⊕_ i j
     ∙ ap₂ (λ (i j : ℕ). eqb (getD s i 0) 1 ⊕ eqb (getD s j 0) 1) e (ap₂ _+_ e f ∙ sym (number-up n a q)))
     (m ∙ ap (λ (i : ℕ). has a (getD g i 0)) e ∙ grid-marks n g (k .g-long) (k .grid) a q h)
     ∙ rw (lt-leb n (coord a q) l)
@@ -64,10 +64,10 @@ module _ (n : ℕ) (E : Set) (s : List ℕ) where
   origin-first : inside n s origin ≡ eqb (getD s 0 0) 1
   origin-first = ap (λ (i : ℕ). eqb (getD s i 0) 1) (let e : 0 + suc n * (0 + suc n * 0) ≡ 0 = omega arith in e)
 
-  pub origin-inside : getD s 0 0 ≡ 1 → false ≡ signsFit n E s
+  pub origin-inside : eqb (getD s 0 0) 1 ≡ true → false ≡ signsFit n E s
   unfolding signsFit
-  origin-inside h = rw (origin-first, eq-eqb (getD s 0 0) 1 h)
+  origin-inside h = rw (origin-first, h)
 
-  pub origin-outside : (getD s 0 0 ≡ 1 → ⊥) → allOf (pointFits n E s) (points (suc n)) ≡ signsFit n E s
+  pub origin-outside : eqb (getD s 0 0) 1 ≡ false → allOf (pointFits n E s) (points (suc n)) ≡ signsFit n E s
   unfolding signsFit
-  origin-outside h = rw (origin-first, ne-eqb (getD s 0 0) 1 h)
+  origin-outside h = rw (origin-first, h)

@@ -5,3 +5,4 @@ pub mod Quads
 pub mod Turn
 pub mod Exist
 pub mod Misfit
+pub mod Done

@@ -122,16 +122,17 @@ module _ (n : ℕ) (E : Set) (s : Point → Bool) where
   pub quads-end : (p : ℕ) → pointCount n ≤ p → quadsFrom p ≡ []
   quads-end p h = ap (each quadsAt) (points-end n p h)
 
--- the quads of a point, by its bytes
-pub quads-byte : (n : ℕ) (g s : List ℕ) (p : ℕ) (q : Point) → Grids n g s → At n p q → p < pointCount n →
-    byteQuads n (getD g p 0) (eqb (getD s p 0) 1) q ≡ quadsAt n (marks n g) (inside n s) q
+-- the quads of a point, by its bytes; x tells whether it is inside
+pub quads-byte : (n : ℕ) (g s : List ℕ) (p : ℕ) (q : Point) (x : Bool) → Grids n g s → At n p q → p < pointCount n → x ≡ eqb (getD s p 0) 1 →
+    byteQuads n (getD g p 0) x q ≡ quadsAt n (marks n g) (inside n s) q
 unfolding byteQuads
-quads-byte n g s p q k a h = ap₂ _++_ (one X) (ap₂ _++_ (one Y) (ap₂ _++_ (one Z) refl))
+quads-byte n g s p q x k a h e = ap₂ _++_ (one X) (ap₂ _++_ (one Y) (ap₂ _++_ (one Z) refl))
   where
-    one : (b : Axis) → byteQuad n (getD g p 0) (eqb (getD s p 0) 1) b q ≡ cond (marks n g b q) (quad n (inside n s) (record { axis = b; at = q })) []
-    one b = ap₂ (λ (c d : Bool). cond c (quad n (λ r. d) (record { axis = b; at = q })) [])
+    one : (b : Axis) → byteQuad n (getD g p 0) x b q ≡ cond (marks n g b q) (quad n (inside n s) (record { axis = b; at = q })) []
+    one b =
+        ap₂ (λ (c d : Bool). cond c (quad n (λ r. d) (record { axis = b; at = q })) [])
         (ap (λ (i : ℕ). has b (getD g i 0)) (sym (a .is)) ∙ grid-marks n g (k .g-long) (k .grid) b q (at-grid n p q a h))
-        (ap (λ (i : ℕ). eqb (getD s i 0) 1) (sym (a .is)))
+        (e ∙ ap (λ (i : ℕ). eqb (getD s i 0) 1) (sym (a .is)))
 
 -- no mark, no quad
 pub quads-none : (n b : ℕ) (inside : Bool) (q : Point) → b ≡ 0 → byteQuads n b inside q ≡ []

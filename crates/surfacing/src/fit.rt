@@ -4,6 +4,7 @@ use lattice::level::point_count;
 use lattice::scan::next_point;
 use rules::Axis;
 use rules::Point;
+use signing::is_inside;
 ghost use mathlib.Core.Path.{_≡_};
 ghost use mathlib.Core.Bool.{true};
 ghost use mathlib.Core.List.{List};
@@ -46,7 +47,7 @@ fn edge_fits(n: usize, grid: &[u8], signs: &[u8], a: Axis, q: Point, p: usize) -
         return true;
     }
     let r = p + point_step(n, a);
-    let change = (signs[p] == 1) != (signs[r] == 1);
+    let change = is_inside(signs[p]) != is_inside(signs[r]);
     change == bit(grid[p], a)
 }
 
@@ -72,7 +73,7 @@ pub fn signs_fit(n: usize, grid: &[u8], signs: &[u8]) -> bool
     requires { ⌜ (n ≤ 32) × Grids n (now grid) (now signs) ⌝ }
     ensures { λ r. ⌜ r ≡ signsFit n (marks n (now (grid .entry))) (now (signs .entry)) ⌝ }
 {
-    if signs[0] == 1 {
+    if is_inside(signs[0]) {
         return false;
     }
     let count = point_count(n);

@@ -4,6 +4,7 @@ use lattice::level::point_count;
 use lattice::scan::next_point;
 use rules::Axis;
 use rules::Point;
+use signing::is_inside;
 ghost use mathlib.Core.Path.{_≡_};
 ghost use mathlib.Core.Bool.{true};
 ghost use mathlib.Core.List.{[], _∷_, _++_};
@@ -130,7 +131,7 @@ pub fn write_quads(n: usize, grid: &[u8], signs: &[u8], list: &mut [u16])
     let mut p: usize = 0;
     let mut at: usize = 0;
     while p < count {
-        at = put_quads(n, grid[p], signs[p] == 1, q, list, at);
+        at = put_quads(n, grid[p], is_inside(signs[p]), q, list, at);
         q = next_point(n, q);
         p += 1;
     }

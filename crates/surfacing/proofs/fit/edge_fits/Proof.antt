@@ -1,10 +1,10 @@
 -- `surfacing::fit::edge_fits` meets its contract. Assumes nothing.
 use borrow.Author.Needs.{needs}
-use mathlib.Core.Path.{sym, subst}
-use Prim.Native.Nat.{ℕ, _+_, _<_}
+use mathlib.Core.Path.{sym}
+use Prim.Native.Nat.{_<_}
 use native.Mathlib.Omega.{arith}
 use Rattle.rules.specs.Lattice.{coord}
-use Rattle.surfacing.proofs.Steps.{below, up-below, square-most}
+use Rattle.surfacing.proofs.Steps.{below, up-below}
 use Rattle.surfacing.proofs.Fits.{edge-beyond, edge-is}
 use Rattle.surfacing.proofs.fit.edge_fits.Statement.{statement}
 use Rattle.surfacing.proofs.fit.edge_fits.Tie as tie
@@ -17,36 +17,47 @@ returns c =
     let start = c .before .before .before .before in
     edge-beyond _ _ _ (start .args .a) (start .args .q) (rw (sym (c .before .coordinate .ensures)) (c .if1 .taken))
 
+-- behind the first test the edge exists
+exists : (c : tie.Else1) →
+    let start = c .before .before .before .before in
+    coord (start .args .a) (start .args .q) < start .args .n
+exists c = rw (sym (c .before .coordinate .ensures)) (omega arith)
+
 point-step-requires : tie.Need-point-step-requires
 point-step-requires c κs = search needs
 
 add-r : tie.Need-add-r
 add-r c =
     let start = c .before .before .before .before .before in
-    let b = up-below (start .args .n) (start .args .a) (start .args .q) (start .pre .2) (rw (sym (c .before .before .coordinate .ensures)) (omega arith)) in omega (arith, c .point-step .ensures)
+    let b = up-below (start .args .n) (start .args .a) (start .args .q) (start .pre .2) (exists (c .before)) in
+    omega (arith, c .point-step .ensures)
 
-shared-slice-read-change : tie.Need-shared-slice-read-change
-shared-slice-read-change c =
-    let start = c .before .before .before .before .before .before in
-    omega (arith, below (start .args .n) (start .args .q) (start .pre .2))
+shared-slice-read-is-inside : tie.Need-shared-slice-read-is-inside
+shared-slice-read-is-inside c = let start = c .before .before .before .before .before .before in omega (arith, below (start .args .n) (start .args .q) (start .pre .2))
 
-shared-slice-read-change-2 : tie.Need-shared-slice-read-change-2
-shared-slice-read-change-2 c =
-    let start = c .before .before .before .before .before .before .before in
-    let b = up-below (start .args .n) (start .args .a) (start .args .q) (start .pre .2) (rw (sym (c .before .before .before .before .coordinate .ensures)) (omega arith)) in omega (arith, c .before .before .point-step .ensures)
+is-inside-requires : tie.Need-is-inside-requires
+is-inside-requires c κs = search needs
+
+shared-slice-read-is-inside-2 : tie.Need-shared-slice-read-is-inside-2
+shared-slice-read-is-inside-2 c =
+    let start = c .before .before .before .before .before .before .before .before in
+    let b = up-below (start .args .n) (start .args .a) (start .args .q) (start .pre .2) (exists (c .before .before .before .before)) in
+    omega (arith, c .before .before .before .point-step .ensures)
+
+is-inside-requires-2 : tie.Need-is-inside-requires-2
+is-inside-requires-2 c κs = search needs
 
 shared-slice-read-bit : tie.Need-shared-slice-read-bit
-shared-slice-read-bit c =
-    let start = c .before .before .before .before .before .before .before .before in
-    omega (arith, below (start .args .n) (start .args .q) (start .pre .2))
+shared-slice-read-bit c = let start = c .before .before .before .before .before .before .before .before .before .before in omega (arith, below (start .args .n) (start .args .q) (start .pre .2))
 
 bit-requires : tie.Need-bit-requires
 bit-requires c κs = search needs
 
 returns-2 : tie.Need-returns-2
 returns-2 c =
-    let start = c .before .before .before .before .before .before .before .before .before in
-    edge-is (start .args .n) (start .args .grid .now) (start .args .signs .now) (start .args .a) (start .args .q) (start .args .p) _ _ (start .pre .1) (start .pre .2) (rw (sym (c .before .before .before .before .before .before .coordinate .ensures)) (omega arith)) (start .pre .3) (c .before .before .before .before .point-step .ensures) (c .bit .ensures)
+    let start = c .before .before .before .before .before .before .before .before .before .before .before in
+    edge-is (start .args .n) (start .args .grid .now) (start .args .signs .now) (start .args .a) (start .args .q) (start .args .p) _ _ _ _
+    (start .pre .1) (start .pre .2) (exists (c .before .before .before .before .before .before .before)) (start .pre .3) (c .before .before .before .before .before .before .point-step .ensures) (c .before .before .before .before .is-inside .ensures) (c .before .before .is-inside2 .ensures) (c .bit .ensures)
 
 pub edge-fits-spec : {M : Type 1} → statement M
 edge-fits-spec =
@@ -56,8 +67,10 @@ edge-fits-spec =
     returns
     point-step-requires
     add-r
-    shared-slice-read-change
-    shared-slice-read-change-2
+    shared-slice-read-is-inside
+    is-inside-requires
+    shared-slice-read-is-inside-2
+    is-inside-requires-2
     shared-slice-read-bit
     bit-requires
     returns-2)

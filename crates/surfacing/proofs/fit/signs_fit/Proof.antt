@@ -18,36 +18,40 @@ use Rattle.surfacing.proofs.fit.signs_fit.Tie as tie
 
 abbrev Inv-loop : tie.InvT-loop
 Inv-loop n grid signs count q₀ p₀ q p =
-    (count ≡ pointCount n) × (p ≤ pointCount n) × At n p q
+    (count ≡ pointCount n)
+    × (p ≤ pointCount n)
+    × At n p q
     × (allOf (pointFits n (marks n grid) signs) (pointsFrom n p) ≡ signsFit n (marks n grid) signs)
 
 abbrev μ-loop : tie.MeasureT-loop
 μ-loop n grid signs count q₀ p₀ q p = count - p
 
-shared-slice-read-if1 : tie.Need-shared-slice-read-if1 Inv-loop μ-loop
-shared-slice-read-if1 c =
-    let start = c .before .before .before in
-    omega (arith, count-some (start .args .n), start .pre .1 .s-long)
+shared-slice-read-is-inside : tie.Need-shared-slice-read-is-inside Inv-loop μ-loop
+shared-slice-read-is-inside c = let start = c .before .before .before in omega (arith, count-some (start .args .n), start .pre .1 .s-long)
+
+is-inside-requires : tie.Need-is-inside-requires Inv-loop μ-loop
+is-inside-requires c κs = tt
 
 returns : tie.Need-returns Inv-loop μ-loop
-returns c = origin-inside _ _ (c .before .before .before .before .args .signs .now) (c .if1 .taken)
+returns c = origin-inside _ _ (c .before .before .before .before .before .args .signs .now) (sym (c .before .is-inside .ensures) ∙ c .if1 .taken)
 
 point-count-requires : tie.Need-point-count-requires Inv-loop μ-loop
-point-count-requires c κs = c .before .before .before .before .pre .0
+point-count-requires c κs = c .before .before .before .before .before .pre .0
 
 loop-holds : tie.Need-loop-holds Inv-loop μ-loop
-loop-holds c = (c .point-count .ensures .0, omega arith, at-start _, all-start _ _ ∙ origin-outside _ _ (c .before .before .before .before .before .args .signs .now) (c .before .if1 .left))
+loop-holds c =
+    (c .point-count .ensures .0, omega arith, at-start _, all-start _ _ ∙ origin-outside _ _ (c .before .before .before .before .before .before .args .signs .now) (sym (c .before .before .is-inside .ensures) ∙ c .before .if1 .left))
 
 point-fits-requires : tie.Need-point-fits-requires Inv-loop μ-loop
 point-fits-requires c κs =
-    let start = c .before .before .before .before .before .before .before in
+    let start = c .before .before .before .before .before .before .before .before in
     let l = c .before .loop in
     let h : l .p < pointCount (start .args .n) = omega arith in
     (start .pre .0, start .pre .1, at-grid _ (l .p) (l .q) (l .inv .2) h, sym (l .inv .2 .is))
 
 returns-2 : tie.Need-returns-2 Inv-loop μ-loop
 returns-2 c =
-    let start = c .before .before .before .before .before .before .before .before .before in
+    let start = c .before .before .before .before .before .before .before .before .before .before in
     let l = c .before .before .before .loop in
     let f = pointFits (start .args .n) (marks (start .args .n) (start .args .grid .now)) (start .args .signs .now) in
     let h : l .p < pointCount (start .args .n) = omega arith in
@@ -56,7 +60,7 @@ returns-2 c =
 
 next-point-requires : tie.Need-next-point-requires Inv-loop μ-loop
 next-point-requires c κs =
-    let start = c .before .before .before .before .before .before .before .before .before in
+    let start = c .before .before .before .before .before .before .before .before .before .before in
     let l = c .before .before .before .loop in
     let h : l .p < pointCount (start .args .n) = omega arith in
     (start .pre .0, at-grid _ (l .p) (l .q) (l .inv .2) h)
@@ -69,7 +73,7 @@ loop-less c = omega (arith, c .before .before .before .loop-test .taken)
 
 loop-again : tie.Need-loop-again Inv-loop μ-loop
 loop-again c =
-    let start = c .before .before .before .before .before .before .before .before .before .before in
+    let start = c .before .before .before .before .before .before .before .before .before .before .before in
     let l = c .before .before .before .before .loop in
     let f = pointFits (start .args .n) (marks (start .args .n) (start .args .grid .now)) (start .args .signs .now) in
     let h : l .p < pointCount (start .args .n) = omega (arith, l .inv .0, c .before .before .before .loop-test .taken) in
@@ -78,9 +82,10 @@ loop-again c =
 
 returns-3 : tie.Need-returns-3 Inv-loop μ-loop
 returns-3 c =
-    let start = c .before .before .before .before .before .before .before in
+    let start = c .before .before .before .before .before .before .before .before in
     let l = c .before .loop in
-    sym (all-end (pointFits _ (marks _ (start .args .grid .now)) (start .args .signs .now)) _ (l .p) (omega (arith, l .inv .0, c .loop-test .left))) ∙ l .inv .3
+    let f = pointFits (start .args .n) (marks (start .args .n) (start .args .grid .now)) (start .args .signs .now) in
+    sym (all-end f _ (l .p) (omega (arith, l .inv .0, c .loop-test .left))) ∙ l .inv .3
 
 pub signs-fit-spec : {M : Type 1} → statement M
 signs-fit-spec =
@@ -88,7 +93,8 @@ signs-fit-spec =
     (tie.spec
     Inv-loop
     μ-loop
-    shared-slice-read-if1
+    shared-slice-read-is-inside
+    is-inside-requires
     returns
     point-count-requires
     loop-holds

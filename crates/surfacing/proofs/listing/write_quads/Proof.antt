@@ -47,44 +47,47 @@ loop-holds c =
 shared-slice-read-put-quads : tie.Need-shared-slice-read-put-quads Inv-loop μ-loop
 shared-slice-read-put-quads c = omega (arith, c .before .before .before .before .before .before .before .pre .1 .g-long)
 
-shared-slice-read-put-quads-2 : tie.Need-shared-slice-read-put-quads-2 Inv-loop μ-loop
-shared-slice-read-put-quads-2 c = omega (arith, c .before .before .before .before .before .before .before .before .pre .1 .s-long)
+shared-slice-read-is-inside : tie.Need-shared-slice-read-is-inside Inv-loop μ-loop
+shared-slice-read-is-inside c = omega (arith, c .before .before .before .before .before .before .before .before .pre .1 .s-long)
+
+is-inside-requires : tie.Need-is-inside-requires Inv-loop μ-loop
+is-inside-requires c κs = tt
 
 put-quads-requires : tie.Need-put-quads-requires Inv-loop μ-loop
 put-quads-requires c κs =
-    let start = c .before .before .before .before .before .before .before .before .before in
-    let l = c .before .before .before .before .loop in
+    let start = c .before .before .before .before .before .before .before .before .before .before in
+    let l = c .before .before .before .before .before .loop in
     let n = start .args .n in
     let g = start .args .grid .now in
     let s = start .args .signs .now in
-    let h : l .p < pointCount n = omega (arith, l .inv .0, c .before .before .before .loop-test .taken) in (
+    let h : l .p < pointCount n = omega (arith, l .inv .0, c .before .before .before .before .loop-test .taken) in (
       start .pre .0,
       marks-inner-at n g (l .p) (l .q) (start .pre .1 .g-long) (start .pre .1 .grid) (l .inv .2) h,
-      rw (quads-byte n g s (l .p) (l .q) (start .pre .1) (l .inv .2) h) (quads-room n (marks n g) (inside n s) (l .p) (l .q) (l .inv .2) h (l .at) (l .list) (l .inv .4)),
+      rw (quads-byte n g s (l .p) (l .q) _ (start .pre .1) (l .inv .2) h (c .before .is-inside .ensures)) (quads-room n (marks n g) (inside n s) (l .p) (l .q) (l .inv .2) h (l .at) (l .list) (l .inv .4)),
     )
 
 next-point-requires : tie.Need-next-point-requires Inv-loop μ-loop
 next-point-requires c κs =
-    let start = c .before .before .before .before .before .before .before .before .before .before .before .before in
-    let l = c .before .before .before .before .before .before .before .loop in
-    let h : l .p < pointCount (start .args .n) = omega (arith, l .inv .0, c .before .before .before .before .before .before .loop-test .taken) in
+    let start = c .before .before .before .before .before .before .before .before .before .before .before .before .before in
+    let l = c .before .before .before .before .before .before .before .before .loop in
+    let h : l .p < pointCount (start .args .n) = omega (arith, l .inv .0, c .before .before .before .before .before .before .before .loop-test .taken) in
     (start .pre .0, at-grid _ (l .p) (l .q) (l .inv .2) h)
 
 add-p : tie.Need-add-p Inv-loop μ-loop
-add-p c = omega (arith, c .before .before .before .before .before .before .before .loop-test .taken, c .before .before .before .before .before .before .before .before .before .point-count .ensures .1)
+add-p c = omega (arith, c .before .before .before .before .before .before .before .before .loop-test .taken, c .before .before .before .before .before .before .before .before .before .before .point-count .ensures .1)
 
 loop-less : tie.Need-loop-less Inv-loop μ-loop
-loop-less c = omega (arith, c .before .before .before .before .before .before .before .loop-test .taken)
+loop-less c = omega (arith, c .before .before .before .before .before .before .before .before .loop-test .taken)
 
 loop-again : tie.Need-loop-again Inv-loop μ-loop
 loop-again c =
-    let start = c .before .before .before .before .before .before .before .before .before .before .before .before .before in
-    let l = c .before .before .before .before .before .before .before .before .loop in
+    let start = c .before .before .before .before .before .before .before .before .before .before .before .before .before .before in
+    let l = c .before .before .before .before .before .before .before .before .before .loop in
     let n = start .args .n in
     let g = start .args .grid .now in
     let s = start .args .signs .now in
-    let h : l .p < pointCount n = omega (arith, l .inv .0, c .before .before .before .before .before .before .before .loop-test .taken) in
-    let e = rw (quads-byte n g s (l .p) (l .q) (start .pre .1) (l .inv .2) h) at (c .before .before .before .put-quads .ensures) in
+    let h : l .p < pointCount n = omega (arith, l .inv .0, c .before .before .before .before .before .before .before .before .loop-test .taken) in
+    let e = rw (quads-byte n g s (l .p) (l .q) _ (start .pre .1) (l .inv .2) h (c .before .before .before .before .before .is-inside .ensures)) at (c .before .before .before .put-quads .ensures) in
     let w = quads-written n (marks n g) (inside n s) (l .p) (l .q) (l .inv .2) h (l .at) _ (l .list) _ e (l .inv .4) in
     (l .inv .0, omega arith, rw (add-one, c .next-point .ensures) (at-next n (l .p) (l .q) (l .inv .2) h), w .0 ∙ l .inv .3, rw add-one (w .1), rw add-one (w .2 ∙ l .inv .5))
 
@@ -111,7 +114,8 @@ write-quads-spec =
     point-count-requires
     loop-holds
     shared-slice-read-put-quads
-    shared-slice-read-put-quads-2
+    shared-slice-read-is-inside
+    is-inside-requires
     put-quads-requires
     next-point-requires
     add-p
