@@ -216,28 +216,29 @@ fn show_bytes(
     lend(name, 2, &grid, &signs, room);
 }
 
-// The calls of sign.
-fn run_sign() {
+// Sign of marks that it takes, and of odd faces.
+fn run_signed() {
     let mut grid = [0u8; LONG];
     show_sign(b"no marks", 2, &grid);
     mark_single(&mut grid);
     show_sign(b"example 2", 2, &grid);
     put(&mut grid, 62, 6);
     show_sign(b"example 3", 2, &grid);
-    show_sign(b"level 1, no bytes", 1, &grid[0..0]);
-    show_sign(b"level 6", 6, &grid);
-    show_sign(b"a byte short", 2, &grid[0..124]);
-    show_sign(b"level 3, short", 3, &grid);
     put(&mut grid, 62, 8);
     show_sign(b"a byte of 8, odd faces", 2, &grid);
 }
 
-fn main() {
-    run_sign();
-    show_room(b"example 2, room for 30", 30);
-    show_room(b"example 2, room for 24", 24);
-    show_room(b"example 2, room for 23", 23);
-    show_short();
+// Sign of levels and lengths that it refuses.
+fn run_unsigned() {
+    let grid = [0u8; LONG];
+    show_sign(b"level 1, no bytes", 1, &grid[0..0]);
+    show_sign(b"level 6", 6, &grid);
+    show_sign(b"a byte short", 2, &grid[0..124]);
+    show_sign(b"level 3, short", 3, &grid);
+}
+
+// Surface of signs that do not fit.
+fn run_misfits() {
     show_bytes(b"a byte of 8, a sign of 2, no room", 62, 8, 62, 2, 23);
     show_bytes(b"a sign of 2, no room", 62, 7, 62, 2, 23);
     show_bytes(b"a sign of 2 at an unmarked point", 62, 7, 93, 2, 30);
@@ -246,5 +247,15 @@ fn main() {
     show_bytes(b"marks and no change", 62, 7, 62, 0, 30);
     show_bytes(b"a mark gone", 62, 6, 62, 1, 30);
     show_bytes(b"a point of the outer skin inside", 62, 7, 124, 1, 30);
+}
+
+fn main() {
+    run_signed();
+    run_unsigned();
+    show_room(b"example 2, room for 30", 30);
+    show_room(b"example 2, room for 24", 24);
+    show_room(b"example 2, room for 23", 23);
+    show_short();
+    run_misfits();
     show_bytes(b"dirty bytes behind grid and signs", 125, 77, 125, 77, 30);
 }
