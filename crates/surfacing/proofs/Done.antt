@@ -18,7 +18,7 @@ use Rattle.lattice.specs.Levels.{levelOf, cellsOf}
 use Rattle.signing.specs.SignBytes.{inside, Signed}
 use Rattle.surfacing.specs.Fit.{signsFit}
 use Rattle.surfacing.specs.Listing.{quadCount}
-use Rattle.surfacing.specs.Call.{Outcome, refused, listed, surfaceSized, surfaceFor, surfaceCall}
+use Rattle.surfacing.specs.Call.{Outcome, refused, shortList, listed, surfaceSized, surfaceFor, surfaceCall}
 use Rattle.surfacing.proofs.Quads.{quads-length}
 use Rattle.surfacing.proofs.Exist.{quads-exist}
 use Rattle.surfacing.proofs.Misfit.{fit-signed}
@@ -48,7 +48,7 @@ done-sized n g s l e =
     let E = marks n g in
     let k = quadCount n E in
     let o : Outcome = record { number = 0; quads = k; list = quads n E (inside n s) ++ drop (4 * k) l } in
-    let t = passed l (ltb (length g) (pointCount n) || ltb (length s) (pointCount n)) (isGrid n g) (signsFit n E s) (ltb (length l) (4 * k)) o e in
+    let t = passed l (ltb (length g) (pointCount n) || ltb (length s) (pointCount n)) (isGrid n g) (signsFit n E s) (shortList n E l) o e in
     let m = quads-length n E (inside n s) in
     let w : take (4 * k) (quads n E (inside n s) ++ drop (4 * k) l) ≡ quads n E (inside n s) = take-at (quads n E (inside n s)) (drop (4 * k) l) (4 * k) m in
     subst (Listed n g s l) (sym (t .1)) (record {

@@ -36,10 +36,14 @@ told NoGrid l = refused 5 l
 told SignsMisfit l = refused 7 l
 told ShortList l = refused 8 l
 
--- 8: list shorter than four times the quads; done: four cell numbers a quad, and entries after the last quad keep their contents
+-- 8: list shorter than four times the quads
+abbrev pub shortList : ℕ → Set → List ℕ → Bool
+shortList n E l = ltb (length l) (4 * quadCount n E)
+
+-- done: four cell numbers a quad, and entries after the last quad keep their contents
 unfoldable pub listed : ℕ → Set → (Point → Bool) → List ℕ → Outcome
 listed n E s l =
-    cond (ltb (length l) (4 * quadCount n E)) (refused 8 l)
+    cond (shortList n E l) (refused 8 l)
     (record { number = 0; quads = quadCount n E; list = quads n E s ++ drop (4 * quadCount n E) l })
 
 -- 2: a grid or sign buffer shorter than P; 5: the buffer is no grid; 7: the signs do not fit; the lowest number is given
