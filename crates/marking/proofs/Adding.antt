@@ -44,7 +44,8 @@ module _ (b : ℕ) where
 
 -- ---- one set after another
 module _ (n : ℕ) where
-  pub added-none : (g : List ℕ) (E : Set) → ((a : Axis) (p : Point) → OfGrid n p → E a p ≡ true → has a (getD g (pointNumber n p) 0) ≡ true) → Added n E g g
+  pub added-none : (g : List ℕ) (E : Set) →
+      ((a : Axis) (p : Point) → OfGrid n p → E a p ≡ true → has a (getD g (pointNumber n p) 0) ≡ true) → Added n E g g
   added-none g E h =
       record { long = refl; past = λ i l. refl; high = λ i. refl; marks-now = λ a p o. there (stored n g a p) (E a p) (h a p o) }
     where
@@ -64,7 +65,12 @@ module _ (n : ℕ) where
 
   pub added-same : {E F : Set} {g h : List ℕ} → ((a : Axis) (p : Point) → OfGrid n p → E a p ≡ F a p) → Added n E g h → Added n F g h
   added-same {g = g} f x =
-      record { long = x .long; past = x .past; high = x .high; marks-now = λ a p o. x .marks-now a p o ∙ ap (λ (b : Bool). stored n g a p || b) (f a p o) }
+      record {
+        long = x .long;
+        past = x .past;
+        high = x .high;
+        marks-now = λ a p o. x .marks-now a p o ∙ ap (λ (b : Bool). stored n g a p || b) (f a p o);
+      }
 
 -- ---- one edge
 module _ (n : ℕ) (E : Set) (e : Place) (g : List ℕ) where
@@ -104,7 +110,8 @@ module _ (n : ℕ) (E : Set) (e : Place) (g : List ℕ) where
       b : ℕ
       b = getD g i 0
 
-      high : (k : ℕ) → Dec (k ≡ i) → i < length g → toggle (e .axis) b ≡ b + weight (e .axis) → getD (set g i (toggle (e .axis) b)) k 0 / 8 ≡ getD g k 0 / 8
+      high : (k : ℕ) → Dec (k ≡ i) → i < length g → toggle (e .axis) b ≡ b + weight (e .axis) →
+          getD (set g i (toggle (e .axis) b)) k 0 / 8 ≡ getD g k 0 / 8
       high k (yes q) s new =
           rw q (ap (λ (x : ℕ). x / 8) (getD-set-same g i (toggle (e .axis) b) 0 s ∙ new) ∙ add-high b (e .axis) h)
       high k (no q) s new = ap (λ (x : ℕ). x / 8) (getD-set-other g i k (toggle (e .axis) b) 0 q)
@@ -128,10 +135,13 @@ corner-grid n c X h = (omega arith, omega arith)
 corner-grid n c Y h = (omega arith, omega arith)
 corner-grid n c Z h = (omega arith, omega arith)
 
-pub cell-edges : (n : ℕ) (E : Set) (c : Point) {g h : List ℕ} → Added n (added (added (atEdge (cornerEdge X c) E) (atEdge (cornerEdge Y c) E)) (atEdge (cornerEdge Z c) E)) g h → Added n (atCell c E) g h
+abbrev corners : Set → Point → Set
+corners E c = added (added (atEdge (cornerEdge X c) E) (atEdge (cornerEdge Y c) E)) (atEdge (cornerEdge Z c) E)
+
+pub cell-edges : (n : ℕ) (E : Set) (c : Point) {g h : List ℕ} → Added n (corners E c) g h → Added n (atCell c E) g h
 cell-edges n E c x = added-same n (λ a p o. go a p) x
   where
-    go : (a : Axis) (p : Point) → added (added (atEdge (cornerEdge X c) E) (atEdge (cornerEdge Y c) E)) (atEdge (cornerEdge Z c) E) a p ≡ atCell c E a p
+    go : (a : Axis) (p : Point) → corners E c a p ≡ atCell c E a p
     go X p = or-false (samePoint c p && E X p || false) ∙ or-false (samePoint c p && E X p)
     go Y p = or-false (samePoint c p && E Y p)
     go Z p = refl

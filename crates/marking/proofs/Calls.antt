@@ -44,7 +44,8 @@ module _ (l : Level) (g : List ℕ) (c : List ℤ) where
   unfolding takes markAt
   ends = go (ltb (length g) (pointsOf l)) refl (eqb (length c) 9) refl (allInRange l c) refl (isGrid (cellsOf l) g) refl
     where
-      go : (x : Bool) → ltb (length g) (pointsOf l) ≡ x → (y : Bool) → eqb (length c) 9 ≡ y → (z : Bool) → allInRange l c ≡ z → (w : Bool) → isGrid (cellsOf l) g ≡ w → Ends l g c
+      go : (x : Bool) → ltb (length g) (pointsOf l) ≡ x → (y : Bool) → eqb (length c) 9 ≡ y →
+          (z : Bool) → allInRange l c ≡ z → (w : Bool) → isGrid (cellsOf l) g ≡ w → Ends l g c
       go true a y b z d w e = refuses 1 (rw a) (rw a)
       go false a false b z d w e = refuses 2 (rw (a, b)) (rw (a, b))
       go false a true b false d w e = refuses 3 (rw (a, b, d)) (rw (a, b, d))
@@ -60,8 +61,11 @@ module _ (l : Level) (g : List ℕ) (c : List ℤ) where
       let z = allInRange l c in
       let w = isGrid (cellsOf l) g in
       let r = and-right (not x) (y && (z && w)) e in
-      let s = and-right y (z && w) r in
-      (ltb-false _ _ (not-true x (and-left (not x) (y && (z && w)) e)), and-right z w s, triangle-within l c (eqb-true _ _ (and-left y (z && w) r)) (and-left z w s))
+      let s = and-right y (z && w) r in (
+        ltb-false _ _ (not-true x (and-left (not x) (y && (z && w)) e)),
+        and-right z w s,
+        triangle-within l c (eqb-true _ _ (and-left y (z && w) r)) (and-left z w s),
+      )
 
   -- the grid afterwards
   grid-is : markAt l g c .grid ≡ cond (takes l g c) (marked l (triangleOf c) g) g
@@ -84,7 +88,8 @@ module _ (l : Level) (g : List ℕ) (c : List ℤ) where
   unfolding markAt
   number-is = go (ltb (length g) (pointsOf l)) (eqb (length c) 9) (allInRange l c) (isGrid (cellsOf l) g)
     where
-      go : (x y z w : Bool) → cond x (refused 2 g) (cond (not y) (refused 3 g) (cond (not z) (refused 4 g) (cond (not w) (refused 5 g) (done (marked l (triangleOf c) g))))) .number
+      go : (x y z w : Bool) → cond x (refused 2 g) (cond (not y) (refused 3 g)
+          (cond (not z) (refused 4 g) (cond (not w) (refused 5 g) (done (marked l (triangleOf c) g))))) .number
           ≡ cond x 2 (cond (not y) 3 (cond (not z) 4 (cond (not w) 5 0)))
       go true y z w = refl
       go false false z w = refl
@@ -118,7 +123,8 @@ module _ (l : Level) (g : List ℕ) (c d : List ℤ) where
   number-still = number-is l next d ∙ rw (grid-kept l g c .0, grid-kept l g c .1) (sym (number-is l g d))
 
   after-both : markAt l next d .grid ≡
-      cond (takes l g d) (marked l (triangleOf d) (cond (takes l g c) (marked l (triangleOf c) g) g)) (cond (takes l g c) (marked l (triangleOf c) g) g)
+      cond (takes l g d) (marked l (triangleOf d) (cond (takes l g c) (marked l (triangleOf c) g) g))
+      (cond (takes l g c) (marked l (triangleOf c) g) g)
   after-both =
       grid-is l next d ∙ ap (λ (b : Bool). cond b (marked l (triangleOf d) next) next) takes-still
       ∙ ap (λ (h : List ℕ). cond (takes l g d) (marked l (triangleOf d) h) h) (grid-is l g c)
@@ -142,7 +148,8 @@ module _ (l : Level) (g : List ℕ) (c : List ℤ) where
   twice-at = λ i. record { number = number-still l g c c i; grid = same i }
     where
       go : (x : Bool) → takes l g c ≡ x →
-          cond x (marked l (triangleOf c) (cond x (marked l (triangleOf c) g) g)) (cond x (marked l (triangleOf c) g) g) ≡ cond x (marked l (triangleOf c) g) g
+          cond x (marked l (triangleOf c) (cond x (marked l (triangleOf c) g) g)) (cond x (marked l (triangleOf c) g) g)
+          ≡ cond x (marked l (triangleOf c) g) g
       go true e = marked-twice l (triangleOf c) (taken l g c e .2) g
       go false e = refl
 
@@ -177,7 +184,8 @@ pub record Marks (k : ℕ) (g : List ℕ) (c : List ℤ) (h : List ℕ) : Type 0
   -- a grid
   pub grid : isGrid (cellsOf level) h ≡ true
   -- with an edge marked exactly when it was before or no axis separates it from the triangle
-  pub exactly : (a : Axis) (p : Point) → (marks (cellsOf level) h a p ≡ true) ↔ ((marks (cellsOf level) g a p ≡ true) ⊎ Unseparated level (triangleOf c) a p)
+  pub exactly : (a : Axis) (p : Point) →
+      (marks (cellsOf level) h a p ≡ true) ↔ ((marks (cellsOf level) g a p ≡ true) ⊎ Unseparated level (triangleOf c) a p)
 
 pub mark-done : (k : ℕ) (g : List ℕ) (c : List ℤ) → markCall k g c .number ≡ 0 → Marks k g c (markCall k g c .grid)
 unfolding markCall markFor
@@ -192,7 +200,8 @@ mark-done k g c = go (levelOf k) refl
         record { level = l; known = e; grid = rw f (grid-after l (triangleOf c) w g); exactly = rw f (marked-exactly l (triangleOf c) w g) }
 
 -- a grid stays a grid, and what is none stays none
-pub grid-stays : (k : ℕ) (l : Level) → levelOf k ≡ Known l → (g : List ℕ) (c : List ℤ) → isGrid (cellsOf l) (markCall k g c .grid) ≡ isGrid (cellsOf l) g
+pub grid-stays : (k : ℕ) (l : Level) → levelOf k ≡ Known l → (g : List ℕ) (c : List ℤ) →
+    isGrid (cellsOf l) (markCall k g c .grid) ≡ isGrid (cellsOf l) g
 unfolding markCall markFor
 grid-stays k l e g c = rw e (grid-kept l g c .1)
 

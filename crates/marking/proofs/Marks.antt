@@ -50,7 +50,8 @@ module _ (l : Level) (t : Triangle) (w : TriangleWithin l t) where
     grid-after = bytes-are-grid (cellsOf l) (added (marks (cellsOf l) g) (met l t)) marks-in (drop (pointsOf l) g)
 
     -- an edge is marked exactly when it was before or no axis separates it from the triangle
-    pub marked-exactly : (a : Axis) (p : Point) → (marks (cellsOf l) (marked l t g) a p ≡ true) ↔ ((marks (cellsOf l) g a p ≡ true) ⊎ Unseparated l t a p)
+    pub marked-exactly : (a : Axis) (p : Point) →
+        (marks (cellsOf l) (marked l t g) a p ≡ true) ↔ ((marks (cellsOf l) g a p ≡ true) ⊎ Unseparated l t a p)
     unfolding met
     marked-exactly a p = (there, back)
       where
@@ -75,7 +76,8 @@ module _ (l : Level) (t : Triangle) (w : TriangleWithin l t) where
             is ∙ rw (u .exists, m) (or-true (marks (cellsOf l) g a p))
 
     -- a second triangle's marks are added to those of the first
-    after : (u : Triangle) → marked l u (marked l t g) ≡ bytes (cellsOf l) (added (added (marks (cellsOf l) g) (met l t)) (met l u)) ++ drop (pointsOf l) g
+    after : (u : Triangle) → marked l u (marked l t g)
+        ≡ bytes (cellsOf l) (added (added (marks (cellsOf l) g) (met l t)) (met l u)) ++ drop (pointsOf l) g
     unfolding marked
     after u = rw (marks-after, written-rest (cellsOf l) (added (marks (cellsOf l) g) (met l t)) g)
 
@@ -90,10 +92,12 @@ module _ (l : Level) (t : Triangle) (w : TriangleWithin l t) where
       again x y = or-assoc x y y ∙ ap (λ (b : Bool). x || b) (or-self y)
 
 -- two triangles may change places
-pub marked-swapped : (l : Level) (t u : Triangle) → TriangleWithin l t → TriangleWithin l u → (g : List ℕ) → marked l u (marked l t g) ≡ marked l t (marked l u g)
+pub marked-swapped : (l : Level) (t u : Triangle) → TriangleWithin l t → TriangleWithin l u → (g : List ℕ) →
+    marked l u (marked l t g) ≡ marked l t (marked l u g)
 marked-swapped l t u v w g =
     after l t v g u
-    ∙ ap (λ (E : Set). bytes (cellsOf l) E ++ drop (pointsOf l) g) (fun-ext (λ a. fun-ext (λ p. swap (marks (cellsOf l) g a p) (met l t a p) (met l u a p))))
+    ∙ ap (λ (E : Set). bytes (cellsOf l) E ++ drop (pointsOf l) g)
+    (fun-ext (λ a. fun-ext (λ p. swap (marks (cellsOf l) g a p) (met l t a p) (met l u a p))))
     ∙ sym (after l u w g t)
   where
     swap : (x y z : Bool) → (x || y) || z ≡ (x || z) || y

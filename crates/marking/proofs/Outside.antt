@@ -147,7 +147,8 @@ module _ (l : Level) (t : Triangle) (a : Axis) (p : Point) where
       high b (no h) =
           let g : cellsOf l ≤ coord b p = omega arith in
           let k : 2 ^ 20 ≤ coord b p * sideOf l = subst (λ (m : ℕ). m ≤ coord b p * sideOf l) (side-whole l) (mul-le-mul-right (sideOf l) g) in
-          let o : spanOn b t .high <ℤ pos (2 ^ 20) = ≤ℤ-<ℤ-trans (span-within l t b w .1 .high) (pos-lt (less (sideOf l) (side-some l) (side-most l))) in
+          let o : spanOn b t .high <ℤ pos (2 ^ 20) =
+          ≤ℤ-<ℤ-trans (span-within l t b w .1 .high) (pos-lt (less (sideOf l) (side-some l) (side-most l))) in
           absurd (true≢false (sym (met-edge e) ∙ begins-after l t a b p (2 ^ 20) o k))
         where
           less : (s : ℕ) → 0 < s → s ≤ 2 ^ 20 → 2 ^ 20 - s < 2 ^ 20
@@ -156,7 +157,8 @@ module _ (l : Level) (t : Triangle) (a : Axis) (p : Point) where
       cross : (b : Axis) → coord b (up a p) ≡ coord b p → Bounds 1 (cellsOf l) (coord b p)
       cross b s = record { low = low b s (decLt 0 (coord b p)); high = high b (decLt (coord b p) (cellsOf l)) }
 
-      go : (d : Axis) → ((b : Axis) → coord b (up d p) ≡ coord b p → Bounds 1 (cellsOf l) (coord b p)) → OfGrid (cellsOf l) (up d p) → inner (cellsOf l) d p ≡ true
+      go : (d : Axis) → ((b : Axis) → coord b (up d p) ≡ coord b p → Bounds 1 (cellsOf l) (coord b p)) →
+          OfGrid (cellsOf l) (up d p) → inner (cellsOf l) d p ≡ true
       go X c g = inBox← (whole (cellsOf l)) false true true p (record { low = zero-le; high = g .i }, c Y refl, c Z refl)
       go Y c g = inBox← (whole (cellsOf l)) true false true p (c X refl, record { low = zero-le; high = g .j }, c Z refl)
       go Z c g = inBox← (whole (cellsOf l)) true true false p (c X refl, c Y refl, record { low = zero-le; high = g .k })

@@ -83,7 +83,8 @@ each-weaken {v = v} f h = record { on-x = f (v .x) (h .on-x); on-y = f (v .y) (h
 
 pub within-inside : (l : Level) (t : Triangle) → TriangleWithin l t → Inside t
 within-inside l t w =
-    record { a-in = each-weaken (within-up-to l) (w .a-in); b-in = each-weaken (within-up-to l) (w .b-in); c-in = each-weaken (within-up-to l) (w .c-in) }
+    let f = within-up-to l in
+    record { a-in = each-weaken f (w .a-in); b-in = each-weaken f (w .b-in); c-in = each-weaken f (w .c-in) }
 
 -- and so do the ends of an edge that exists
 up-to : {m : ℕ} → m ≤ 2 ^ 20 → UpTo latticeMost (pos m)
@@ -118,7 +119,8 @@ each-along Z h = h .on-z
 abbrev pub spanOn : Axis → Triangle → Span
 spanOn a t = triangleSpan (getD units (indexOf a) nought) t
 
-pub span-within : (l : Level) (t : Triangle) (a : Axis) → TriangleWithin l t → Within l (spanOn a t .low) × Within l (spanOn a t .high) × (spanOn a t .low ≤ℤ spanOn a t .high)
+pub span-within : (l : Level) (t : Triangle) (a : Axis) → TriangleWithin l t →
+    Within l (spanOn a t .low) × Within l (spanOn a t .high) × (spanOn a t .low ≤ℤ spanOn a t .high)
 span-within l t a w =
     let p = each-along a (w .a-in) in
     let q = each-along a (w .b-in) in

@@ -47,7 +47,8 @@ module _ (n : ℕ) (small : n ≤ 32) (b : Box) (c : Point) (s : Standing n b c)
   cases P x y z = go (ltb (c .i + 1) (b .hi .i)) refl (ltb (c .j + 1) (b .hi .j)) refl
     where
       go : (u : Bool) → ltb (c .i + 1) (b .hi .i) ≡ u → (v : Bool) → ltb (c .j + 1) (b .hi .j) ≡ v →
-          P (cond u (record { i = c .i + 1; j = c .j; k = c .k }) (cond v (record { i = b .lo .i; j = c .j + 1; k = c .k }) (record { i = b .lo .i; j = b .lo .j; k = c .k + 1 })))
+          P (cond u (record { i = c .i + 1; j = c .j; k = c .k })
+          (cond v (record { i = b .lo .i; j = c .j + 1; k = c .k }) (record { i = b .lo .i; j = b .lo .j; k = c .k + 1 })))
       go true e v f = x (ltb-true _ _ e)
       go false e true f = y (let q = ltb-false (c .i + 1) (b .hi .i) e in omega arith) (ltb-true _ _ f)
       go false e false f = z (let q = ltb-false (c .i + 1) (b .hi .i) e in omega arith) (let q = ltb-false (c .j + 1) (b .hi .j) f in omega arith)
@@ -56,7 +57,8 @@ module _ (n : ℕ) (small : n ≤ 32) (b : Box) (c : Point) (s : Standing n b c)
   next-standing = cases (Standing n b) (λ x. omega arith) (λ x y. omega arith) (λ x y. omega arith)
 
   pub next-later : (rank c < rank (nextCell b c)) × (rank (nextCell b c) ≤ 200000)
-  next-later = cases (λ d. (rank c < rank d) × (rank d ≤ 200000)) (λ x. (omega arith, omega arith)) (λ x y. (omega arith, omega arith)) (λ x y. (omega arith, omega arith))
+  next-later =
+      cases (λ d. (rank c < rank d) × (rank d ≤ 200000)) (λ x. (omega arith, omega arith)) (λ x y. (omega arith, omega arith)) (λ x y. (omega arith, omega arith))
 
   -- no cell of the box lies between the two
   next-none : (p : Point) → InBox b false false false p → rank p < rank (nextCell b c) → rank p ≤ rank c
@@ -71,7 +73,8 @@ module _ (n : ℕ) (small : n ≤ 32) (b : Box) (c : Point) (s : Standing n b c)
       λ t. record { i = x t; j = y t; k = z t }
 
   -- the cells passed at the next cell are those passed before and this one
-  passed-more : (p : Point) → inBox b false false false p && ltb (rank p) (rank c) || samePoint c p ≡ inBox b false false false p && ltb (rank p) (rank (nextCell b c))
+  passed-more : (p : Point) → inBox b false false false p && ltb (rank p) (rank c) || samePoint c p
+      ≡ inBox b false false false p && ltb (rank p) (rank (nextCell b c))
   passed-more p = same-test _ _ there back
     where
       in-box : Bool
@@ -97,16 +100,20 @@ module _ (n : ℕ) (small : n ≤ 32) (b : Box) (c : Point) (s : Standing n b c)
           let l = next-none p o (ltb-true _ _ (and-right in-box (ltb (rank p) (rank (nextCell b c))) e)) in
           go i o l (decLt (rank p) (rank c))
         where
-          go : in-box ≡ true → InBox b false false false p → rank p ≤ rank c → Dec (rank p < rank c) → in-box && ltb (rank p) (rank c) || samePoint c p ≡ true
+          go : in-box ≡ true → InBox b false false false p → rank p ≤ rank c → Dec (rank p < rank c) →
+              in-box && ltb (rank p) (rank c) || samePoint c p ≡ true
           go i o l (yes q) = ap (λ (u : Bool). u || samePoint c p) (both in-box (ltb (rank p) (rank c)) i (lt-ltb _ _ q))
           go i o l (no q) =
               let r = same-rank p o (omega arith) in
-              ap (λ (u : Bool). in-box && ltb (rank p) (rank c) || u) (sym (ap (samePoint c) r) ∙ same-point c) ∙ or-true (in-box && ltb (rank p) (rank c))
+              ap (λ (u : Bool). in-box && ltb (rank p) (rank c) || u) (sym (ap (samePoint c) r) ∙ same-point c)
+              ∙ or-true (in-box && ltb (rank p) (rank c))
 
   -- a turn of the scan: this cell's edges, then the next cell
   pub passed-next : (E : Set) {f g k : List ℕ} → Added n (passed b c E) f g → Added n (atCell c E) g k → Added n (passed b (nextCell b c) E) f k
   passed-next E x y =
-      added-same n (λ a p o. sym (and-or-distrib-right (inBox b false false false p && ltb (rank p) (rank c)) (samePoint c p) (E a p)) ∙ ap (λ (u : Bool). u && E a p) (passed-more p))
+      added-same n (λ a p o.
+      sym (and-or-distrib-right (inBox b false false false p && ltb (rank p) (rank c)) (samePoint c p) (E a p))
+      ∙ ap (λ (u : Bool). u && E a p) (passed-more p))
       (added-then n x y)
 
 module _ (n : ℕ) (b : Box) where
@@ -124,15 +131,20 @@ module _ (n : ℕ) (b : Box) where
           omega arith
 
   -- everything is passed behind its last layer
-  pub passed-all : n ≤ 32 → (c : Point) → Standing n b c → b .hi .k ≤ c .k → (E : Set) → ((a : Axis) (p : Point) → E a p ≡ true → inBox b false false false p ≡ true) →
+  pub passed-all : n ≤ 32 → (c : Point) → Standing n b c → b .hi .k ≤ c .k → (E : Set) →
+      ((a : Axis) (p : Point) → E a p ≡ true → inBox b false false false p ≡ true) →
       {g k : List ℕ} → Added n (passed b c E) g k → Added n E g k
-  passed-all small c s l E f = added-same n (λ a p o. same-test _ _ (λ e. and-right (inBox b false false false p && ltb (rank p) (rank c)) (E a p) e) (λ e. there a p e))
+  passed-all small c s l E f =
+      added-same n (λ a p o.
+      same-test _ _ (λ e. and-right (inBox b false false false p && ltb (rank p) (rank c)) (E a p) e) (λ e. there a p e))
     where
       there : (a : Axis) (p : Point) → E a p ≡ true → passed b c E a p ≡ true
       there a p e =
           let o = inBox→ b false false false p (f a p e) in
           let q : rank p < rank c = omega arith in
-          both (inBox b false false false p && ltb (rank p) (rank c)) (E a p) (both (inBox b false false false p) (ltb (rank p) (rank c)) (f a p e) (lt-ltb _ _ q)) e
+          let u = inBox b false false false p in
+          let v = ltb (rank p) (rank c) in
+          both (u && v) (E a p) (both u v (f a p e) (lt-ltb _ _ q)) e
 
 -- a scan of a box that covers what a triangle touches begins at a cell of the grid
 pub covers-standing : (l : Level) (t : Triangle) (b : Box) → Covers l t b → Standing (cellsOf l) b (b .lo)

@@ -35,7 +35,8 @@ around i h =
 unfoldable pub table : List Example
 table =
     record {
-      numbers = pos 393216 ∷ (pos 400000 ∷ (pos 400000 ∷ (pos 393216 ∷ (pos 700000 ∷ (pos 400000 ∷ (pos 393216 ∷ (pos 400000 ∷ (pos 700000 ∷ []))))))));
+      numbers =
+          pos 393216 ∷ (pos 400000 ∷ (pos 400000 ∷ (pos 393216 ∷ (pos 700000 ∷ (pos 400000 ∷ (pos 393216 ∷ (pos 400000 ∷ (pos 700000 ∷ []))))))));
       meets = edge X 1 2 2 ∷ [];
     }
     ∷ (record { numbers = replicate 9 (pos 524288); meets = around 2 1 }

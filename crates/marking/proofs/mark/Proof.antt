@@ -31,7 +31,8 @@ same-length c = search needs
 returns-2 : tie.Need-returns-2
 unfolding markCall markFor
 returns-2 c =
-    let h : levelOf (c .before .before .before .before .before .before .before .before .before .args .level) ≡ Known (c .before .before .before .before .before .l .given .0 .0) = sym (c .before .before .before .before .before .before .before .read .ensures) ∙ c .before .before .before .before .before .l .given .1 in
+    let s = c .before .before .before .before .before .before .before .before .before in
+    let h : levelOf (s .args .level) ≡ Known (c .before .before .before .before .before .l .given .0 .0) = sym (c .before .before .before .before .before .before .before .read .ensures) ∙ c .before .before .before .before .before .l .given .1 in
     rw h (c .before .before .mark-at .ensures)
 
 pub mark-spec : {M : Type 1} → statement M

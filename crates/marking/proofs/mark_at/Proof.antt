@@ -32,7 +32,8 @@ points-requires c κs = search needs
 returns : tie.Need-returns
 unfolding markAt
 returns c =
-    let k : length (c .before .before .before .args .grid .now) < pointsOf (c .before .before .before .args .l) = rw (c .before .points .ensures) at (c .if1 .taken) in
+    let s = c .before .before .before in
+    let k : length (s .args .grid .now) < pointsOf (s .args .l) = rw (c .before .points .ensures) at (c .if1 .taken) in
     simp (lt-ltb _ _ k)
 
 returns-2 : tie.Need-returns-2
@@ -44,7 +45,9 @@ all-in-range-requires c κs = search needs
 
 returns-3 : tie.Need-returns-3
 unfolding markAt
-returns-3 c = simp (le-ltb _ _ (long (c .before .before .before)), eq-eqb _ _ (c .before .before .if2 .left), fails (c .before .all-in-range .ensures) (c .if3 .taken))
+returns-3 c =
+    let out = fails (c .before .all-in-range .ensures) (c .if3 .taken) in
+    simp (le-ltb _ _ (long (c .before .before .before)), eq-eqb _ _ (c .before .before .if2 .left), out)
 
 cells-requires : tie.Need-cells-requires
 cells-requires c κs = search needs
@@ -59,17 +62,20 @@ returns-4 : tie.Need-returns-4
 unfolding markAt
 returns-4 c =
     let r = c .before .before .before .before in
-    simp (le-ltb _ _ (long (r .before .before .before)), eq-eqb _ _ (c .before .before .before .before .before .before .if2 .left), ranged r, fails (rw (c .before .before .before .cells .ensures) at (c .before .is-grid .ensures)) (c .if4 .taken))
+    let none = fails (rw (c .before .before .before .cells .ensures) at (c .before .is-grid .ensures)) (c .if4 .taken) in
+    simp (le-ltb _ _ (long (r .before .before .before)), eq-eqb _ _ (c .before .before .before .before .before .before .if2 .left), ranged r, none)
 
 triangle-of-requires : tie.Need-triangle-of-requires
 triangle-of-requires c κs = search needs
 
 mark-grid-requires : tie.Need-mark-grid-requires
 mark-grid-requires c κs =
+    let s = c .before .before .before .before .before .before .before .before .before .before .before .before in
     let g = c .before .before in
     let r = g .before .before .before .before in
     let e = r .before .before in
-    (rw (c .triangle-of .ensures) (triangle-within (c .before .before .before .before .before .before .before .before .before .before .before .before .args .l) (c .before .before .before .before .before .before .before .before .before .before .before .before .args .triangle .now) (e .if2 .left) (ranged r)), (long (e .before), a-grid g))
+    let w = triangle-within (s .args .l) (s .args .triangle .now) (e .if2 .left) (ranged r) in
+    (rw (c .triangle-of .ensures) w, (long (e .before), a-grid g))
 
 same-length-2 : tie.Need-same-length-2
 same-length-2 c = search needs
@@ -80,7 +86,8 @@ returns-5 c =
     let g = c .before .before .before .before .before in
     let r = g .before .before .before .before in
     let e = r .before .before in
-    simp (le-ltb _ _ (long (e .before)), eq-eqb _ _ (e .if2 .left), ranged r, a-grid g) (ap done (rw (c .before .before .before .triangle-of .ensures) at (c .before .before .mark-grid .ensures)))
+    let m = rw (c .before .before .before .triangle-of .ensures) at (c .before .before .mark-grid .ensures) in
+    simp (le-ltb _ _ (long (e .before)), eq-eqb _ _ (e .if2 .left), ranged r, a-grid g) (ap done m)
 
 pub mark-at-spec : {M : Type 1} → statement M
 mark-at-spec =

@@ -32,9 +32,10 @@ points-requires c κs = search needs
 returns-2 : tie.Need-returns-2
 unfolding openCall openFor openAt
 returns-2 c =
+    let s = c .before .before .before .before .before .before .before in
     let l = c .before .before .before .l .given .0 .0 in
-    let h : levelOf (c .before .before .before .before .before .before .before .args .level) ≡ Known l = sym (c .before .before .before .before .before .read .ensures) ∙ c .before .before .before .l .given .1 in
-    let k : length (c .before .before .before .before .before .before .before .args .grid .now) < pointsOf l = rw (c .before .points .ensures) at (c .if1 .taken) in
+    let h : levelOf (s .args .level) ≡ Known l = sym (c .before .before .before .before .before .read .ensures) ∙ c .before .before .before .l .given .1 in
+    let k : length (s .args .grid .now) < pointsOf l = rw (c .before .points .ensures) at (c .if1 .taken) in
     simp (h, lt-ltb _ _ k)
 
 clear-requires : tie.Need-clear-requires
@@ -46,9 +47,10 @@ same-length c = search needs
 returns-3 : tie.Need-returns-3
 unfolding openCall openFor openAt opened
 returns-3 c =
+    let s = c .before .before .before .before .before .before .before .before .before .before .before in
     let l = c .before .before .before .before .before .before .before .l .given .0 .0 in
-    let h : levelOf (c .before .before .before .before .before .before .before .before .before .before .before .args .level) ≡ Known l = sym (c .before .before .before .before .before .before .before .before .before .read .ensures) ∙ c .before .before .before .before .before .before .before .l .given .1 in
-    let k : pointsOf l ≤ length (c .before .before .before .before .before .before .before .before .before .before .before .args .grid .now) = rw (c .before .before .before .before .before .points .ensures) at (c .before .before .before .before .if1 .left) in
+    let h : levelOf (s .args .level) ≡ Known l = sym (c .before .before .before .before .before .before .before .before .before .read .ensures) ∙ c .before .before .before .before .before .before .before .l .given .1 in
+    let k : pointsOf l ≤ length (s .args .grid .now) = rw (c .before .before .before .before .before .points .ensures) at (c .before .before .before .before .if1 .left) in
     simp (h, le-ltb _ _ k) (ap done (rw (c .before .before .before .before .before .points .ensures) at (c .before .before .clear .ensures)))
 
 pub open-spec : {M : Type 1} → statement M

@@ -15,17 +15,24 @@ along-requires-2 : tie.Need-along-requires-2
 along-requires-2 c κs = search needs
 
 cells-along-requires-2 : tie.Need-cells-along-requires-2
-cells-along-requires-2 c κs = rw (c .along2 .ensures) (span-within (c .before .before .before .args .l) (c .before .before .before .args .t) Y (c .before .before .before .pre))
+cells-along-requires-2 c κs =
+    let s = c .before .before .before in
+    rw (c .along2 .ensures) (span-within (s .args .l) (s .args .t) Y (s .pre))
 
 along-requires-3 : tie.Need-along-requires-3
 along-requires-3 c κs = search needs
 
 cells-along-requires-3 : tie.Need-cells-along-requires-3
-cells-along-requires-3 c κs = rw (c .along3 .ensures) (span-within (c .before .before .before .before .before .args .l) (c .before .before .before .before .before .args .t) Z (c .before .before .before .before .before .pre))
+cells-along-requires-3 c κs =
+    let s = c .before .before .before .before .before in
+    rw (c .along3 .ensures) (span-within (s .args .l) (s .args .t) Z (s .pre))
 
 returns : tie.Need-returns
 returns c =
-    on-each _ (rw (c .before .before .before .before .before .along .ensures) at (c .before .before .before .before .cells-along .ensures)) (rw (c .before .before .before .along2 .ensures) at (c .before .before .cells-along2 .ensures)) (rw (c .before .along3 .ensures) at (c .cells-along3 .ensures))
+    let x = rw (c .before .before .before .before .before .along .ensures) at (c .before .before .before .before .cells-along .ensures) in
+    let y = rw (c .before .before .before .along2 .ensures) at (c .before .before .cells-along2 .ensures) in
+    let z = rw (c .before .along3 .ensures) at (c .cells-along3 .ensures) in
+    on-each _ x y z
 
 pub box-of-spec : {M : Type 1} → statement M
 box-of-spec =

@@ -27,8 +27,9 @@ plain-requires-2 c κs =
 
 sub-t6 : tie.Need-sub-t6
 sub-t6 c =
-    let e : Plain w64 (c .before .before .before .before .before .args .x .low) = search needs in
-    let h = plain-within (c .before .before .before .before .before .args .l) _ _ (sym e ∙ c .before .before .plain .ensures) (c .before .before .before .before .before .pre .0) .0 in
+    let s = c .before .before .before .before .before in
+    let e : Plain w64 (s .args .x .low) = search needs in
+    let h = plain-within (s .args .l) _ _ (sym e ∙ c .before .before .plain .ensures) (s .pre .0) .0 in
     omega arith
 
 div-t7 : tie.Need-div-t7
@@ -39,17 +40,19 @@ div-t8 c = rw (c .before .before .before .before .side .ensures) (side-some (c .
 
 add-t9 : tie.Need-add-t9
 add-t9 c =
-    let f : Plain w64 (c .before .before .before .before .before .args .x .high) = search needs in
-    let h = plain-within (c .before .before .before .before .before .args .l) _ _ (sym f ∙ c .plain2 .ensures) (c .before .before .before .before .before .pre .1) .2 in
+    let s = c .before .before .before .before .before in
+    let f : Plain w64 (s .args .x .high) = search needs in
+    let h = plain-within (s .args .l) _ _ (sym f ∙ c .plain2 .ensures) (s .pre .1) .2 in
     omega (arith, h, div-le-self (c .plain2 .result) (c .before .before .before .before .side .result))
 
 returns : tie.Need-returns
 returns c =
-    let x = c .before .before .before .before .before .args .x in
-    let e : Plain w64 (c .before .before .before .before .before .args .x .low) = search needs in
-    let f : Plain w64 (c .before .before .before .before .before .args .x .high) = search needs in
-    let p = c .before .before .before .before .before .pre in
-    rw (c .before .before .before .before .side .ensures) (touches (c .before .before .before .before .before .args .l) (c .before .before .before .before .before .args .x) _ _ (sym e ∙ c .before .before .plain .ensures) (sym f ∙ c .plain2 .ensures) (p .0) (p .1) (p .2))
+    let s = c .before .before .before .before .before in
+    let e : Plain w64 (s .args .x .low) = search needs in
+    let f : Plain w64 (s .args .x .high) = search needs in
+    let p = s .pre in
+    rw (c .before .before .before .before .side .ensures)
+    (touches (s .args .l) (s .args .x) _ _ (sym e ∙ c .before .before .plain .ensures) (sym f ∙ c .plain2 .ensures) (p .0) (p .1) (p .2))
 
 pub cells-along-spec : {M : Type 1} → statement M
 cells-along-spec =

@@ -25,18 +25,23 @@ loop-holds c =
 mark-cell-requires : tie.Need-mark-cell-requires Inv-loop μ-loop
 mark-cell-requires c κs =
     let s = c .before .before .before .before .before .before in
-    (s .pre .0 .0, (rw (c .before .before .before .loop .inv .1 .long) (s .pre .1), standing-cell (cellsOf (s .args .l)) (s .args .b) (c .before .before .before .loop .c) (c .before .before .before .loop .inv .0) (c .before .if1 .taken)))
+    let l = c .before .before .before .loop in
+    let h = standing-cell (cellsOf (s .args .l)) (s .args .b) (l .c) (l .inv .0) (c .before .if1 .taken) in
+    (s .pre .0 .0, (rw (l .inv .1 .long) (s .pre .1), h))
 
 next-cell-requires : tie.Need-next-cell-requires Inv-loop μ-loop
 next-cell-requires c κs =
-    let m = cells-most (c .before .before .before .before .before .before .before .before .before .args .l) in
-    let h = standing-cell (cellsOf (c .before .before .before .before .before .before .before .before .before .args .l)) (c .before .before .before .before .before .before .before .before .before .args .b) (c .before .before .before .before .before .before .loop .c) (c .before .before .before .before .before .before .loop .inv .0) (c .before .before .before .before .if1 .taken) in
+    let s = c .before .before .before .before .before .before .before .before .before in
+    let l = c .before .before .before .before .before .before .loop in
+    let m = cells-most (s .args .l) in
+    let h = standing-cell (cellsOf (s .args .l)) (s .args .b) (l .c) (l .inv .0) (c .before .before .before .before .if1 .taken) in
     omega arith
 
 loop-less : tie.Need-loop-less Inv-loop μ-loop
 loop-less c =
     let s = c .before .before .before .before .before .before .before .before .before .before in
-    let h = next-later (cellsOf (s .args .l)) (cells-most (s .args .l)) (s .args .b) (c .before .before .before .before .before .before .before .loop .c) (c .before .before .before .before .before .before .before .loop .inv .0) (c .before .before .before .before .before .if1 .taken) in
+    let l = c .before .before .before .before .before .before .before .loop in
+    let h = next-later (cellsOf (s .args .l)) (cells-most (s .args .l)) (s .args .b) (l .c) (l .inv .0) (c .before .before .before .before .before .if1 .taken) in
     rw (c .next-cell .ensures) (omega (arith, h .0, h .1))
 
 loop-again : tie.Need-loop-again Inv-loop μ-loop

@@ -12,22 +12,40 @@ cells-requires : tie.Need-cells-requires
 cells-requires c κs = search needs
 
 corner-edge-requires : tie.Need-corner-edge-requires
-corner-edge-requires c κs = rw (c .before .cells .ensures) (cells-most (c .before .before .before .args .l), corner-grid _ (c .before .before .before .args .c) X (c .before .before .before .pre .1 .1) .0)
+corner-edge-requires c κs =
+    let s = c .before .before .before in
+    rw (c .before .cells .ensures) (cells-most (s .args .l), corner-grid _ (s .args .c) X (s .pre .1 .1) .0)
 
 mark-edge-requires : tie.Need-mark-edge-requires
-mark-edge-requires c κs = rw (c .corner-edge .ensures) (c .before .before .before .before .pre .0, (c .before .before .before .before .pre .1 .0, corner-grid _ (c .before .before .before .before .args .c) X (c .before .before .before .before .pre .1 .1) .0, corner-grid _ (c .before .before .before .before .args .c) X (c .before .before .before .before .pre .1 .1) .1))
+mark-edge-requires c κs =
+    let s = c .before .before .before .before in
+    let o = corner-grid _ (s .args .c) X (s .pre .1 .1) in
+    rw (c .corner-edge .ensures) (s .pre .0, (s .pre .1 .0, o .0, o .1))
 
 corner-edge-requires-2 : tie.Need-corner-edge-requires-2
-corner-edge-requires-2 c κs = rw (c .before .before .before .before .before .before .cells .ensures) (cells-most (c .before .before .before .before .before .before .before .before .args .l), corner-grid _ (c .before .before .before .before .before .before .before .before .args .c) Y (c .before .before .before .before .before .before .before .before .pre .1 .1) .0)
+corner-edge-requires-2 c κs =
+    let s = c .before .before .before .before .before .before .before .before in
+    rw (c .before .before .before .before .before .before .cells .ensures) (cells-most (s .args .l), corner-grid _ (s .args .c) Y (s .pre .1 .1) .0)
 
 mark-edge-requires-2 : tie.Need-mark-edge-requires-2
-mark-edge-requires-2 c κs = rw (c .corner-edge2 .ensures) (c .before .before .before .before .before .before .before .before .before .pre .0, (rw (c .before .before .before .before .mark-edge .ensures .long) (c .before .before .before .before .before .before .before .before .before .pre .1 .0), corner-grid _ (c .before .before .before .before .before .before .before .before .before .args .c) Y (c .before .before .before .before .before .before .before .before .before .pre .1 .1) .0, corner-grid _ (c .before .before .before .before .before .before .before .before .before .args .c) Y (c .before .before .before .before .before .before .before .before .before .pre .1 .1) .1))
+mark-edge-requires-2 c κs =
+    let s = c .before .before .before .before .before .before .before .before .before in
+    let o = corner-grid _ (s .args .c) Y (s .pre .1 .1) in
+    let x = c .before .before .before .before .mark-edge .ensures .long in
+    rw (c .corner-edge2 .ensures) (s .pre .0, (rw x (s .pre .1 .0), o .0, o .1))
 
 corner-edge-requires-3 : tie.Need-corner-edge-requires-3
-corner-edge-requires-3 c κs = rw (c .before .before .before .before .before .before .before .before .before .before .before .cells .ensures) (cells-most (c .before .before .before .before .before .before .before .before .before .before .before .before .before .args .l), corner-grid _ (c .before .before .before .before .before .before .before .before .before .before .before .before .before .args .c) Z (c .before .before .before .before .before .before .before .before .before .before .before .before .before .pre .1 .1) .0)
+corner-edge-requires-3 c κs =
+    let s = c .before .before .before .before .before .before .before .before .before .before .before .before .before in
+    rw (c .before .before .before .before .before .before .before .before .before .before .before .cells .ensures) (cells-most (s .args .l), corner-grid _ (s .args .c) Z (s .pre .1 .1) .0)
 
 mark-edge-requires-3 : tie.Need-mark-edge-requires-3
-mark-edge-requires-3 c κs = rw (c .corner-edge3 .ensures) (c .before .before .before .before .before .before .before .before .before .before .before .before .before .before .pre .0, (rw (c .before .before .before .before .mark-edge2 .ensures .long, c .before .before .before .before .before .before .before .before .before .mark-edge .ensures .long) (c .before .before .before .before .before .before .before .before .before .before .before .before .before .before .pre .1 .0), corner-grid _ (c .before .before .before .before .before .before .before .before .before .before .before .before .before .before .args .c) Z (c .before .before .before .before .before .before .before .before .before .before .before .before .before .before .pre .1 .1) .0, corner-grid _ (c .before .before .before .before .before .before .before .before .before .before .before .before .before .before .args .c) Z (c .before .before .before .before .before .before .before .before .before .before .before .before .before .before .pre .1 .1) .1))
+mark-edge-requires-3 c κs =
+    let s = c .before .before .before .before .before .before .before .before .before .before .before .before .before .before in
+    let o = corner-grid _ (s .args .c) Z (s .pre .1 .1) in
+    let x = c .before .before .before .before .before .before .before .before .before .mark-edge .ensures .long in
+    let y = c .before .before .before .before .mark-edge2 .ensures .long in
+    rw (c .corner-edge3 .ensures) (s .pre .0, (rw (y, x) (s .pre .1 .0), o .0, o .1))
 
 same-length : tie.Need-same-length
 same-length c = search needs
@@ -35,8 +53,10 @@ same-length c = search needs
 returns : tie.Need-returns
 returns c =
     let s = c .before .before .before .before .before .before .before .before .before .before .before .before .before .before .before .before .before in
-    cell-edges (cellsOf (s .args .l)) (met (s .args .l) (s .args .t)) (s .args .c)
-    (added-then _ (added-then _ (rw (c .before .before .before .before .before .before .before .before .before .before .before .before .before .corner-edge .ensures) at (c .before .before .before .before .before .before .before .before .before .before .before .before .mark-edge .ensures)) (rw (c .before .before .before .before .before .before .before .before .corner-edge2 .ensures) at (c .before .before .before .before .before .before .before .mark-edge2 .ensures))) (rw (c .before .before .before .corner-edge3 .ensures) at (c .before .before .mark-edge3 .ensures)))
+    let x = rw (c .before .before .before .before .before .before .before .before .before .before .before .before .before .corner-edge .ensures) at (c .before .before .before .before .before .before .before .before .before .before .before .before .mark-edge .ensures) in
+    let y = rw (c .before .before .before .before .before .before .before .before .corner-edge2 .ensures) at (c .before .before .before .before .before .before .before .mark-edge2 .ensures) in
+    let z = rw (c .before .before .before .corner-edge3 .ensures) at (c .before .before .mark-edge3 .ensures) in
+    cell-edges (cellsOf (s .args .l)) (met (s .args .l) (s .args .t)) (s .args .c) (added-then _ (added-then _ x y) z)
 
 pub mark-cell-spec : {M : Type 1} → statement M
 mark-cell-spec =

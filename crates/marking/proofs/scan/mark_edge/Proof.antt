@@ -1,8 +1,6 @@
 -- `mark_edge` meets its contract. Assumes nothing.
-use mathlib.Core.Path.{_≡_, sym, _∙_}
-use mathlib.Core.Bool.{true, false}
+use mathlib.Core.Path.{sym, _∙_}
 use borrow.Author.Needs.{needs}
-use Rattle.rules.proofs.Store.{stored}
 use Rattle.lattice.specs.Levels.{cellsOf}
 use Rattle.lattice.proofs.LevelFacts.{cells-most}
 use Rattle.lattice.proofs.Tests.{fails, holds}
@@ -17,7 +15,9 @@ cells-requires : tie.Need-cells-requires
 cells-requires c κs = search needs
 
 member-requires : tie.Need-member-requires
-member-requires c κs = rw (c .before .cells .ensures) (cells-most (c .before .before .before .args .l), c .before .before .before .pre .1 .0, c .before .before .before .pre .1 .1)
+member-requires c κs =
+    let s = c .before .before .before in
+    rw (c .before .cells .ensures) (cells-most (s .args .l), s .pre .1 .0, s .pre .1 .1)
 
 same-length : tie.Need-same-length
 same-length c = search needs
@@ -25,14 +25,16 @@ same-length c = search needs
 returns : tie.Need-returns
 returns c =
     let s = c .before .before .before .before .before in
-    let h : stored (cellsOf (s .args .l)) (s .args .grid .now) (s .args .e .axis) (s .args .e .at) ≡ true = sym (rw (c .before .before .before .cells .ensures) at (c .before .member .ensures)) ∙ c .if1 .taken in
-    edge-marked (cellsOf (s .args .l)) (met (s .args .l) (s .args .t)) (s .args .e) (s .args .grid .now) h
+    let m = rw (c .before .before .before .cells .ensures) at (c .before .member .ensures) in
+    edge-marked (cellsOf (s .args .l)) (met (s .args .l) (s .args .t)) (s .args .e) (s .args .grid .now) (sym m ∙ c .if1 .taken)
 
 ends-of-requires : tie.Need-ends-of-requires
 ends-of-requires c κs = search needs
 
 meets-requires : tie.Need-meets-requires
-meets-requires c κs = (c .before .before .before .before .before .before .pre .0, rw (c .ends-of .ensures) (ends-inside (c .before .before .before .before .before .before .args .l) (c .before .before .before .before .before .before .args .e .axis) (c .before .before .before .before .before .before .args .e .at) (c .before .before .before .before .before .before .pre .1 .1) (c .before .before .before .before .before .before .pre .1 .2)))
+meets-requires c κs =
+    let s = c .before .before .before .before .before .before in
+    (s .pre .0, rw (c .ends-of .ensures) (ends-inside (s .args .l) (s .args .e .axis) (s .args .e .at) (s .pre .1 .1) (s .pre .1 .2)))
 
 same-length-2 : tie.Need-same-length-2
 same-length-2 c = search needs
@@ -40,11 +42,14 @@ same-length-2 c = search needs
 returns-2 : tie.Need-returns-2
 returns-2 c =
     let s = c .before .before .before .before .before .before .before .before in
-    let h : met (s .args .l) (s .args .t) (s .args .e .axis) (s .args .e .at) ≡ false = met-is (s .args .l) (s .args .t) (s .args .e .axis) (s .args .e .at) (s .pre .1 .2) ∙ fails (rw (c .before .before .ends-of .ensures) at (c .before .meets .ensures)) (c .if2 .taken) in
-    edge-not-in (cellsOf (s .args .l)) (met (s .args .l) (s .args .t)) (s .args .e) (s .args .grid .now) h
+    let is = met-is (s .args .l) (s .args .t) (s .args .e .axis) (s .args .e .at) (s .pre .1 .2) in
+    let f = rw (c .before .before .ends-of .ensures) at (c .before .meets .ensures) in
+    edge-not-in (cellsOf (s .args .l)) (met (s .args .l) (s .args .t)) (s .args .e) (s .args .grid .now) (is ∙ fails f (c .if2 .taken))
 
 turn-requires : tie.Need-turn-requires
-turn-requires c κs = rw (c .before .before .before .before .before .before .before .cells .ensures) (cells-most (c .before .before .before .before .before .before .before .before .before .args .l), c .before .before .before .before .before .before .before .before .before .pre .1 .0, c .before .before .before .before .before .before .before .before .before .pre .1 .1)
+turn-requires c κs =
+    let s = c .before .before .before .before .before .before .before .before .before in
+    rw (c .before .before .before .before .before .before .before .cells .ensures) (cells-most (s .args .l), s .pre .1 .0, s .pre .1 .1)
 
 same-length-3 : tie.Need-same-length-3
 same-length-3 c = search needs
@@ -52,9 +57,12 @@ same-length-3 c = search needs
 returns-3 : tie.Need-returns-3
 returns-3 c =
     let s = c .before .before .before .before .before .before .before .before .before .before .before .before in
-    let h : met (s .args .l) (s .args .t) (s .args .e .axis) (s .args .e .at) ≡ true = met-is (s .args .l) (s .args .t) (s .args .e .axis) (s .args .e .at) (s .pre .1 .2) ∙ holds (rw (c .before .before .before .before .before .before .ends-of .ensures) at (c .before .before .before .before .before .meets .ensures)) (c .before .before .before .before .if2 .left) in
-    let k : stored (cellsOf (s .args .l)) (s .args .grid .now) (s .args .e .axis) (s .args .e .at) ≡ false = sym (rw (c .before .before .before .before .before .before .before .before .before .before .cells .ensures) at (c .before .before .before .before .before .before .before .before .member .ensures)) ∙ c .before .before .before .before .before .before .before .if1 .left in
-    rw (c .before .before .turn .ensures, c .before .before .before .before .before .before .before .before .before .before .cells .ensures) (edge-turned (cellsOf (s .args .l)) (met (s .args .l) (s .args .t)) (s .args .e) (s .args .grid .now) (s .pre .1 .0) (s .pre .1 .1) k h)
+    let is = met-is (s .args .l) (s .args .t) (s .args .e .axis) (s .args .e .at) (s .pre .1 .2) in
+    let f = rw (c .before .before .before .before .before .before .ends-of .ensures) at (c .before .before .before .before .before .meets .ensures) in
+    let m = rw (c .before .before .before .before .before .before .before .before .before .before .cells .ensures) at (c .before .before .before .before .before .before .before .before .member .ensures) in
+    rw (c .before .before .turn .ensures, c .before .before .before .before .before .before .before .before .before .before .cells .ensures)
+    (edge-turned (cellsOf (s .args .l)) (met (s .args .l) (s .args .t)) (s .args .e) (s .args .grid .now) (s .pre .1 .0) (s .pre .1 .1)
+    (sym m ∙ c .before .before .before .before .before .before .before .if1 .left) (is ∙ holds f (c .before .before .before .before .if2 .left)))
 
 pub mark-edge-spec : {M : Type 1} → statement M
 mark-edge-spec =

@@ -10,7 +10,9 @@ box-of-requires : tie.Need-box-of-requires
 box-of-requires c κs = c .before .pre .0
 
 mark-box-requires : tie.Need-mark-box-requires
-mark-box-requires c κs = ((within-inside (c .before .before .before .args .l) (c .before .before .before .args .t) (c .before .before .before .pre .0), c .before .box-of .ensures), c .before .before .before .pre .1 .0)
+mark-box-requires c κs =
+    let s = c .before .before .before in
+    ((within-inside (s .args .l) (s .args .t) (s .pre .0), c .before .box-of .ensures), s .pre .1 .0)
 
 same-length : tie.Need-same-length
 same-length c = c .before .before .mark-box .ensures .long
