@@ -1,0 +1,4 @@
+// An empty input: the level byte is missing.
+fn main() {
+    streaming::run(streaming::Wanted::Listing);
+}

@@ -1,0 +1,4 @@
+// The lampshade that lacks a triangle.
+fn main() {
+    streaming::run(streaming::Wanted::Listing);
+}
