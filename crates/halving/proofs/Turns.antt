@@ -15,24 +15,22 @@ use Rattle.rules.specs.declared.Axis.{Axis}
 use Rattle.rules.specs.declared.Axis.the-variants.{X, Y, Z}
 use Rattle.rules.specs.declared.Point.{Point}
 use Rattle.rules.specs.declared.Place.{Place}
-use Rattle.rules.specs.Lattice.{earlier, later, coord, up, down, sameAxis, samePoint, samePlace, pointNumber, setOf, pointCount}
+use Rattle.rules.specs.Lattice.{earlier, later, coord, up, down, sameAxis, samePoint, samePlace, pointNumber, pointOf, setOf, pointCount}
 use Rattle.rules.specs.Grid.{has, weight}
 use Rattle.rules.specs.Cell.{oddFace}
 use Rattle.rules.proofs.Oddness.{setOf-append, oddFace-append}
 use Rattle.rules.proofs.Cuts.{samePoint→}
-use Rattle.rules.proofs.Numbers.{number-below}
+use Rattle.rules.proofs.PointOf.{number-pointOf, pointOf-number}
 use Rattle.rules.proofs.Store.{stored, stored-set, toggle, toggle-has}
 use Rattle.rules.specs.Lattice.{OfGrid}
-use Rattle.lattice.specs.Cells.{turnOne, turns, facesOf, works, faceOf, indexOf}
-use Rattle.walking.proofs.Laws.{has-high, face-0, face-1, face-2, face-3, face-4, face-5}
+use Rattle.lattice.specs.Cells.{turnAt, turnOne, turns, facesOf, works, pointStep}
+use Rattle.lattice.proofs.Laws.{has-weight, num-below}
+use Rattle.lattice.proofs.PointSteps.{number-down}
+use Rattle.walking.proofs.Faces.{down-grid}
+use Rattle.walking.proofs.Bytes.{has-high}
 use Rattle.halving.specs.Halving.{Edged}
 
 -- ---- one bit turned, in any number
-has-weight : (a : Axis) (r : ℕ) → has a r ≡ true → weight a ≤ r
-has-weight X r h = let e = eqb→ (r % 2) 1 h in omega arith
-has-weight Y r h = let e = eqb→ (r / 2 % 2) 1 h in omega arith
-has-weight Z r h = let e = eqb→ (r / 4 % 2) 1 h in omega arith
-
 toggle-shift : (a : Axis) (r m : ℕ) → toggle a (r + 8 * m) ≡ toggle a r + 8 * m
 toggle-shift a r m = ap (λ (x : Bool). cond x (r + 8 * m - weight a) (r + 8 * m + weight a)) (has-high a r m) ∙ go (has a r) refl
   where
@@ -89,7 +87,7 @@ pub works-append : (n : ℕ) (l m : List Place) (s : List ℕ) → works n (l ++
 works-append n l m s = ap (λ (k : List Place). turns n k s) (each-append l m) ∙ turns-append n (each facesOf l) (each facesOf m) s
 
 turn-length : (n : ℕ) (f : Place) (s : List ℕ) → length (turnOne n f s) ≡ length s
-unfolding turnOne
+unfolding turnAt
 turn-length n f s = length-set s (pointNumber n (f .at)) (toggle (f .axis) (getD s (pointNumber n (f .at)) 0))
 
 pub turns-length : (n : ℕ) (l : List Place) (s : List ℕ) → length (turns n l s) ≡ length s
@@ -98,7 +96,7 @@ turns-length n (f ∷ l) s = turns-length n l (turnOne n f s) ∙ turn-length n 
 
 -- the bits above the three are as they were
 turn-high : (n : ℕ) (f : Place) (s : List ℕ) (i : ℕ) → pointNumber n (f .at) < length s → getD (turnOne n f s) i 0 / 8 ≡ getD s i 0 / 8
-unfolding turnOne
+unfolding turnAt
 turn-high n f s i h = go (ℕ-discrete i (pointNumber n (f .at)))
   where
     go : Dec (i ≡ pointNumber n (f .at)) → getD (set s (pointNumber n (f .at)) (toggle (f .axis) (getD s (pointNumber n (f .at)) 0))) i 0 / 8 ≡ getD s i 0 / 8
@@ -107,31 +105,28 @@ turn-high n f s i h = go (ℕ-discrete i (pointNumber n (f .at)))
     go (no e) = ap (λ (k : ℕ). k / 8) (getD-set-other s (pointNumber n (f .at)) i (toggle (f .axis) (getD s (pointNumber n (f .at)) 0)) 0 e)
 
 turn-past : (n : ℕ) (f : Place) (s : List ℕ) (i : ℕ) → pointNumber n (f .at) < i → getD (turnOne n f s) i 0 ≡ getD s i 0
-unfolding turnOne
+unfolding turnAt
 turn-past n f s i h = getD-set-other s (pointNumber n (f .at)) i (toggle (f .axis) (getD s (pointNumber n (f .at)) 0)) 0 (λ e. let z : ⊥ = omega arith in z)
 
 abbrev pub Low : ℕ → Place → Type 0
 Low n f = OfGrid n (f .at)
 
-num-small : (n : ℕ) (c : Point) → OfGrid n c → pointNumber n c < pointCount n
-num-small n c h = number-below (suc n) (c .i) (c .j) (c .k) (omega arith) (omega arith) (omega arith)
-
 module _ (n : ℕ) where
   pub turns-high : (l : List Place) (s : List ℕ) (i : ℕ) → All (Low n) l → pointCount n ≤ length s → getD (turns n l s) i 0 / 8 ≡ getD s i 0 / 8
   turns-high [] s i h k = refl
   turns-high (f ∷ l) s i h k =
-      let b = num-small n (f .at) (h .0) in
+      let b = num-below n (f .at) (h .0) in
       let e = turn-length n f s in
       turns-high l (turnOne n f s) i (h .1) (omega arith) ∙ turn-high n f s i (omega arith)
 
   pub turns-past : (l : List Place) (s : List ℕ) (i : ℕ) → All (Low n) l → pointCount n ≤ i → getD (turns n l s) i 0 ≡ getD s i 0
   turns-past [] s i h k = refl
   turns-past (f ∷ l) s i h k =
-      let b = num-small n (f .at) (h .0) in
+      let b = num-below n (f .at) (h .0) in
       turns-past l (turnOne n f s) i (h .1) k ∙ turn-past n f s i (omega arith)
 
   stored-turn : (f : Place) (s : List ℕ) → OfGrid n (f .at) → pointCount n ≤ length s → (a : Axis) (p : Point) → OfGrid n p → stored n (turnOne n f s) a p ≡ stored n s a p ⊕ samePlace f (record { axis = a; at = p })
-  unfolding turnOne
+  unfolding turnAt
   stored-turn f s b k a p h = stored-set n s (f .at) (toggle (f .axis) (getD s (pointNumber n (f .at)) 0)) (omega arith) k a p (omega arith) ∙ go (samePoint (f .at) p) refl
     where
       go : (c : Bool) → samePoint (f .at) p ≡ c → cond c (has a (toggle (f .axis) (getD s (pointNumber n (f .at)) 0))) (stored n s a p) ≡ stored n s a p ⊕ (sameAxis (f .axis) a && c)
@@ -186,23 +181,6 @@ each-faces n (e ∷ l) h d q =
     ∙ ap₂ _⊕_ (four-faces (e .axis) (e .at) (h .0 .one) (h .0 .two) d q) (each-faces n l (h .1) d q)
     ∙ sym (oddFace-append (e ∷ []) l d q)
 
-down-low : (n : ℕ) (a : Axis) (p : Point) → OfGrid n p → OfGrid n (down a p)
-down-low n X p h = record { i = go (p .i) (h .i); j = h .j; k = h .k }
-  where
-    go : (k : ℕ) → k ≤ n → pred k ≤ n
-    go zero l = l
-    go (suc k) l = let e : pred (suc k) ≡ k = omega arith in omega arith
-down-low n Y p h = record { i = h .i; j = go (p .j) (h .j); k = h .k }
-  where
-    go : (k : ℕ) → k ≤ n → pred k ≤ n
-    go zero l = l
-    go (suc k) l = let e : pred (suc k) ≡ k = omega arith in omega arith
-down-low n Z p h = record { i = h .i; j = h .j; k = go (p .k) (h .k) }
-  where
-    go : (k : ℕ) → k ≤ n → pred k ≤ n
-    go zero l = l
-    go (suc k) l = let e : pred (suc k) ≡ k = omega arith in omega arith
-
 pub low-edges : (n : ℕ) (l : List Place) → All (Edged n) l → All (Low n) l
 low-edges n l h = all-weaken _ _ (λ e k. k .in-grid) l h
 
@@ -210,78 +188,58 @@ pub low-faces : (n : ℕ) (l : List Place) → All (Edged n) l → All (Low n) (
 low-faces n [] h = tt
 low-faces n (e ∷ l) h =
     let b = h .0 .in-grid in
-    (b, (b, (down-low n (later (e .axis)) (e .at) b, (down-low n (earlier (e .axis)) (e .at) b, low-faces n l (h .1)))))
+    (b, (b, (down-grid n (later (e .axis)) (e .at) b, (down-grid n (earlier (e .axis)) (e .at) b, low-faces n l (h .1)))))
 
 pub stored-works : (n : ℕ) (l : List Place) (s : List ℕ) → All (Edged n) l → pointCount n ≤ length s → (a : Axis) (p : Point) → OfGrid n p → stored n (works n l s) a p ≡ stored n s a p ⊕ oddFace (setOf l) a p
 stored-works n l s h k a p b = stored-turns n (each facesOf l) s (low-faces n l h) k a p b ∙ ap (λ (x : Bool). stored n s a p ⊕ x) (each-faces n l h a p)
 
--- ---- a flip by the table
-pub face-low : (a : Axis) (c : Point) → faceOf (indexOf a) c ≡ record { axis = a; at = c }
-face-low X c = face-0 c
-face-low Y c = face-1 c
-face-low Z c = face-2 c
+-- an inner edge needs a cell
+pub some-cells : (n : ℕ) (e : Place) → Edged n e → 1 ≤ n
+some-cells n e h = go (e .axis) (e .at) (h .in-grid) (h .one)
+  where
+    go : (a : Axis) (p : Point) → OfGrid n p → 1 ≤ coord (earlier a) p → 1 ≤ n
+    go X p g k = omega arith
+    go Y p g k = omega arith
+    go Z p g k = omega arith
 
-pub face-high : (a : Axis) (c : Point) → faceOf (indexOf a + 3) c ≡ record { axis = a; at = up a c }
-face-high X c = face-3 c
-face-high Y c = face-4 c
-face-high Z c = face-5 c
+-- ---- the four faces of an edge, by their points' numbers
+module _ (n : ℕ) (a : Axis) (at : ℕ) (h : Edged n (record { axis = a; at = pointOf n at })) (b c : Axis) (eb : b ≡ earlier a) (ec : c ≡ later a) where
+  abbrev p : Point
+  p = pointOf n at
 
-pub pred-suc : (k : ℕ) → 1 ≤ k → suc (pred k) ≡ k
-pred-suc zero h = absurd (omega arith)
-pred-suc (suc k) h = let e : pred (suc k) ≡ k = omega arith in ap suc e
+  -- the point one step down
+  down-number : (x y : Axis) → x ≡ y → 1 ≤ coord y (pointOf n at) → (k : ℕ) → k ≡ pointStep n x → (k ≤ at) × (at - k ≡ pointNumber n (down y (pointOf n at)))
+  down-number x y e l k ek =
+      let d = number-down n y p l in
+      let q = number-pointOf n at in
+      let z : k ≡ pointStep n y = ek ∙ ap (pointStep n) e in
+      (omega arith, omega arith)
 
-low-cell : (a : Axis) (p : Point) → 1 ≤ coord (earlier a) p → up (earlier a) (down (earlier a) (down (later a) p)) ≡ down (later a) p
-low-cell X p h = ap (λ (k : ℕ). record { i = p .i; j = k; k = pred (p .k) }) (pred-suc (p .j) h)
-low-cell Y p h = ap (λ (k : ℕ). record { i = k; j = p .j; k = pred (p .k) }) (pred-suc (p .i) h)
-low-cell Z p h = ap (λ (k : ℕ). record { i = k; j = pred (p .j); k = p .k }) (pred-suc (p .i) h)
+  pub earlier-down : (k : ℕ) → k ≡ pointStep n b → (k ≤ at) × (at - k ≡ pointNumber n (down (earlier a) (pointOf n at)))
+  earlier-down = down-number b (earlier a) eb (h .one)
 
-low-cell₂ : (a : Axis) (p : Point) → 1 ≤ coord (later a) p → up (later a) (down (earlier a) (down (later a) p)) ≡ down (earlier a) p
-low-cell₂ X p h = ap (λ (k : ℕ). record { i = p .i; j = pred (p .j); k = k }) (pred-suc (p .k) h)
-low-cell₂ Y p h = ap (λ (k : ℕ). record { i = pred (p .i); j = p .j; k = k }) (pred-suc (p .k) h)
-low-cell₂ Z p h = ap (λ (k : ℕ). record { i = pred (p .i); j = k; k = p .k }) (pred-suc (p .j) h)
+  pub later-down : (k : ℕ) → k ≡ pointStep n c → (k ≤ at) × (at - k ≡ pointNumber n (down (later a) (pointOf n at)))
+  later-down = down-number c (later a) ec (h .two)
 
--- what the code has at hand in `flip`
-pub record Sides (n : ℕ) (e : Place) (b c : Axis) (i j : ℕ) (q₁ q : Point) (f₁ f₂ f₃ f₄ : Place) : Type 0 where
-  pub b-is : b ≡ earlier (e .axis)
-  pub c-is : c ≡ later (e .axis)
-  pub i-is : i ≡ indexOf b
-  pub j-is : j ≡ indexOf c
-  pub q₁-is : q₁ ≡ down c (e .at)
-  pub q-is : q ≡ down b q₁
+  pub faces-turn : (j k : ℕ) → j ≡ pointStep n b → k ≡ pointStep n c → (s s₁ s₂ s₃ s₄ : List ℕ) →
+      s₁ ≡ turnAt at b s → s₂ ≡ turnAt at c s₁ → s₃ ≡ turnAt (at - k) b s₂ → s₄ ≡ turnAt (at - j) c s₃ → s₄ ≡ works n (record { axis = a; at = pointOf n at } ∷ []) s
+  faces-turn j k ej ek s s₁ s₂ s₃ s₄ t₁ t₂ t₃ t₄ =
+      let q = sym (number-pointOf n at) in
+      t₄ ∙ ap₂ (λ (i : ℕ) (x : Axis). turnAt i x s₃) (earlier-down j ej .1) ec
+      ∙ ap (turnAt (pointNumber n (down (earlier a) p)) (later a)) (t₃ ∙ ap₂ (λ (i : ℕ) (x : Axis). turnAt i x s₂) (later-down k ek .1) eb
+      ∙ ap (turnAt (pointNumber n (down (later a) p)) (earlier a)) (t₂ ∙ ap₂ (λ (i : ℕ) (x : Axis). turnAt i x s₁) q ec
+      ∙ ap (turnAt (pointNumber n p) (later a)) (t₁ ∙ ap₂ (λ (i : ℕ) (x : Axis). turnAt i x s) q eb)))
 
-module _ (n : ℕ) (e : Place) (b c : Axis) (i j : ℕ) (q₁ q : Point) (h : Edged n e)
-    (eb : b ≡ earlier (e .axis)) (ec : c ≡ later (e .axis)) (ei : i ≡ indexOf b) (ej : j ≡ indexOf c) (e₁ : q₁ ≡ down c (e .at)) (eq : q ≡ down b q₁) where
-  q-at : q ≡ down (earlier (e .axis)) (down (later (e .axis)) (e .at))
-  q-at = eq ∙ ap₂ (λ (x : Axis) (y : Point). down x y) eb (e₁ ∙ ap (λ (x : Axis). down x (e .at)) ec)
+-- a flip: the edge's mark, then its faces
+module _ (n : ℕ) (e : Place) (h : Edged n e) (i : ℕ) (ei : i ≡ pointNumber n (e .at)) where
+  point-is : pointOf n i ≡ e .at
+  point-is = ap (pointOf n) ei ∙ pointOf-number n (e .at) (h .in-grid)
 
-  pub side-1 : faceOf i (e .at) ≡ record { axis = earlier (e .axis); at = e .at }
-  side-1 = ap (λ (k : ℕ). faceOf k (e .at)) (ei ∙ ap indexOf eb) ∙ face-low (earlier (e .axis)) (e .at)
+  pub flip-edged : Edged n (record { axis = e .axis; at = pointOf n i })
+  flip-edged = subst (λ (q : Point). Edged n (record { axis = e .axis; at = q })) (sym point-is) h
 
-  pub side-2 : faceOf j (e .at) ≡ record { axis = later (e .axis); at = e .at }
-  side-2 = ap (λ (k : ℕ). faceOf k (e .at)) (ej ∙ ap indexOf ec) ∙ face-low (later (e .axis)) (e .at)
+  pub flip-turn : (g g′ : List ℕ) → g′ ≡ turnAt i (e .axis) g → g′ ≡ turns n (e ∷ []) g
+  flip-turn g g′ t = t ∙ ap (λ (j : ℕ). turnAt j (e .axis) g) ei
 
-  pub side-3 : faceOf (i + 3) q ≡ record { axis = earlier (e .axis); at = down (later (e .axis)) (e .at) }
-  side-3 = ap₂ (λ (k : ℕ) (p : Point). faceOf (k + 3) p) (ei ∙ ap indexOf eb) q-at ∙ face-high (earlier (e .axis)) _ ∙ ap (λ (p : Point). record { axis = earlier (e .axis); at = p }) (low-cell (e .axis) (e .at) (h .one))
-
-  pub side-4 : faceOf (j + 3) q ≡ record { axis = later (e .axis); at = down (earlier (e .axis)) (e .at) }
-  side-4 = ap₂ (λ (k : ℕ) (p : Point). faceOf (k + 3) p) (ej ∙ ap indexOf ec) q-at ∙ face-high (later (e .axis)) _ ∙ ap (λ (p : Point). record { axis = later (e .axis); at = p }) (low-cell₂ (e .axis) (e .at) (h .two))
-
-  pub q-low : OfGrid n q
-  q-low = subst (OfGrid n) (sym q-at) (down-low n (earlier (e .axis)) _ (down-low n (later (e .axis)) (e .at) (h .in-grid)))
-
-  pub face-in : (f : Place) (a : Axis) (p : Point) → OfGrid n p → f ≡ record { axis = a; at = p } → OfGrid n (f .at)
-  face-in f a p l k = subst (λ (x : Place). OfGrid n (x .at)) (sym k) l
-
-  pub low-3 : OfGrid n (down (later (e .axis)) (e .at))
-  low-3 = down-low n (later (e .axis)) (e .at) (h .in-grid)
-
-  pub low-4 : OfGrid n (down (earlier (e .axis)) (e .at))
-  low-4 = down-low n (earlier (e .axis)) (e .at) (h .in-grid)
-
-  pub flip-is : (f₁ f₂ f₃ f₄ : Place) (s s₁ s₂ s₃ s₄ : List ℕ) → f₁ ≡ faceOf i (e .at) → f₂ ≡ faceOf j (e .at) → f₃ ≡ faceOf (i + 3) q → f₄ ≡ faceOf (j + 3) q →
-      s₁ ≡ turnOne n f₁ s → s₂ ≡ turnOne n f₂ s₁ → s₃ ≡ turnOne n f₃ s₂ → s₄ ≡ turnOne n f₄ s₃ → s₄ ≡ works n (e ∷ []) s
-  flip-is f₁ f₂ f₃ f₄ s s₁ s₂ s₃ s₄ g₁ g₂ g₃ g₄ t₁ t₂ t₃ t₄ =
-      t₄ ∙ ap₂ (λ (f : Place) (t : List ℕ). turnOne n f t) (g₄ ∙ side-4)
-      (t₃ ∙ ap₂ (λ (f : Place) (t : List ℕ). turnOne n f t) (g₃ ∙ side-3)
-      (t₂ ∙ ap₂ (λ (f : Place) (t : List ℕ). turnOne n f t) (g₂ ∙ side-2)
-      (t₁ ∙ ap (λ (f : Place). turnOne n f s) (g₁ ∙ side-1))))
+  pub flip-works : (w w′ : List ℕ) → w′ ≡ works n (record { axis = e .axis; at = pointOf n i } ∷ []) w → w′ ≡ works n (e ∷ []) w
+  flip-works w w′ t = t ∙ ap (λ (q : Point). works n (record { axis = e .axis; at = q } ∷ []) w) point-is

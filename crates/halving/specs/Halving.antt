@@ -1,18 +1,19 @@
 -- The scan of a cut plane, and what the code asks of boxes and edges. Assumes nothing.
 use mathlib.Core.Bool.{true, false, cond}
 use mathlib.Core.List.{List, [], _∷_, map}
-use Prim.Native.Nat.{ℕ, zero, suc, _+_, _≤_, _<_}
+use Prim.Native.Nat.{ℕ, zero, suc, _+_, _*_, _≤_, _<_}
 use Rattle.rules.specs.Lists.{upto}
 use Rattle.rules.specs.declared.Axis.{Axis}
+use Rattle.rules.specs.declared.Axis.the-variants.{X, Y, Z}
 use Rattle.rules.specs.declared.Place.{Place}
 use Rattle.rules.specs.declared.Box.{Box}
 use Rattle.rules.specs.declared.Spot.{Spot}
 use Rattle.rules.specs.Lattice.{earlier, later, coord, up, pointAt}
-use Rattle.rules.specs.Patch.{path}
+use Rattle.rules.specs.Patch.{path, side}
 use Rattle.rules.proofs.Store.{stored}
 use Rattle.rules.specs.Lattice.{OfGrid}
 use Rattle.lattice.specs.Cells.{turns, works}
-use Rattle.halving.specs.declared.Held.{Held}
+use Rattle.halving.specs.declared.Unpaired.{Unpaired}
 
 -- an inner edge
 pub record Edged (n : ℕ) (e : Place) : Type 0 where
@@ -37,22 +38,22 @@ along b (suc k) e = e ∷ along b k (ahead b e)
 
 -- the scan: the place that waits for a partner, if one does, and the two buffers
 pub record Scan : Type 0 where
-  pub held : Held
+  pub unpaired : Unpaired
   pub grid : List ℕ
   pub work : List ℕ
 
-abbrev pub idle : Spot → Held
-idle q = record { has = false; at = q }
+abbrev pub idle : Spot → Unpaired
+idle q = record { any = false; spot = q }
 
-abbrev pub waits : Spot → Held
-waits q = record { has = true; at = q }
+abbrev pub waits : Spot → Unpaired
+waits q = record { any = true; spot = q }
 
 unfoldable pub pairOf : ℕ → Axis → ℕ → Spot → Scan → Scan
 pairOf n a m q s =
     cond (stored n (s .work) a (pointAt a m (q .u) (q .v)))
-    (cond (s .held .has)
-    (record { held = idle q; grid = turns n (path a m (s .held .at) q) (s .grid); work = works n (path a m (s .held .at) q) (s .work) })
-    (record { held = waits q; grid = s .grid; work = s .work }))
+    (cond (s .unpaired .any)
+    (record { unpaired = idle q; grid = turns n (path a m (s .unpaired .spot) q) (s .grid); work = works n (path a m (s .unpaired .spot) q) (s .work) })
+    (record { unpaired = waits q; grid = s .grid; work = s .work }))
     s
 
 abbrev pub scanAll : ℕ → Axis → ℕ → List Spot → Scan → Scan
@@ -75,3 +76,7 @@ pub record Fits (n : ℕ) (b : Box) : Type 0 where
 
 abbrev pub rowOf : ℕ → ℕ → ℕ → List Spot
 rowOf u k v = map (λ i. record { u = i; v = v }) (upto u k)
+
+-- the number of cells of a box
+abbrev pub cellCount : Box → ℕ
+cellCount b = side b X * (side b Y * side b Z)

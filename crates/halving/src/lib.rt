@@ -1,9 +1,9 @@
 // The patch of a box, by halving it.
 use lattice::earlier;
-use lattice::face;
-use lattice::index;
 use lattice::later;
 use lattice::member;
+use lattice::number_of;
+use lattice::step;
 use lattice::turn;
 use rules::Axis;
 use rules::Box;
@@ -12,43 +12,48 @@ use rules::Point;
 use rules::Spot;
 use walking::least;
 use walking::most;
-use walking::step_down;
 ghost use mathlib.Core.Path.{_≡_};
 ghost use mathlib.Core.List.{[], _∷_};
 ghost use Prim.Native.Nat.{_≤_, _<_, _+_, _-_, _/_};
 ghost use lib.ListN.{length};
-ghost use Rattle.rules.specs.Lattice.{earlier, later, coord, up, pointAt, pointCount};
+ghost use Rattle.rules.specs.Lattice.{earlier, later, coord, withCoord, up, pointAt, pointOf, pointCount};
 ghost use Rattle.rules.specs.Patch.{path, cut, longest, middle, oneCell, lower, upper};
 ghost use Rattle.rules.proofs.Store.{stored};
 ghost use Rattle.rules.proofs.PatchOf.{patchOf};
 ghost use Rattle.lattice.specs.Cells.{turns, works};
 ghost use Rattle.halving.specs.Halving.{Edged, Run, ahead, along, Scan, pairOf, scanAll, Placed, Fits, rowOf};
 
-// The place that waits for a partner, if one does.
-pub struct Held {
-    pub has: bool,
-    pub at: Spot,
+// The spot of the working face that waits for a partner, if one does.
+pub struct Unpaired {
+    pub any: bool,
+    pub spot: Spot,
+}
+
+// Reverses membership of the four faces of an inner edge in the working set. The edge is told by its axis and its point's number.
+pub fn turn_faces(n: usize, work: &mut [u8], at: usize, a: Axis)
+    requires { ⌜ (n ≤ 32) × (pointCount n ≤ length (now work)) × (at < pointCount n) × Edged n (record { axis = a; at = pointOf n at }) ⌝ }
+    ensures { λ _. ⌜ now (work .exit) ≡ works n (record { axis = a; at = pointOf n at } ∷ []) (now (work .entry)) ⌝ }
+{
+    let b = earlier(a);
+    let c = later(a);
+    turn(work, at, b);
+    turn(work, at, c);
+    turn(work, at - step(n, c), b);
+    turn(work, at - step(n, b), c);
 }
 
 // Flips an inner edge: its mark, and its four faces in the working set.
-pub fn flip(n: usize, grid: &mut [u8], work: &mut [u8], e: Place)
+fn flip(n: usize, grid: &mut [u8], work: &mut [u8], e: Place)
     requires { ⌜ (n ≤ 32) × (pointCount n ≤ length (now grid)) × (pointCount n ≤ length (now work)) × Edged n e ⌝ }
     ensures { λ _. ⌜ (now (grid .exit) ≡ turns n (e ∷ []) (now (grid .entry))) × (now (work .exit) ≡ works n (e ∷ []) (now (work .entry))) ⌝ }
 {
-    turn(n, grid, e);
+    let at = number_of(n, e.at);
     let a = e.axis;
-    let p = e.at;
-    let b = earlier(a);
-    let c = later(a);
-    let i = index(b);
-    let j = index(c);
-    let q = step_down(step_down(p, c), b);
-    turn(n, work, face(n, p, i));
-    turn(n, work, face(n, p, j));
-    turn(n, work, face(n, q, i + 3));
-    turn(n, work, face(n, q, j + 3));
+    turn(grid, at, a);
+    turn_faces(n, work, at, a);
 }
 
+// The point one step up an axis.
 fn step_up(n: usize, p: Point, a: Axis) -> Point
     requires { ⌜ (n ≤ 32) × (coord a p ≤ n) ⌝ }
     ensures { λ r. ⌜ r ≡ up a p ⌝ }
@@ -68,7 +73,8 @@ fn step_up(n: usize, p: Point, a: Axis) -> Point
     q
 }
 
-fn forward(n: usize, e: Place, b: Axis) -> Place
+// The edge after an edge in a row along b.
+fn next_edge(n: usize, e: Place, b: Axis) -> Place
     requires { ⌜ (n ≤ 32) × (coord b (e .at) ≤ n) ⌝ }
     ensures { λ r. ⌜ r ≡ ahead b e ⌝ }
 {
@@ -78,8 +84,8 @@ fn forward(n: usize, e: Place, b: Axis) -> Place
     Place { axis: a, at: q }
 }
 
-// Flips some edges in a row.
-fn run(n: usize, grid: &mut [u8], work: &mut [u8], e: Place, b: Axis, count: usize)
+// Flips count edges in a row along b, beginning with e.
+fn flip_run(n: usize, grid: &mut [u8], work: &mut [u8], e: Place, b: Axis, count: usize)
     requires { ⌜ (n ≤ 32) × (pointCount n ≤ length (now grid)) × (pointCount n ≤ length (now work)) × Run n b count e ⌝ }
     ensures { λ _. ⌜ (now (grid .exit) ≡ turns n (along b count e) (now (grid .entry))) × (now (work .exit) ≡ works n (along b count e) (now (work .entry))) ⌝ }
 {
@@ -87,12 +93,13 @@ fn run(n: usize, grid: &mut [u8], work: &mut [u8], e: Place, b: Axis, count: usi
     let mut k = count;
     while 0 < k {
         flip(n, grid, work, at);
-        at = forward(n, at, b);
+        at = next_edge(n, at, b);
         k -= 1;
     }
 }
 
-fn place(a: Axis, m: usize, u: usize, v: usize) -> Point
+// The point with m on axis a, u on the earlier and v on the later of the two other axes.
+fn point_at(a: Axis, m: usize, u: usize, v: usize) -> Point
     ensures { λ r. ⌜ r ≡ pointAt a m u v ⌝ }
 {
     match a {
@@ -102,7 +109,7 @@ fn place(a: Axis, m: usize, u: usize, v: usize) -> Point
     }
 }
 
-// Joins two places of the plane m square to a.
+// Joins two faces of the plane m square to a by a path: first along the earlier axis of the plane, then along the later.
 fn join(n: usize, grid: &mut [u8], work: &mut [u8], a: Axis, m: usize, p: Spot, q: Spot)
     requires { ⌜ (n ≤ 32) × (pointCount n ≤ length (now grid)) × (pointCount n ≤ length (now work)) × (1 ≤ m) × (m ≤ n) × Placed n p × Placed n q ⌝ }
     ensures { λ _. ⌜ (now (grid .exit) ≡ turns n (path a m p q) (now (grid .entry))) × (now (work .exit) ≡ works n (path a m p q) (now (work .entry))) ⌝ }
@@ -111,33 +118,44 @@ fn join(n: usize, grid: &mut [u8], work: &mut [u8], a: Axis, m: usize, p: Spot, 
     let c = later(a);
     let i = least(p.u, q.u);
     let j = most(p.u, q.u);
-    let s = place(a, m, i + 1, p.v);
-    run(n, grid, work, Place { axis: c, at: s }, b, j - i);
+    let s = point_at(a, m, i + 1, p.v);
+    flip_run(n, grid, work, Place { axis: c, at: s }, b, j - i);
     let k = least(p.v, q.v);
     let l = most(p.v, q.v);
-    let t = place(a, m, q.u, k + 1);
-    run(n, grid, work, Place { axis: b, at: t }, c, l - k);
+    let t = point_at(a, m, q.u, k + 1);
+    flip_run(n, grid, work, Place { axis: b, at: t }, c, l - k);
 }
 
-// One place of the scan: a face that isn't in the working set is passed; one waits; the next is joined with it.
-fn pair(n: usize, grid: &mut [u8], work: &mut [u8], a: Axis, m: usize, q: Spot, h: Held) -> Held
-    requires { ⌜ (n ≤ 32) × (pointCount n ≤ length (now grid)) × (pointCount n ≤ length (now work)) × (1 ≤ m) × (m ≤ n) × Placed n q × Placed n (h .at) ⌝ }
-    ensures { λ r. ⌜ (_≡_ {A = Scan} (record { held = r; grid = now (grid .exit); work = now (work .exit) }) (pairOf n a m q (record { held = h; grid = now (grid .entry); work = now (work .entry) }))) × Placed n (r .at) ⌝ }
+// Takes one spot of a plane: a face that isn't in the working set is passed, one waits for a partner, the next is joined with it.
+fn pair_spot(
+    n: usize,
+    grid: &mut [u8],
+    work: &mut [u8],
+    a: Axis,
+    m: usize,
+    q: Spot,
+    h: Unpaired,
+) -> Unpaired
+    requires { ⌜ (n ≤ 32) × (pointCount n ≤ length (now grid)) × (pointCount n ≤ length (now work)) × (1 ≤ m) × (m ≤ n) × Placed n q × Placed n (h .spot) ⌝ }
+    ensures { λ r. ⌜ (_≡_ {A = Scan} (record { unpaired = r; grid = now (grid .exit); work = now (work .exit) }) (pairOf n a m q (record { unpaired = h; grid = now (grid .entry); work = now (work .entry) }))) × Placed n (r .spot) ⌝ }
 {
-    let s = place(a, m, q.u, q.v);
+    let s = point_at(a, m, q.u, q.v);
     if !member(n, work, Place { axis: a, at: s }) {
         return h;
     }
-    if h.has {
-        let p = h.at;
+    if h.any {
+        let p = h.spot;
         join(n, grid, work, a, m, p, q);
-        return Held { has: false, at: q };
+        return Unpaired {
+            any: false,
+            spot: q,
+        };
     }
-    Held { has: true, at: q }
+    Unpaired { any: true, spot: q }
 }
 
-// The places u to h in row v.
-fn row(
+// Takes the spots of row v from one to another.
+fn pair_row(
     n: usize,
     grid: &mut [u8],
     work: &mut [u8],
@@ -146,21 +164,22 @@ fn row(
     from: usize,
     to: usize,
     v: usize,
-    first: Held,
-) -> Held
-    requires { ⌜ (n ≤ 32) × (pointCount n ≤ length (now grid)) × (pointCount n ≤ length (now work)) × (1 ≤ m) × (m ≤ n) × (to ≤ n) × (v < n) × Placed n (first .at) ⌝ }
-    ensures { λ r. ⌜ (_≡_ {A = Scan} (record { held = r; grid = now (grid .exit); work = now (work .exit) }) (scanAll n a m (rowOf from (to - from) v) (record { held = first; grid = now (grid .entry); work = now (work .entry) }))) × Placed n (r .at) ⌝ }
+    first: Unpaired,
+) -> Unpaired
+    requires { ⌜ (n ≤ 32) × (pointCount n ≤ length (now grid)) × (pointCount n ≤ length (now work)) × (1 ≤ m) × (m ≤ n) × (to ≤ n) × (v < n) × Placed n (first .spot) ⌝ }
+    ensures { λ r. ⌜ (_≡_ {A = Scan} (record { unpaired = r; grid = now (grid .exit); work = now (work .exit) }) (scanAll n a m (rowOf from (to - from) v) (record { unpaired = first; grid = now (grid .entry); work = now (work .entry) }))) × Placed n (r .spot) ⌝ }
 {
     let mut h = first;
     let mut u = from;
     while u < to {
-        h = pair(n, grid, work, a, m, Spot { u: u, v: v }, h);
+        h = pair_spot(n, grid, work, a, m, Spot { u: u, v: v }, h);
         u += 1;
     }
     h
 }
 
-fn along_axis(p: Point, a: Axis) -> usize
+// The coordinate of a point on an axis.
+fn coordinate(p: Point, a: Axis) -> usize
     ensures { λ r. ⌜ r ≡ coord a p ⌝ }
 {
     match a {
@@ -170,7 +189,7 @@ fn along_axis(p: Point, a: Axis) -> usize
     }
 }
 
-// Pairs the working faces in the plane m of a box and joins each pair.
+// Takes the working faces in the plane m of a box in pairs, by rising point number, and joins each pair.
 fn cut_plane(n: usize, grid: &mut [u8], work: &mut [u8], b: Box, a: Axis, m: usize)
     requires { ⌜ (n ≤ 32) × (pointCount n ≤ length (now grid)) × (pointCount n ≤ length (now work)) × Fits n b × (coord a (b .lo) < m) × (m < coord a (b .hi)) ⌝ }
     ensures { λ _. ⌜ (now (grid .exit) ≡ turns n (cut b (stored n (now (work .entry))) a m) (now (grid .entry))) × (now (work .exit) ≡ works n (cut b (stored n (now (work .entry))) a m) (now (work .entry))) ⌝ }
@@ -179,20 +198,21 @@ fn cut_plane(n: usize, grid: &mut [u8], work: &mut [u8], b: Box, a: Axis, m: usi
     let hi = b.hi;
     let c = earlier(a);
     let d = later(a);
-    let from = along_axis(lo, c);
-    let to = along_axis(hi, c);
-    let end = along_axis(hi, d);
-    let mut h = Held {
-        has: false,
-        at: Spot { u: 0, v: 0 },
+    let from = coordinate(lo, c);
+    let to = coordinate(hi, c);
+    let end = coordinate(hi, d);
+    let mut h = Unpaired {
+        any: false,
+        spot: Spot { u: 0, v: 0 },
     };
-    let mut v = along_axis(lo, d);
+    let mut v = coordinate(lo, d);
     while v < end {
-        h = row(n, grid, work, a, m, from, to, v, h);
+        h = pair_row(n, grid, work, a, m, from, to, v, h);
         v += 1;
     }
 }
 
+// Whether a box has one cell.
 fn is_one_cell(n: usize, b: Box) -> bool
     requires { ⌜ Fits n b ⌝ }
     ensures { λ r. ⌜ r ≡ oneCell b ⌝ }
@@ -208,6 +228,7 @@ fn is_one_cell(n: usize, b: Box) -> bool
     hi.k - lo.k <= 1
 }
 
+// The axis of the longest side of a box, x before y before z when equal.
 fn longest_axis(n: usize, b: Box) -> Axis
     requires { ⌜ Fits n b ⌝ }
     ensures { λ r. ⌜ r ≡ longest b ⌝ }
@@ -229,19 +250,21 @@ fn longest_axis(n: usize, b: Box) -> Axis
     Axis::Z
 }
 
+// The plane that cuts a side of a box.
 fn middle_of(n: usize, b: Box, a: Axis) -> usize
     requires { ⌜ (n ≤ 32) × Fits n b ⌝ }
     ensures { λ r. ⌜ r ≡ middle b a ⌝ }
 {
     let lo = b.lo;
     let hi = b.hi;
-    let i = along_axis(lo, a);
-    let j = along_axis(hi, a);
+    let i = coordinate(lo, a);
+    let j = coordinate(hi, a);
     i + (j - i) / 2
 }
 
-fn with(p: Point, a: Axis, m: usize) -> Point
-    ensures { λ r. ⌜ r ≡ Rattle.rules.specs.Lattice.withCoord a m p ⌝ }
+// The point moved to m on an axis.
+fn with_coordinate(p: Point, a: Axis, m: usize) -> Point
+    ensures { λ r. ⌜ r ≡ withCoord a m p ⌝ }
 {
     let mut q = p;
     match a {
@@ -258,26 +281,28 @@ fn with(p: Point, a: Axis, m: usize) -> Point
     q
 }
 
+// The half of a box below a plane.
 fn lower_half(b: Box, a: Axis, m: usize) -> Box
     ensures { λ r. ⌜ r ≡ lower b a m ⌝ }
 {
     let lo = b.lo;
     let hi = b.hi;
-    let h = with(hi, a, m);
+    let h = with_coordinate(hi, a, m);
     Box { lo: lo, hi: h }
 }
 
+// The half of a box above a plane.
 fn upper_half(b: Box, a: Axis, m: usize) -> Box
     ensures { λ r. ⌜ r ≡ upper b a m ⌝ }
 {
     let lo = b.lo;
     let hi = b.hi;
-    let l = with(lo, a, m);
+    let l = with_coordinate(lo, a, m);
     Box { lo: l, hi: hi }
 }
 
-// The patch of the working faces of a box.
-pub fn halves(n: usize, grid: &mut [u8], work: &mut [u8], b: Box)
+// Patches a box: cuts its longest side, joins the working faces in the cut plane in pairs, and treats the two halves the same way.
+pub fn patch_box(n: usize, grid: &mut [u8], work: &mut [u8], b: Box)
     requires { ⌜ (n ≤ 32) × (pointCount n ≤ length (now grid)) × (pointCount n ≤ length (now work)) × Fits n b ⌝ }
     ensures { λ _. ⌜ (now (grid .exit) ≡ turns n (patchOf b (stored n (now (work .entry)))) (now (grid .entry))) × (now (work .exit) ≡ works n (patchOf b (stored n (now (work .entry)))) (now (work .entry))) ⌝ }
 {
@@ -287,6 +312,6 @@ pub fn halves(n: usize, grid: &mut [u8], work: &mut [u8], b: Box)
     let a = longest_axis(n, b);
     let m = middle_of(n, b, a);
     cut_plane(n, grid, work, b, a, m);
-    halves(n, grid, work, lower_half(b, a, m));
-    halves(n, grid, work, upper_half(b, a, m));
+    patch_box(n, grid, work, lower_half(b, a, m));
+    patch_box(n, grid, work, upper_half(b, a, m));
 }

@@ -7,6 +7,7 @@ use native.Mathlib.Nat.{add-zero, zero-add, add-suc, suc-add, le-of-suc-le-suc, 
 use native.Mathlib.Omega.{arith}
 use lib.Dec.{ltb, eqb}
 use borrow.Author.Tests.{ltb-true, eqb-true, eqb-false}
+use lib.Bits.{bitXor}
 use lib.ListN.{getD}
 use Rattle.rules.specs.Lists.{_⊕_, allOf, count, upto}
 use Rattle.rules.specs.declared.Axis.{Axis}
@@ -17,6 +18,7 @@ use Rattle.rules.specs.Grid.{has, weight}
 use Rattle.rules.specs.Lattice.{earlier, later, coord, up, Set, pointNumber, pointCount}
 use Rattle.rules.specs.Cell.{oddFace}
 use Rattle.rules.proofs.Numbers.{number-below}
+use Rattle.rules.proofs.Store.{toggle}
 use Rattle.lattice.specs.Cells.{faceRule, faceEdge, moved, faceOf, edgeOf, Cell}
 use Rattle.rules.specs.Lattice.{OfGrid}
 
@@ -140,10 +142,11 @@ has-weight X b e = omega (arith, eqb-true (b % 2) 1 e)
 has-weight Y b e = omega (arith, eqb-true (b / 2 % 2) 1 e)
 has-weight Z b e = omega (arith, eqb-true (b / 4 % 2) 1 e)
 
-pub room-for : (a : Axis) (b : ℕ) → has a b ≡ false → b < 256 → b + weight a < 256
-room-for X b e h = let n : b % 2 ≡ 1 → ⊥ = eqb-false (b % 2) 1 e in omega arith
-room-for Y b e h = let n : b / 2 % 2 ≡ 1 → ⊥ = eqb-false (b / 2 % 2) 1 e in omega arith
-room-for Z b e h = let n : b / 4 % 2 ≡ 1 → ⊥ = eqb-false (b / 4 % 2) 1 e in omega arith
+-- a byte with the bit of an axis turned, tested over all bytes
+pub xor-toggle : (a : Axis) (b : ℕ) → b < 256 → bitXor b (weight a) ≡ toggle a b
+xor-toggle X b h = rules (λ k. bitXor k 1) (toggle X) 0 256 b refl h
+xor-toggle Y b h = rules (λ k. bitXor k 2) (toggle Y) 0 256 b refl h
+xor-toggle Z b h = rules (λ k. bitXor k 4) (toggle Z) 0 256 b refl h
 
 pub odd-turn : (E : Set) (f : ℕ) (c : Point) (e₀ e₁ e₂ e₃ : Place) (p q r s x y z : Bool) → e₀ ≡ edgeOf f 0 c → e₁ ≡ edgeOf f 1 c → e₂ ≡ edgeOf f 2 c → e₃ ≡ edgeOf f 3 c →
     p ≡ E (e₀ .axis) (e₀ .at) → q ≡ E (e₁ .axis) (e₁ .at) → r ≡ E (e₂ .axis) (e₂ .at) → s ≡ E (e₃ .axis) (e₃ .at) → x ≡ p ⊕ q → y ≡ r ⊕ s → z ≡ x ⊕ y →

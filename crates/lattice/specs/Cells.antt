@@ -1,6 +1,6 @@
 -- A cell's faces and edges, and turns of members of a set that a buffer's lowest three bits hold. Assumes nothing.
 use mathlib.Core.List.{List, [], _∷_}
-use Prim.Native.Nat.{ℕ, zero, suc, _+_, _/_, _≤_, _<_}
+use Prim.Native.Nat.{ℕ, zero, suc, _+_, _*_, _/_, _≤_, _<_}
 use lib.ListN.{getD, set}
 use Rattle.rules.specs.Lists.{each}
 use Rattle.rules.specs.declared.Axis.{Axis}
@@ -21,6 +21,12 @@ abbrev pub indexOf : Axis → ℕ
 indexOf X = 0
 indexOf Y = 1
 indexOf Z = 2
+
+-- by how much a point's number rises with one step along an axis
+abbrev pub pointStep : ℕ → Axis → ℕ
+pointStep n X = 1
+pointStep n Y = suc n
+pointStep n Z = suc n * suc n
 
 abbrev pub at : ℕ → ℕ → ℕ → Point
 at x y z = record { i = x; j = y; k = z }
@@ -69,9 +75,13 @@ pub record Cell (n : ℕ) (p : Point) : Type 0 where
 abbrev pub layer : ℕ → ℕ → List ℕ → Set
 layer d n g a p = has a (getD g (pointNumber n p) 0 / d)
 
--- one member turned
-unfoldable pub turnOne : ℕ → Place → List ℕ → List ℕ
-turnOne n f s = set s (pointNumber n (f .at)) (toggle (f .axis) (getD s (pointNumber n (f .at)) 0))
+-- the member of an axis turned in one byte
+unfoldable pub turnAt : ℕ → Axis → List ℕ → List ℕ
+turnAt i a s = set s i (toggle a (getD s i 0))
+
+-- one member of the set turned
+abbrev pub turnOne : ℕ → Place → List ℕ → List ℕ
+turnOne n f s = turnAt (pointNumber n (f .at)) (f .axis) s
 
 abbrev pub turns : ℕ → List Place → List ℕ → List ℕ
 turns n [] s = s

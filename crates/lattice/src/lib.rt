@@ -10,11 +10,11 @@ ghost use Prim.Native.Nat.{_≤_, _<_, _+_, _*_, _/_};
 ghost use lib.ListN.{length, getD};
 ghost use Rattle.rules.specs.Lists.{_⊕_};
 ghost use Rattle.rules.specs.declared.Axis.the-variants.{X, Y, Z};
-ghost use Rattle.rules.specs.Lattice.{earlier, later, pointNumber, pointCount};
+ghost use Rattle.rules.specs.Lattice.{earlier, later, up, origin, pointNumber, pointCount};
 ghost use Rattle.rules.specs.Grid.{has, weight};
 ghost use Rattle.rules.specs.Cell.{oddFace};
 ghost use Rattle.rules.proofs.Store.{toggle};
-ghost use Rattle.lattice.specs.Cells.{indexOf, faceRule, faceEdge, cornerRule, moved, faceOf, edgeOf, cornerEdge, Cell, layer, turnOne};
+ghost use Rattle.lattice.specs.Cells.{indexOf, faceRule, faceEdge, cornerRule, moved, faceOf, edgeOf, cornerEdge, Cell, layer, turnAt, turnOne, pointStep};
 ghost use Rattle.rules.specs.Lattice.{OfGrid};
 
 // The cell's six faces: the three lower ones, then the three upper ones.
@@ -133,6 +133,25 @@ pub fn number_of(n: usize, p: Point) -> usize
     p.i + (n + 1) * (p.j + (n + 1) * p.k)
 }
 
+// The upper face of an axis of the cell at (0,0,0), from the table: one step along the axis.
+fn upper_face(a: Axis) -> Point
+    ensures { λ r. ⌜ r ≡ up a origin ⌝ }
+{
+    match a {
+        Axis::X => face_rule(3).at,
+        Axis::Y => face_rule(4).at,
+        Axis::Z => face_rule(5).at,
+    }
+}
+
+// By how much a point's number rises with one step along an axis.
+pub fn step(n: usize, a: Axis) -> usize
+    requires { ⌜ (1 ≤ n) × (n ≤ 32) ⌝ }
+    ensures { λ r. ⌜ r ≡ pointStep n a ⌝ }
+{
+    number_of(n, upper_face(a))
+}
+
 pub fn earlier(a: Axis) -> Axis
     ensures { λ r. ⌜ r ≡ earlier a ⌝ }
 {
@@ -189,22 +208,26 @@ pub fn weight_of(a: Axis) -> u8
 fn turned(b: u8, a: Axis) -> u8
     ensures { λ r. ⌜ r ≡ toggle a b ⌝ }
 {
-    let w = weight_of(a);
-    if bit(b, a) {
-        return b - w;
-    }
-    b + w
+    b ^ weight_of(a)
+}
+
+// Turns the member of an axis in one byte of a buffer.
+pub fn turn(s: &mut [u8], at: usize, a: Axis)
+    requires { ⌜ at < length (now s) ⌝ }
+    ensures { λ _. ⌜ now (s .exit) ≡ turnAt at a (now (s .entry)) ⌝ }
+{
+    let v = turned(s[at], a);
+    s[at] = v;
 }
 
 // Turns one member of the set that a buffer's lowest three bits hold.
-pub fn turn(n: usize, s: &mut [u8], f: Place)
+pub fn turn_place(n: usize, s: &mut [u8], f: Place)
     requires { ⌜ (n ≤ 32) × (pointCount n ≤ length (now s)) × OfGrid n (f .at) ⌝ }
     ensures { λ _. ⌜ now (s .exit) ≡ turnOne n f (now (s .entry)) ⌝ }
 {
     let at = number_of(n, f.at);
     let a = f.axis;
-    let v = turned(s[at], a);
-    s[at] = v;
+    turn(s, at, a);
 }
 
 // Whether the set that a buffer's lowest three bits hold has a member.
@@ -227,7 +250,8 @@ pub fn marked(n: usize, grid: &[u8], d: u8, e: Place) -> bool
     bit(grid[at] / d, a)
 }
 
-fn face_rule(f: usize) -> Place
+// Face f of the cell at (0,0,0), from the table.
+pub fn face_rule(f: usize) -> Place
     requires { ⌜ f < 6 ⌝ }
     ensures { λ r. ⌜ r ≡ faceRule f ⌝ }
 {

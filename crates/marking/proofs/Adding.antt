@@ -19,7 +19,7 @@ use Rattle.rules.specs.Grid.{has, weight}
 use Rattle.rules.proofs.Bits.{eqb-yes, and-left, and-right}
 use Rattle.rules.proofs.Cuts.{sameAxis→, samePoint→, samePlace→}
 use Rattle.rules.proofs.Store.{stored, stored-set, toggle}
-use Rattle.lattice.specs.Cells.{turnOne, cornerEdge, Cell}
+use Rattle.lattice.specs.Cells.{turnAt, turnOne, cornerEdge, Cell}
 use Rattle.lattice.proofs.Laws.{num-below}
 use Rattle.marking.specs.Met.{added}
 use Rattle.marking.specs.Scan.{Added, atEdge, atCell}
@@ -93,7 +93,7 @@ module _ (n : ℕ) (E : Set) (e : Place) (g : List ℕ) where
   -- one that is of the set and had no mark
   pub edge-turned : pointCount n ≤ length g → OfGrid n (e .at) → stored n g (e .axis) (e .at) ≡ false → E (e .axis) (e .at) ≡ true →
       Added n (atEdge e E) g (turnOne n e g)
-  unfolding turnOne
+  unfolding turnAt
   edge-turned long o h m =
       let below = num-below n (e .at) o in
       let new : toggle (e .axis) b ≡ b + weight (e .axis) = rw h in

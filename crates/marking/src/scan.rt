@@ -4,7 +4,7 @@ use crate::range::signed;
 use lattice::corner_edge;
 use lattice::level::Level;
 use lattice::member;
-use lattice::turn;
+use lattice::turn_place;
 use rules::Axis;
 use rules::Box;
 use rules::Place;
@@ -99,7 +99,7 @@ fn mark_edge(l: Level, grid: &mut [u8], t: Triangle, e: Place)
     if !meets(t, ends_of(l, e)) {
         return;
     }
-    turn(n, grid, e);
+    turn_place(n, grid, e);
 }
 
 // Adds the marks of the edges met at the lowest corner of a cell.

@@ -1,8 +1,9 @@
 pub mod PaintLaws
 pub mod Flips
-pub mod GridBytes
+pub mod Odd
 pub mod Rim
 pub mod Next
 pub mod Cover
+pub mod Begins
 pub mod Ends
 pub mod Answers

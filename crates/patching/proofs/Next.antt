@@ -1,39 +1,42 @@
 -- From one rim to the next: what holds between two rims. Assumes nothing.
-use mathlib.Core.Path.{_≡_, refl, sym, ap, ap₂, _∙_, subst, fun-ext}
+use mathlib.Core.Path.{_≡_, refl, sym, ap, ap₂, _∙_, subst}
 use mathlib.Core.Bool.{Bool, true, false, not, _&&_, _||_, cond, true≢false}
 use mathlib.Core.List.{List, [], _∷_}
 use mathlib.Core.Logic.{_⊎_, inl, inr}
-use Prim.Native.Nat.{ℕ, suc, _+_, _/_, _≤_}
+use Prim.Native.Nat.{ℕ, suc, _+_, _/_, _%_, _≤_, _<_}
 use native.Mathlib.Omega.{arith}
 use lib.ListN.{length, getD}
 use Rattle.rules.specs.Lists.{_⊕_, anyOf, parity, each, All, count}
-use Rattle.rules.proofs.Bits.{⊕-self, xors, same-test}
+use Rattle.rules.proofs.Bits.{⊕-self, &&-false, xors, same-test, eqb-yes, eqb-no}
 use Rattle.rules.proofs.Lists.{all-weaken, all-pair, all-swap, all-kept}
 use Rattle.rules.specs.declared.Axis.{Axis}
 use Rattle.rules.specs.declared.Axis.the-variants.{X, Y, Z}
 use Rattle.rules.specs.declared.Point.{Point}
 use Rattle.rules.specs.declared.Place.{Place}
 use Rattle.rules.specs.declared.Box.{Box}
-use Rattle.rules.specs.Lattice.{up, down, Set, pointNumber, samePlace, samePoint, setOf, edgeIn, whole, places, isIn, pointCount}
+use Rattle.rules.specs.Lattice.{up, down, Set, pointNumber, samePlace, samePoint, setOf, edgeIn, faceIn, whole, OfGrid, places, isIn, pointCount, pointOf}
 use Rattle.rules.specs.Cell.{oddFace, ofCell}
 use Rattle.rules.specs.Rims.{neighbours, oddFaces, rims, elem}
 use Rattle.rules.specs.Patch.{patchRim}
-use Rattle.rules.specs.Grid.{byteAt, value}
+use Rattle.rules.specs.Grid.{has, value}
 use Rattle.rules.proofs.Cuts.{samePoint→, samePlace→}
 use Rattle.rules.proofs.Rims.{neighbours-cell, touch, apart}
 use Rattle.rules.proofs.Chains.{same-point, own-upper, own-lower, members, find, any-mono, rim-closed, one-rim, any-rims, or-no-left, or-no-right}
 use Rattle.rules.proofs.OddList.{elem-odd}
 use Rattle.rules.proofs.Scan.{count-or-one}
 use Rattle.rules.proofs.Patched.{odd-in, rims-all}
+use Rattle.rules.proofs.Numbers.{small-byte}
+use Rattle.rules.proofs.PointOf.{number-pointOf, pointOf-grid}
 use Rattle.rules.proofs.Store.{stored}
 use Rattle.rules.proofs.PatchOf.{patchOf}
-use Rattle.lattice.specs.Cells.{Cell, turns, works, facesOf}
-use Rattle.walking.specs.Walks.{came, Fine, seenB, New, Filled}
-use Rattle.walking.proofs.Laws.{seen-same, below, has-byte, came-inner}
+use Rattle.lattice.specs.Cells.{Cell, layer, turns, works, facesOf}
+use Rattle.walking.specs.Walks.{oddIn, Fine, seenB, New, Found}
+use Rattle.walking.proofs.Faces.{cell-grid, face-cell}
+use Rattle.walking.proofs.Bytes.{has-low, zero-has, odd-face, odd-same, seen-same}
 use Rattle.halving.proofs.Turns.{turns-length, turns-high, turns-past, stored-turns, stored-works, low-edges, low-faces}
-use Rattle.halving.proofs.Scans.{patch-edged}
+use Rattle.halving.proofs.Boxes.{patch-edged}
 use Rattle.halving.specs.Halving.{Fits, Edged}
-use Rattle.patching.specs.Between.{owns, Between}
+use Rattle.patching.specs.Between.{owns, Between, Moves}
 use Rattle.patching.proofs.Rim.{newB, S, fits, Result, results, stored-is, face-cells, fits-of, cell-whole}
 
 module _ {R : Type 0} where
@@ -141,7 +144,7 @@ module _ (n : ℕ) (E : Set) (inner : (a : Axis) (p : Point) → E a p ≡ true 
 -- ---- a rim is patched
 module _ (n : ℕ) (E : Set) (inner : (a : Axis) (p : Point) → E a p ≡ true → edgeIn (whole n) a p ≡ true)
     (hit : List Place → Bool) (g₀ w₀ g w : List ℕ) (k : ℕ) (B : Between n E hit g₀ w₀ g w k) (g-size : pointCount n ≤ length g) (w-size : pointCount n ≤ length w)
-    (c : Point) (cell : Cell n c) (dark : seenB n w c ≡ false) (a₀ : Axis) (o₀ : oddFace E a₀ c ≡ true) (v : List ℕ) (b : Box) (F : Filled n E w v c b) where
+    (c : Point) (cell : Cell n c) (dark : seenB n w c ≡ false) (a₀ : Axis) (o₀ : oddFace E a₀ c ≡ true) (v : List ℕ) (b : Box) (F : Found n (oddFace E) w v c b) where
   shut : (a : Axis) (p : Point) → oddFace E a p ≡ true → Cell n p → Cell n (down a p) → seenB n w p ≡ seenB n w (down a p)
   shut a p o u l =
       B .seen-now p u
@@ -153,9 +156,6 @@ module _ (n : ℕ) (E : Set) (inner : (a : Axis) (p : Point) → E a p ≡ true 
 
   shut′ : (a : Axis) (p : Point) → oddFace E a p ≡ true → seenB n w p ≡ seenB n w (down a p)
   shut′ a p o = let q = face-cells n a p (odd-in n E inner a p o) in shut a p o (q .upper) (q .lower)
-
-  f : Place
-  f = record { axis = a₀; at = c }
 
   got : All (λ r. elem (record { axis = a₀; at = c }) r ≡ true → Result n E inner w v c b F a₀ o₀ shut′ (B .work-now) r) (rims n E)
   got = results n E inner w v c b F a₀ o₀ shut′ (B .work-now)
@@ -184,7 +184,7 @@ module _ (n : ℕ) (E : Set) (inner : (a : Axis) (p : Point) → E a p ≡ true 
 
   -- a cell is seen after the walk when it was before, or is new
   seen-or : (q : Point) → Cell n q → seenB n v q ≡ seenB n w q || newB n E inner w v c b F a₀ o₀ shut′ (B .work-now) q
-  seen-or q u = go (F .each q (below n q u))
+  seen-or q u = go (F .each q (cell-grid n q u))
     where
       old : (x y : Bool) → x ≡ y → x ≡ y || (x && not y)
       old true true e = refl
@@ -198,13 +198,13 @@ module _ (n : ℕ) (E : Set) (inner : (a : Axis) (p : Point) → E a p ≡ true 
       fresh false true e = absurd (true≢false e)
       fresh false false e = refl
 
-      go : (getD v (pointNumber n q) 0 ≡ getD w (pointNumber n q) 0) ⊎ New n E w v c q → seenB n v q ≡ seenB n w q || (seenB n v q && not (seenB n w q))
+      go : (getD v (pointNumber n q) 0 ≡ getD w (pointNumber n q) 0) ⊎ New n (oddFace E) w v c q → seenB n v q ≡ seenB n w q || (seenB n v q && not (seenB n w q))
       go (inl e) = old (seenB n v q) (seenB n w q) (seen-same n w v q e)
       go (inr h) = fresh (seenB n v q) (seenB n w q) (h .dark)
 
   high-same : (s t : List ℕ) (q : Point) → getD s (pointNumber n q) 0 / 8 ≡ getD t (pointNumber n q) 0 / 8 → seenB n s q ≡ seenB n t q
   unfolding seenB
-  high-same s t q e = ap (Rattle.rules.specs.Grid.has X) e
+  high-same s t q e = ap (has X) (let f : getD s (pointNumber n q) 0 / 64 ≡ getD t (pointNumber n q) 0 / 64 = omega arith in f)
 
   pub rim-next : (g₂ w₂ : List ℕ) → g₂ ≡ turns n (patchOf b (stored n v)) g → w₂ ≡ works n (patchOf b (stored n v)) v → Between n E (λ s. owns c s || hit s) g₀ w₀ g₂ w₂ (k + 1)
   rim-next g₂ w₂ eg ew = record {
@@ -221,6 +221,8 @@ module _ (n : ℕ) (E : Set) (inner : (a : Axis) (p : Point) → E a p ≡ true 
     work-now = λ a p l. ap (λ (s : List ℕ). stored n s a p) ew ∙ stored-works n (patchOf b (stored n v)) v ed w-size′ a p l
         ∙ ap₂ _⊕_ (stored-is n E inner w v c b F a₀ o₀ shut′ (B .work-now) a p l) (ap (λ (t : List Place). oddFace (setOf t) a p) (the .2 (the .1) .patches) ∙ the .2 (the .1) .clears a p)
         ∙ ⊕-self (S n E inner w v c b F a₀ o₀ shut′ (B .work-now) (record { axis = a; at = p }));
+    odd-now = odd-same n v w₂ (λ a p l. ap (has a) (ap (λ (s : List ℕ). getD s (pointNumber n p) 0 / 8) ew ∙ turns-high n (each facesOf (patchOf b (stored n v))) v (pointNumber n p) (low-faces n (patchOf b (stored n v)) ed) w-size′))
+        ∙ odd-same n w v (F .odds) ∙ B .odd-now;
     seen-now = λ q u. high-same w₂ v q (ap (λ (s : List ℕ). getD s (pointNumber n q) 0 / 8) ew ∙ turns-high n (each facesOf (patchOf b (stored n v))) v (pointNumber n q) (low-faces n (patchOf b (stored n v)) ed) w-size′)
         ∙ seen-or q u ∙ ap (λ (x : Bool). x || newB n E inner w v c b F a₀ o₀ shut′ (B .work-now) q) (B .seen-now q u)
         ∙ sym (join-any (owns c) hit (touch q) (newB n E inner w v c b F a₀ o₀ shut′ (B .work-now) q) (rims n E) not-hit
@@ -287,6 +289,7 @@ module _ (n : ℕ) (E : Set) (hit : List Place → Bool) (g₀ w₀ g w : List �
     came-in = B .came-in;
     marks-now = λ a p l. B .marks-now a p l ∙ ap (λ (x : Bool). stored n g₀ a p ⊕ x) (sym (parity-all _ _ (rims n E) (all-weaken _ _ (λ r e. ap (λ (x : Bool). x && setOf (patchRim r) a p) e) (rims n E) eq)));
     work-now = B .work-now;
+    odd-now = B .odd-now;
     seen-now = λ q u. B .seen-now q u ∙ sym (any-same _ _ (rims n E) (all-weaken _ _ (λ r e. ap (λ (x : Bool). x && touch q r) e) (rims n E) eq));
     counted = (let z : k + 0 ≡ k = omega arith in z) ∙ B .counted ∙ sym (count-same (λ s. owns c s || hit s) hit (rims n E) eq);
   }
@@ -312,52 +315,81 @@ module _ (n : ℕ) (E : Set) (hit : List Place → Bool) (g₀ w₀ g w : List �
       absurd (true≢false (sym (x .2) ∙ ap (oddFace E (x .0 .axis)) (samePoint→ (x .0 .at) c (x .1)) ∙ z (x .0 .axis)))) (rims n E)
       (rims-all (λ x. isIn (oddFace E) x ≡ true) (oddFaces n E) (all-kept (isIn (oddFace E)) (places n))))
 
--- ---- from the byte of a cell's own faces to an odd one
-pub some-own : (F : Set) (c : Point) → (byteAt F c ≡ 0 → ⊥) → (a : Axis) × (F a c ≡ true)
-some-own F c h = go (F X c) refl (F Y c) refl (F Z c) refl
+-- ---- what a byte tells of the point's lower faces
+pub none-low : (n : ℕ) (w : List ℕ) (c : Point) → getD w (pointNumber n c) 0 / 8 % 8 ≡ 0 → (a : Axis) → layer 8 n w a c ≡ false
+none-low n w c e a = sym (has-low a (getD w (pointNumber n c) 0 / 8)) ∙ ap (has a) e ∙ zero-has a
+
+pub some-low : (n : ℕ) (w : List ℕ) (c : Point) → (getD w (pointNumber n c) 0 / 8 % 8 ≡ 0 → ⊥) → (a : Axis) × (layer 8 n w a c ≡ true)
+some-low n w c h =
+    let x = go (has X m) refl (has Y m) refl (has Z m) refl in
+    (x .0, sym (has-low (x .0) (getD w (pointNumber n c) 0 / 8)) ∙ x .1)
   where
-    go : (x : Bool) → F X c ≡ x → (y : Bool) → F Y c ≡ y → (z : Bool) → F Z c ≡ z → (a : Axis) × (F a c ≡ true)
+    m : ℕ
+    m = getD w (pointNumber n c) 0 / 8 % 8
+
+    go : (x : Bool) → has X (getD w (pointNumber n c) 0 / 8 % 8) ≡ x → (y : Bool) → has Y (getD w (pointNumber n c) 0 / 8 % 8) ≡ y → (z : Bool) → has Z (getD w (pointNumber n c) 0 / 8 % 8) ≡ z →
+        (a : Axis) × (has a (getD w (pointNumber n c) 0 / 8 % 8) ≡ true)
     go true e y f z i = (X, e)
     go false e true f z i = (Y, f)
     go false e false f true i = (Z, i)
-    go false e false f false i = absurd (h (ap₂ (λ (p : Bool) (q : ℕ). value p 1 + q) e (ap₂ (λ (p q : Bool). value p 2 + value q 4) f i)))
+    go false e false f false i = absurd (h (sym (small-byte (getD w (pointNumber n c) 0 / 8 % 8) (omega arith)) ∙ ap₂ (λ (p : Bool) (q : ℕ). value p 1 + q) e (ap₂ (λ (p q : Bool). value p 2 + value q 4) f i)))
 
-pub none-own : (F : Set) (c : Point) → byteAt F c ≡ 0 → (a : Axis) → F a c ≡ false
-none-own F c h a = sym (has-byte F a c) ∙ ap (λ (b : ℕ). Rattle.rules.specs.Grid.has a b) h ∙ zero-has a
-  where
-    zero-has : (a : Axis) → Rattle.rules.specs.Grid.has a 0 ≡ false
-    zero-has X = refl
-    zero-has Y = refl
-    zero-has Z = refl
+-- a point with an odd lower face is a cell
+pub low-cell : (n : ℕ) (w : List ℕ) (c : Point) → Fine n w → OfGrid n c → (getD w (pointNumber n c) 0 / 8 % 8 ≡ 0 → ⊥) → Cell n c
+low-cell n w c f g h = let s = some-low n w c h in face-cell n (s .0) c (f .between (s .0) c g (s .1)) .0
 
-pub came-same : (n : ℕ) (g h : List ℕ) → ((i : ℕ) → getD g i 0 / 8 ≡ getD h i 0 / 8) → came n g ≡ came n h
-unfolding came
-came-same n g h e = fun-ext (λ a. fun-ext (λ p. ap (λ (b : ℕ). edgeIn (whole n) a p && Rattle.rules.specs.Grid.has a b) (e (pointNumber n p))))
+pub fit-of : (n : ℕ) (F : Set) (w v : List ℕ) (c : Point) (b : Box) → Found n F w v c b → Fits n b
+fit-of n F w v c b f = fits-of n b c (f .least (whole n) (λ q h. cell-whole n q (h .cell))) (f .holds c (f .first))
 
-pub fine-same : (n : ℕ) (g h : List ℕ) → ((i : ℕ) → getD h i 0 / 8 ≡ getD g i 0 / 8) → Fine n g → Fine n h
-fine-same n g h e f = record { inner = λ a p b o. f .inner a p b (ap (Rattle.rules.specs.Grid.has a) (sym (e (pointNumber n p))) ∙ o) }
+-- ---- one point of the scan, as code does it
+module _ (n : ℕ) (g w : List ℕ) (c : Point) where
+  pub move-none : getD w (pointNumber n c) 0 / 8 % 8 ≡ 0 → Moves n c g w g w 0
+  unfolding oddIn
+  move-none e E inner hit g₀ w₀ k B =
+      none-skip n E hit g₀ w₀ g w k B c
+      (λ a. sym (ap (λ (F : Set). F a c) (B .odd-now)) ∙ ap (λ (x : Bool). faceIn (whole n) a c && x) (none-low n w c e a) ∙ &&-false (faceIn (whole n) a c))
 
-pub fit-of : (n : ℕ) (E : Set) (w v : List ℕ) (c : Point) (b : Box) → Filled n E w v c b → Fits n b
-fit-of n E w v c b F = fits-of n b c (F .least (whole n) (λ q h. cell-whole n q (h .cell))) (F .holds c (F .first))
+  pub move-seen : Cell n c → seenB n w c ≡ true → Moves n c g w g w 0
+  move-seen cell e E inner hit g₀ w₀ k B = seen-skip n E hit g₀ w₀ g w k B c cell e
 
--- ---- one cell of the scan, as code does it
-abbrev pub Moves : ℕ → Point → List ℕ → List ℕ → List ℕ → List ℕ → ℕ → Type 0
-Moves n c g w g₂ w₂ r =
-    (hit : List Place → Bool) (g₀ w₀ : List ℕ) (k : ℕ) → Between n (came n g₀) hit g₀ w₀ g w k → Between n (came n g₀) (λ s. owns c s || hit s) g₀ w₀ g₂ w₂ (k + r)
+  pub move-rim : pointCount n ≤ length g → pointCount n ≤ length w → Fine n w → Cell n c → (getD w (pointNumber n c) 0 / 8 % 8 ≡ 0 → ⊥) → seenB n w c ≡ false → (v : List ℕ) (b : Box) → Found n (oddIn n w) w v c b →
+      (g₂ w₂ : List ℕ) → (g₂ ≡ turns n (patchOf b (stored n v)) g) × (w₂ ≡ works n (patchOf b (stored n v)) v) → Moves n c g w g₂ w₂ 1
+  move-rim lg lw fine cell z dark v b F g₂ w₂ e E inner hit g₀ w₀ k B =
+      let s = some-low n w c z in
+      let o : oddFace E (s .0) c ≡ true = sym (ap (λ (G : Set). G (s .0) c) (B .odd-now)) ∙ sym (odd-face n w fine (s .0) c (cell-grid n c cell)) ∙ s .1 in
+      rim-next n E inner hit g₀ w₀ g w k B lg lw c cell dark (s .0) o v b (subst (λ (G : Set). Found n G w v c b) (B .odd-now) F) g₂ w₂ (e .0) (e .1)
 
-module _ (n : ℕ) (g w : List ℕ) (c : Point) (cell : Cell n c) where
-  pub move-seen : seenB n w c ≡ true → Moves n c g w g w 0
-  move-seen e hit g₀ w₀ k B = seen-skip n (came n g₀) hit g₀ w₀ g w k B c cell e
+  pub fine-after : pointCount n ≤ length w → Fine n w → (v : List ℕ) (b : Box) → Found n (oddIn n w) w v c b → (w₂ : List ℕ) → w₂ ≡ works n (patchOf b (stored n v)) v → Fine n w₂
+  fine-after lw f v b F w₂ e = record { between = λ a p l o. f .between a p l (sym (F .odds a p l) ∙ sym (same a p) ∙ o) }
+    where
+      same : (a : Axis) (p : Point) → layer 8 n w₂ a p ≡ layer 8 n v a p
+      same a p = ap (has a) (ap (λ (s : List ℕ). getD s (pointNumber n p) 0 / 8) e
+          ∙ turns-high n (each facesOf (patchOf b (stored n v))) v (pointNumber n p) (low-faces n (patchOf b (stored n v)) (patch-edged n b (stored n v) (fit-of n (oddIn n w) w v c b F))) (let z = F .long in omega arith))
 
-  pub move-none : byteAt (oddFace (came n g)) c ≡ 0 → Moves n c g w g w 0
-  move-none e hit g₀ w₀ k B = none-skip n (came n g₀) hit g₀ w₀ g w k B c (none-own (oddFace (came n g₀)) c (sym (ap (λ (E : Set). byteAt (oddFace E) c) (came-same n g g₀ (B .came-in))) ∙ e))
+-- ---- one point of the scan, told by its number and its byte
+module _ (n : ℕ) (g w : List ℕ) (p : ℕ) (below : p < pointCount n) where
+  byte-at : getD w (pointNumber n (pointOf n p)) 0 ≡ getD w p 0
+  byte-at = ap (λ (i : ℕ). getD w i 0) (number-pointOf n p)
 
-  pub move-rim : pointCount n ≤ length g → pointCount n ≤ length w → seenB n w c ≡ false → (byteAt (oddFace (came n g)) c ≡ 0 → ⊥) → (v : List ℕ) (b : Box) → Filled n (came n g) w v c b → (g₂ w₂ : List ℕ) →
-      (g₂ ≡ turns n (patchOf b (stored n v)) g) × (w₂ ≡ works n (patchOf b (stored n v)) v) → Moves n c g w g₂ w₂ 1
-  move-rim lg lw dark z v b F g₂ w₂ e hit g₀ w₀ k B =
-      let q = came-same n g g₀ (B .came-in) in
-      let s = some-own (oddFace (came n g)) c z in
-      rim-next n (came n g₀) (came-inner n g₀) hit g₀ w₀ g w k B lg lw c cell dark (s .0) (subst (λ (E : Set). oddFace E (s .0) c ≡ true) q (s .1)) v b (subst (λ (E : Set). Filled n E w v c b) q F) g₂ w₂ (e .0) (e .1)
+  some-at : (getD w p 0 / 8 % 8 ≡ 0 → ⊥) → getD w (pointNumber n (pointOf n p)) 0 / 8 % 8 ≡ 0 → ⊥
+  some-at h e = h (sym (ap (λ (b : ℕ). b / 8 % 8) byte-at) ∙ e)
 
-  pub fine-after : pointCount n ≤ length g → Fine n g → (v : List ℕ) (b : Box) → Filled n (came n g) w v c b → (g₂ : List ℕ) → g₂ ≡ turns n (patchOf b (stored n v)) g → Fine n g₂
-  fine-after lg f v b F g₂ e = fine-same n g g₂ (λ i. ap (λ (s : List ℕ). getD s i 0 / 8) e ∙ turns-high n (patchOf b (stored n v)) g i (low-edges n (patchOf b (stored n v)) (patch-edged n b (stored n v) (fit-of n (came n g) w v c b F))) lg) f
+  pub at-none : getD w p 0 / 8 % 8 ≡ 0 → Moves n (pointOf n p) g w g w 0
+  at-none e = move-none n g w (pointOf n p) (ap (λ (b : ℕ). b / 8 % 8) byte-at ∙ e)
+
+  pub at-cell : Fine n w → (getD w p 0 / 8 % 8 ≡ 0 → ⊥) → Cell n (pointOf n p)
+  at-cell f h = low-cell n w (pointOf n p) f (pointOf-grid n p below) (some-at h)
+
+  pub at-seen : Fine n w → (getD w p 0 / 8 % 8 ≡ 0 → ⊥) → getD w p 0 / 64 % 2 ≡ 1 → Moves n (pointOf n p) g w g w 0
+  unfolding seenB
+  at-seen f h e = move-seen n g w (pointOf n p) (at-cell f h) (ap (λ (b : ℕ). has X (b / 64)) byte-at ∙ eqb-yes (getD w p 0 / 64 % 2) 1 e)
+
+  pub at-dark : (getD w p 0 / 64 % 2 ≡ 1 → ⊥) → seenB n w (pointOf n p) ≡ false
+  unfolding seenB
+  at-dark e = ap (λ (b : ℕ). has X (b / 64)) byte-at ∙ eqb-no (getD w p 0 / 64 % 2) 1 e
+
+  pub at-rim : pointCount n ≤ length g → pointCount n ≤ length w → Fine n w → (getD w p 0 / 8 % 8 ≡ 0 → ⊥) → (getD w p 0 / 64 % 2 ≡ 1 → ⊥) → (seed : Point) → seed ≡ pointOf n p → (v : List ℕ) (b : Box) → Found n (oddIn n w) w v seed b →
+      (g₂ w₂ : List ℕ) → (g₂ ≡ turns n (patchOf b (stored n v)) g) × (w₂ ≡ works n (patchOf b (stored n v)) v) → Moves n (pointOf n p) g w g₂ w₂ 1 × Fine n w₂
+  at-rim lg lw f h d seed es v b F g₂ w₂ e =
+      let G = subst (λ (q : Point). Found n (oddIn n w) w v q b) es F in
+      (move-rim n g w (pointOf n p) lg lw f (at-cell f h) (some-at h) (at-dark d) v b G g₂ w₂ e, fine-after n g w (pointOf n p) lw f v b G w₂ (e .1))

@@ -40,6 +40,13 @@ pub paint-more : (f : ℕ → ℕ) (k : ℕ) (s t : List ℕ) → t ≡ paint f 
 unfolding paint
 paint-more f k s t e = ap (λ (u : List ℕ). set u k (f (getD u k 0))) e ∙ ap (λ (v : ℕ). set (paint f k s) k (f v)) (paint-past f k s k (omega arith)) ∙ ap (λ (j : ℕ). paint f j s) (sym (add-one k))
 
+-- the next byte is there
+pub paint-room : (f : ℕ → ℕ) (k p : ℕ) (s t : List ℕ) → t ≡ paint f p s → p < k → k ≤ length s → p < length t
+paint-room f k p s t e l h = let n = ap length e ∙ paint-length f p s in omega arith
+
+pub paint-kept : (f : ℕ → ℕ) (p : ℕ) (s t : List ℕ) → t ≡ paint f p s → length t ≡ length s
+paint-kept f p s t e = ap length e ∙ paint-length f p s
+
 pub paint-read : (f : ℕ → ℕ) (k : ℕ) (s t : List ℕ) → t ≡ paint f k s → getD t k 0 ≡ getD s k 0
 paint-read f k s t e = ap (λ (u : List ℕ). getD u k 0) e ∙ paint-past f k s k (omega arith)
 

@@ -1,11 +1,10 @@
 -- One rim: what the walk has seen is the rim, its box is the rim's, and patching it clears the working set. Assumes nothing.
-use mathlib.Core.Path.{_≡_, refl, sym, ap, _∙_, subst, fun-ext}
+use mathlib.Core.Path.{_≡_, refl, sym, ap, ap₂, _∙_, subst, fun-ext}
 use mathlib.Core.Bool.{Bool, true, false, not, _&&_, _||_, true≢false, false≢true}
 use mathlib.Core.List.{List, [], _∷_}
 use mathlib.Core.Logic.{_⊎_, inl, inr}
 use Prim.Native.Nat.{ℕ, zero, suc, pred, _+_, _≤_, _<_}
 use native.Mathlib.Omega.{arith}
-use lib.Dec.{ltb}
 use lib.ListN.{getD}
 use Rattle.rules.specs.Lists.{All}
 use Rattle.rules.proofs.Bits.{and-left, and-right, both, same-test}
@@ -19,7 +18,6 @@ use Rattle.rules.specs.Lattice.{coord, up, down, Set, pointNumber, samePlace, s
 use Rattle.rules.specs.Cell.{oddFace, oddCell, ofCell}
 use Rattle.rules.specs.Rims.{neighbours, boxOf, ownBox, oddFaces, rims, elem, Chain, stay, link}
 use Rattle.rules.specs.Patch.{patchRim, patch, size}
-use Rattle.rules.proofs.Boxes.{faceIn→}
 use Rattle.rules.proofs.Cuts.{samePoint→, samePlace→}
 use Rattle.rules.proofs.Rims.{neighbours-cell, rims-even, touch}
 use Rattle.rules.proofs.Patched.{odd-in, odd-listed, odd-inner, Inner, rims-all, rim-ends}
@@ -32,10 +30,11 @@ use Rattle.rules.proofs.Store.{stored}
 use Rattle.rules.proofs.PatchOf.{patchOf}
 use Rattle.lattice.specs.Cells.{faceOf, indexOf, Cell}
 use Rattle.rules.specs.Lattice.{OfGrid}
-use Rattle.walking.specs.Walks.{seenB, acrossOf, cellBox, Route, here, over, New, Filled}
-use Rattle.walking.proofs.Laws.{face-0, face-1, face-2, face-3, face-4, face-5, low, high, seen-same, below}
-use Rattle.halving.proofs.Turns.{face-low, face-high, pred-suc}
-use Rattle.halving.proofs.Scans.{patchOf-cong, face-low as box-face}
+use Rattle.walking.specs.Walks.{seenB, acrossOf, cellBox, Route, here, over, New, Found}
+use Rattle.lattice.proofs.PointSteps.{up-down}
+use Rattle.walking.proofs.Faces.{which, face-lower, face-upper, across-lower, across-upper, index-small, down-up, pred-most, cell-grid, face-cell, down-cell}
+use Rattle.walking.proofs.Bytes.{seen-same}
+use Rattle.halving.proofs.Boxes.{patchOf-cong, face-grid as box-face}
 use Rattle.halving.specs.Halving.{Fits}
 
 chain-snoc : (l : List Place) (f g h : Place) → Chain l f g → neighbours g h ≡ true → elem h l ≡ true → Chain l f h
@@ -44,65 +43,22 @@ chain-snoc l f g h (link {g = m} a b c) n k = link a b (chain-snoc l m g h c n k
 
 -- a face of the table belongs to its cell and to the one across
 of-own : (f : ℕ) (q : Point) → f < 6 → ofCell q (faceOf f q) ≡ true
-of-own f q l = go f l
+of-own f q l = go (which f l)
   where
-    at : (F : Place) → faceOf f q ≡ F → ofCell q F ≡ true → ofCell q (faceOf f q) ≡ true
-    at F e k = subst (λ (x : Place). ofCell q x ≡ true) (sym e) k
+    two : (x y : Bool) → y ≡ true → x || y ≡ true
+    two true y e = refl
+    two false y e = e
 
-    low-at : (a : Axis) → ofCell q (record { axis = a; at = q }) ≡ true
-    low-at a = ap (λ (x : Bool). x || samePoint q (up a q)) (same-point q)
+    go : ((a : Axis) × (f ≡ indexOf a)) ⊎ ((a : Axis) × (f ≡ indexOf a + 3)) → ofCell q (faceOf f q) ≡ true
+    go (inl e) = subst (λ (x : Place). ofCell q x ≡ true) (sym (ap (λ (g : ℕ). faceOf g q) (e .1) ∙ face-lower (e .0) q)) (ap (λ (x : Bool). x || samePoint q (up (e .0) q)) (same-point q))
+    go (inr e) = subst (λ (x : Place). ofCell q x ≡ true) (sym (ap (λ (g : ℕ). faceOf g q) (e .1) ∙ face-upper (e .0) q)) (two (samePoint (up (e .0) q) q) (samePoint (up (e .0) q) (up (e .0) q)) (same-point (up (e .0) q)))
 
-    high-at : (a : Axis) → ofCell q (record { axis = a; at = up a q }) ≡ true
-    high-at a = two (samePoint (up a q) q) (same-point (up a q))
-      where
-        two : (x : Bool) → samePoint (up a q) (up a q) ≡ true → x || samePoint (up a q) (up a q) ≡ true
-        two true e = refl
-        two false e = e
-
-    go : (k : ℕ) → k < 6 → ofCell q (faceOf k q) ≡ true
-    go zero h = subst (λ (x : Place). ofCell q x ≡ true) (sym (face-0 q)) (low-at X)
-    go (suc zero) h = subst (λ (x : Place). ofCell q x ≡ true) (sym (face-1 q)) (low-at Y)
-    go (suc (suc zero)) h = subst (λ (x : Place). ofCell q x ≡ true) (sym (face-2 q)) (low-at Z)
-    go (suc (suc (suc zero))) h = subst (λ (x : Place). ofCell q x ≡ true) (sym (face-3 q)) (high-at X)
-    go (suc (suc (suc (suc zero)))) h = subst (λ (x : Place). ofCell q x ≡ true) (sym (face-4 q)) (high-at Y)
-    go (suc (suc (suc (suc (suc zero))))) h = subst (λ (x : Place). ofCell q x ≡ true) (sym (face-5 q)) (high-at Z)
-    go (suc (suc (suc (suc (suc (suc k)))))) h = absurd (omega arith)
-
-of-across : (f : ℕ) (q : Point) → ofCell (acrossOf f q) (faceOf f q) ≡ true
-of-across f q = go (ltb f 3) refl
+of-across : (f : ℕ) (q : Point) → f < 6 → ofCell (acrossOf f q) (faceOf f q) ≡ true
+of-across f q l = go (which f l)
   where
-    go : (x : Bool) → ltb f 3 ≡ x → ofCell (acrossOf f q) (faceOf f q) ≡ true
-    go true e = subst (λ (c : Point). ofCell c (faceOf f q) ≡ true) (sym (low f q (faceOf f q .axis) (faceOf f q .at) e refl)) (own-lower (faceOf f q))
-    go false e = subst (λ (c : Point). ofCell c (faceOf f q) ≡ true) (sym (high f q (faceOf f q .axis) (faceOf f q .at) e refl)) (own-upper (faceOf f q))
-
-index-small : (a : Axis) → (indexOf a < 3) × (indexOf a + 3 < 6)
-index-small X = omega arith
-index-small Y = omega arith
-index-small Z = omega arith
-
-across-low : (a : Axis) (p : Point) → acrossOf (indexOf a) p ≡ down a p
-across-low X p = low 0 p X p refl (face-0 p)
-across-low Y p = low 1 p Y p refl (face-1 p)
-across-low Z p = low 2 p Z p refl (face-2 p)
-
-across-high : (a : Axis) (q : Point) → acrossOf (indexOf a + 3) q ≡ up a q
-across-high X q = high 3 q X (up X q) refl (face-3 q)
-across-high Y q = high 4 q Y (up Y q) refl (face-4 q)
-across-high Z q = high 5 q Z (up Z q) refl (face-5 q)
-
-up-down : (a : Axis) (p : Point) → 1 ≤ coord a p → up a (down a p) ≡ p
-up-down X p h = ap (λ (k : ℕ). record { i = k; j = p .j; k = p .k }) (pred-suc (p .i) h)
-up-down Y p h = ap (λ (k : ℕ). record { i = p .i; j = k; k = p .k }) (pred-suc (p .j) h)
-up-down Z p h = ap (λ (k : ℕ). record { i = p .i; j = p .j; k = k }) (pred-suc (p .k) h)
-
-down-up : (a : Axis) (p : Point) → down a (up a p) ≡ p
-down-up X p = ap (λ (k : ℕ). record { i = k; j = p .j; k = p .k }) (let e : pred (suc (p .i)) ≡ p .i = omega arith in e)
-down-up Y p = ap (λ (k : ℕ). record { i = p .i; j = k; k = p .k }) (let e : pred (suc (p .j)) ≡ p .j = omega arith in e)
-down-up Z p = ap (λ (k : ℕ). record { i = p .i; j = p .j; k = k }) (let e : pred (suc (p .k)) ≡ p .k = omega arith in e)
-
-pred-small : (k n : ℕ) → k < n → pred k < n
-pred-small zero n h = h
-pred-small (suc k) n h = let e : pred (suc k) ≡ k = omega arith in omega arith
+    go : ((a : Axis) × (f ≡ indexOf a)) ⊎ ((a : Axis) × (f ≡ indexOf a + 3)) → ofCell (acrossOf f q) (faceOf f q) ≡ true
+    go (inl e) = ap (λ (g : ℕ). ofCell (acrossOf g q) (faceOf g q)) (e .1) ∙ ap₂ ofCell (across-lower (e .0) q) (face-lower (e .0) q) ∙ own-lower (record { axis = e .0; at = q })
+    go (inr e) = ap (λ (g : ℕ). ofCell (acrossOf g q) (faceOf g q)) (e .1) ∙ ap₂ ofCell (across-upper (e .0) q) (face-upper (e .0) q) ∙ own-upper (record { axis = e .0; at = up (e .0) q })
 
 pub record Pair (n : ℕ) (a : Axis) (p : Point) : Type 0 where
   pub upper : Cell n p
@@ -110,18 +66,12 @@ pub record Pair (n : ℕ) (a : Axis) (p : Point) : Type 0 where
   pub above : 1 ≤ coord a p
 
 pub face-cells : (n : ℕ) (a : Axis) (p : Point) → faceIn (whole n) a p ≡ true → Pair n a p
-face-cells n X p e = let b = faceIn→ (whole n) X p e in record { upper = omega arith; lower = record { i = pred-small (p .i) n (b .0 .high); j = b .1 .high; k = b .2 .high }; above = b .0 .low }
-face-cells n Y p e = let b = faceIn→ (whole n) Y p e in record { upper = omega arith; lower = record { i = b .0 .high; j = pred-small (p .j) n (b .1 .high); k = b .2 .high }; above = b .1 .low }
-face-cells n Z p e = let b = faceIn→ (whole n) Z p e in record { upper = omega arith; lower = record { i = b .0 .high; j = b .1 .high; k = pred-small (p .k) n (b .2 .high) }; above = b .2 .low }
+face-cells n a p e = let c = face-cell n a p e in record { upper = c .0; lower = down-cell n a p (c .0); above = c .1 }
 
 own-sub : (a : Axis) (p : Point) (b : Box) → 1 ≤ coord a p → Sub (cellBox p) b → Sub (cellBox (down a p)) b → Sub (ownBox (record { axis = a; at = p })) b
 own-sub X p b l h k = record { lx = k .lx; ly = k .ly; lz = k .lz; hx = h .hx; hy = h .hy; hz = h .hz }
 own-sub Y p b l h k = record { lx = k .lx; ly = k .ly; lz = k .lz; hx = h .hx; hy = h .hy; hz = h .hz }
 own-sub Z p b l h k = record { lx = k .lx; ly = k .ly; lz = k .lz; hx = h .hx; hy = h .hy; hz = h .hz }
-
-pred-most : (k : ℕ) → pred k ≤ k
-pred-most zero = let e : pred 0 ≡ 0 = refl in omega arith
-pred-most (suc k) = let e : pred (suc k) ≡ k = omega arith in omega arith
 
 upper-sub : (h : Place) → Sub (cellBox (h .at)) (ownBox h)
 upper-sub h = go (h .axis) (h .at)
@@ -131,22 +81,16 @@ upper-sub h = go (h .axis) (h .at)
     go Y p = record { lx = omega arith; ly = pred-most (p .j); lz = omega arith; hx = omega arith; hy = omega arith; hz = omega arith }
     go Z p = record { lx = omega arith; ly = omega arith; lz = pred-most (p .k); hx = omega arith; hy = omega arith; hz = omega arith }
 
+suc-mono : (i j : ℕ) → i ≤ j → suc i ≤ suc j
+suc-mono i j e = omega arith
+
 lower-sub : (h : Place) → Sub (cellBox (down (h .axis) (h .at))) (ownBox h)
 lower-sub h = go (h .axis) (h .at)
   where
     go : (a : Axis) (p : Point) → Sub (cellBox (down a p)) (ownBox (record { axis = a; at = p }))
     go X p = let m = pred-most (p .i) in record { lx = omega arith; ly = omega arith; lz = omega arith; hx = suc-mono (pred (p .i)) (p .i) m; hy = omega arith; hz = omega arith }
-      where
-        suc-mono : (i j : ℕ) → i ≤ j → suc i ≤ suc j
-        suc-mono i j e = omega arith
     go Y p = let m = pred-most (p .j) in record { lx = omega arith; ly = omega arith; lz = omega arith; hx = omega arith; hy = suc-mono (pred (p .j)) (p .j) m; hz = omega arith }
-      where
-        suc-mono : (i j : ℕ) → i ≤ j → suc i ≤ suc j
-        suc-mono i j e = omega arith
     go Z p = let m = pred-most (p .k) in record { lx = omega arith; ly = omega arith; lz = omega arith; hx = omega arith; hy = omega arith; hz = suc-mono (pred (p .k)) (p .k) m }
-      where
-        suc-mono : (i j : ℕ) → i ≤ j → suc i ≤ suc j
-        suc-mono i j e = omega arith
 
 pub cell-whole : (n : ℕ) (q : Point) → Cell n q → Sub (cellBox q) (whole n)
 cell-whole n q h = omega arith
@@ -158,7 +102,7 @@ sub-trans : (a b c : Box) → Sub a b → Sub b c → Sub a c
 sub-trans a b c h k = omega arith
 
 module _ (n : ℕ) (E : Set) (inner : (a : Axis) (p : Point) → E a p ≡ true → edgeIn (whole n) a p ≡ true)
-    (w v : List ℕ) (c : Point) (b : Box) (F : Filled n E w v c b) (a₀ : Axis) (o₀ : oddFace E a₀ c ≡ true)
+    (w v : List ℕ) (c : Point) (b : Box) (F : Found n (oddFace E) w v c b) (a₀ : Axis) (o₀ : oddFace E a₀ c ≡ true)
     (shut : (a : Axis) (p : Point) → oddFace E a p ≡ true → seenB n w p ≡ seenB n w (down a p))
     (clear : (a : Axis) (p : Point) → OfGrid n p → stored n w a p ≡ false) where
   abbrev pub f₀ : Place
@@ -170,19 +114,19 @@ module _ (n : ℕ) (E : Set) (inner : (a : Axis) (p : Point) → E a p ≡ true 
   abbrev pub S : Place → Bool
   S g = newB (g .at) && oddFace E (g .axis) (g .at)
 
-  to-new : (q : Point) → Cell n q → newB q ≡ true → New n E w v c q
-  to-new q k e = go (F .each q (below n q k))
+  to-new : (q : Point) → Cell n q → newB q ≡ true → New n (oddFace E) w v c q
+  to-new q k e = go (F .each q (cell-grid n q k))
     where
       clash : (x y : Bool) → x && not y ≡ true → x ≡ y → ⊥
       clash true true p r = false≢true p
       clash true false p r = true≢false r
       clash false y p r = false≢true p
 
-      go : (getD v (pointNumber n q) 0 ≡ getD w (pointNumber n q) 0) ⊎ New n E w v c q → New n E w v c q
+      go : (getD v (pointNumber n q) 0 ≡ getD w (pointNumber n q) 0) ⊎ New n (oddFace E) w v c q → New n (oddFace E) w v c q
       go (inl h) = absurd (clash (seenB n v q) (seenB n w q) e (seen-same n w v q h))
       go (inr h) = h
 
-  pub of-new : (q : Point) → New n E w v c q → newB q ≡ true
+  pub of-new : (q : Point) → New n (oddFace E) w v c q → newB q ≡ true
   of-new q h = both (seenB n v q) (not (seenB n w q)) (h .lit) (ap not (h .dark))
 
   pair-of : (a : Axis) (p : Point) → oddFace E a p ≡ true → Pair n a p
@@ -192,11 +136,11 @@ module _ (n : ℕ) (E : Set) (inner : (a : Axis) (p : Point) → E a p ≡ true 
   cells-agree : (a : Axis) (p : Point) → oddFace E a p ≡ true → newB p ≡ newB (down a p)
   cells-agree a p o = same-test (newB p) (newB (down a p))
       (λ e. both (seenB n v (down a p)) (not (seenB n w (down a p)))
-      (subst (λ (q : Point). seenB n v q ≡ true) (across-low a p) (F .closed p (to-new p (pr .upper) e) (indexOf a) (let i = index-small a in omega arith) (subst (λ (x : Place). oddFace E (x .axis) (x .at) ≡ true) (sym (face-low a p)) o)))
+      (subst (λ (q : Point). seenB n v q ≡ true) (across-lower a p) (F .closed p (to-new p (pr .upper) e) (indexOf a) (let i = index-small a in omega arith) (subst (λ (x : Place). oddFace E (x .axis) (x .at) ≡ true) (sym (face-lower a p)) o)))
       (ap not (sym (shut a p o)) ∙ and-right (seenB n v p) (not (seenB n w p)) e))
       (λ e. both (seenB n v p) (not (seenB n w p))
-      (subst (λ (q : Point). seenB n v q ≡ true) (across-high a (down a p) ∙ up-down a p (pr .above)) (F .closed (down a p) (to-new (down a p) (pr .lower) e) (indexOf a + 3) (index-small a .1)
-      (subst (λ (x : Place). oddFace E (x .axis) (x .at) ≡ true) (sym (face-high a (down a p) ∙ ap (λ (q : Point). record { axis = a; at = q }) (up-down a p (pr .above)))) o)))
+      (subst (λ (q : Point). seenB n v q ≡ true) (across-upper a (down a p) ∙ up-down a p (pr .above)) (F .closed (down a p) (to-new (down a p) (pr .lower) e) (indexOf a + 3) (index-small a .1)
+      (subst (λ (x : Place). oddFace E (x .axis) (x .at) ≡ true) (sym (face-upper a (down a p) ∙ ap (λ (q : Point). record { axis = a; at = q }) (up-down a p (pr .above)))) o)))
       (ap not (shut a p o) ∙ and-right (seenB n v (down a p)) (not (seenB n w (down a p))) e))
     where
       pr : Pair n a p
@@ -212,15 +156,15 @@ module _ (n : ℕ) (E : Set) (inner : (a : Axis) (p : Point) → E a p ≡ true 
   listed : (g : Place) → oddFace E (g .axis) (g .at) ≡ true → elem g (oddFaces n E) ≡ true
   listed g o = elem-odd n E inner g ∙ o
 
-  reach : (q : Point) → Route E c q → (h : Place) → ofCell q h ≡ true → oddFace E (h .axis) (h .at) ≡ true → Chain (oddFaces n E) f₀ h
+  reach : (q : Point) → Route (oddFace E) c q → (h : Place) → ofCell q h ≡ true → oddFace E (h .axis) (h .at) ≡ true → Chain (oddFaces n E) f₀ h
   reach q here h k o = link (neighbours-cell c f₀ h (own-upper f₀) k) (listed h o) stay
   reach q (over {q = p} r f l e) h k o =
-      chain-snoc (oddFaces n E) f₀ (faceOf f p) h (reach p r (faceOf f p) (of-own f p l) e) (neighbours-cell (acrossOf f p) (faceOf f p) h (of-across f p) k) (listed h o)
+      chain-snoc (oddFaces n E) f₀ (faceOf f p) h (reach p r (faceOf f p) (of-own f p l) e) (neighbours-cell (acrossOf f p) (faceOf f p) h (of-across f p l) k) (listed h o)
 
   -- each new cell has an odd face
-  some-face : (q : Point) → Route E c q → (h : Place) × (ofCell q h ≡ true) × (oddFace E (h .axis) (h .at) ≡ true)
+  some-face : (q : Point) → Route (oddFace E) c q → (h : Place) × (ofCell q h ≡ true) × (oddFace E (h .axis) (h .at) ≡ true)
   some-face q here = (f₀, own-upper f₀, o₀)
-  some-face q (over {q = p} r f l e) = (faceOf f p, of-across f p, e)
+  some-face q (over {q = p} r f l e) = (faceOf f p, of-across f p l, e)
 
   seed-new : newB c ≡ true
   seed-new = of-new c (F .first)
@@ -228,7 +172,7 @@ module _ (n : ℕ) (E : Set) (inner : (a : Axis) (p : Point) → E a p ≡ true 
   s-odd : (g : Place) → S g ≡ true → oddFace E (g .axis) (g .at) ≡ true
   s-odd g e = and-right (newB (g .at)) (oddFace E (g .axis) (g .at)) e
 
-  s-new : (g : Place) → S g ≡ true → New n E w v c (g .at)
+  s-new : (g : Place) → S g ≡ true → New n (oddFace E) w v c (g .at)
   s-new g e = to-new (g .at) (pair-of (g .axis) (g .at) (s-odd g e) .upper) (and-left (newB (g .at)) (oddFace E (g .axis) (g .at)) e)
 
   -- what was seen is the rim
@@ -249,9 +193,9 @@ module _ (n : ℕ) (E : Set) (inner : (a : Axis) (p : Point) → E a p ≡ true 
       none true false e = absurd (true≢false e)
       none false y e = refl
 
-      go : (getD v (pointNumber n p) 0 ≡ getD w (pointNumber n p) 0) ⊎ New n E w v c p → stored n v a p ≡ newB p && oddFace E a p
+      go : (getD v (pointNumber n p) 0 ≡ getD w (pointNumber n p) 0) ⊎ New n (oddFace E) w v c p → stored n v a p ≡ newB p && oddFace E a p
       go (inl e) = ap (Rattle.rules.specs.Grid.has a) e ∙ clear a p l ∙ sym (ap (λ (x : Bool). x && oddFace E a p) (none (seenB n v p) (seenB n w p) (seen-same n w v p e)))
-      go (inr h) = h .faces a ∙ sym (ap (λ (x : Bool). x && oddFace E a p) (of-new p h))
+      go (inr h) = F .faces p h a ∙ sym (ap (λ (x : Bool). x && oddFace E a p) (of-new p h))
 
   pub fits : Fits n b
   fits =
@@ -280,7 +224,7 @@ module _ (n : ℕ) (E : Set) (inner : (a : Axis) (p : Point) → E a p ≡ true 
         (λ k. touch-of q (to-new q cell k));
   }
     where
-      held : (q : Point) → New n E w v c q → Sub (cellBox q) (boxOf (f ∷ l))
+      held : (q : Point) → New n (oddFace E) w v c q → Sub (cellBox q) (boxOf (f ∷ l))
       held q h =
           let x = some-face q (h .route) in
           let t : elem (x .0) (f ∷ l) ≡ true = sym (s (x .0)) ∙ both (newB (x .0 .at)) _ (at-cell (x .0) q (x .2) (x .1) ∙ of-new q h) (x .2) in
@@ -308,7 +252,7 @@ module _ (n : ℕ) (E : Set) (inner : (a : Axis) (p : Point) → E a p ≡ true 
       in-low : (a : Axis) (p : Point) → faceIn b a p ≡ true → OfGrid n p
       in-low a p k = box-face n b fits a p k
 
-      touch-of : (q : Point) → New n E w v c q → touch q (f ∷ l) ≡ true
+      touch-of : (q : Point) → New n (oddFace E) w v c q → touch q (f ∷ l) ≡ true
       touch-of q h =
           let x = some-face q (h .route) in
           let t : elem (x .0) (f ∷ l) ≡ true = sym (s (x .0)) ∙ both (newB (x .0 .at)) _ (at-cell (x .0) q (x .2) (x .1) ∙ of-new q h) (x .2) in

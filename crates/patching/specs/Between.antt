@@ -1,29 +1,41 @@
--- The buffers between two rims, while the cells are scanned. Assumes nothing.
+-- The buffers between two rims, while the points are scanned. Assumes nothing.
 use mathlib.Core.Path.{_≡_}
-use mathlib.Core.Bool.{Bool, false, _&&_}
+use mathlib.Core.Bool.{Bool, true, false, _&&_, _||_}
 use mathlib.Core.List.{List, [], _∷_}
-use Prim.Native.Nat.{ℕ, zero, suc, _/_, _%_, _≤_}
+use Prim.Native.Nat.{ℕ, zero, suc, _+_, _/_, _≤_}
 use lib.ListN.{length, getD}
 use Rattle.rules.specs.Lists.{_⊕_, parity, anyOf, count}
 use Rattle.rules.specs.declared.Axis.{Axis}
 use Rattle.rules.specs.declared.Point.{Point}
 use Rattle.rules.specs.declared.Place.{Place}
-use Rattle.rules.specs.Lattice.{Set, setOf, samePoint, pointCount, OfGrid}
+use Rattle.rules.specs.Lattice.{Set, setOf, samePoint, edgeIn, whole, pointCount, pointOf, OfGrid}
+use Rattle.rules.specs.Cell.{oddFace}
 use Rattle.rules.specs.Rims.{rims}
 use Rattle.rules.specs.Patch.{flips, patchRim}
 use Rattle.rules.proofs.Rims.{touch}
 use Rattle.rules.proofs.Store.{stored}
 use Rattle.lattice.specs.Cells.{Cell}
-use Rattle.walking.specs.Walks.{seenB}
+use Rattle.walking.specs.Walks.{oddIn, seenB}
 
--- the cells scanned so far that a rim has a lower face of
+-- a rim has a face at the point
 abbrev pub owns : Point → List Place → Bool
 owns c r = anyOf (λ f. samePoint (f .at) c) r
 
+-- a rim has a face at one of the points
 abbrev pub hits : List Point → List Place → Bool
 hits l r = anyOf (λ c. owns c r) l
 
--- the buffers between two rims: `hit` says which rims have been patched
+-- the points of numbers below k, the last one first
+abbrev pub pointsBelow : ℕ → ℕ → List Point
+pointsBelow n zero = []
+pointsBelow n (suc k) = pointOf n k ∷ pointsBelow n k
+
+-- no rim
+abbrev pub none : List Place → Bool
+none r = false
+
+-- the rims that are hit have been patched and counted, k of them: their flips are made, their cells have been seen, no face is in the
+-- working set, and the odd faces and the marks as they came are as they were
 pub record Between (n : ℕ) (E : Set) (hit : List Place → Bool) (g₀ w₀ g w : List ℕ) (k : ℕ) : Type 0 where
   pub g-long : length g ≡ length g₀
   pub w-long : length w ≡ length w₀
@@ -32,18 +44,11 @@ pub record Between (n : ℕ) (E : Set) (hit : List Place → Bool) (g₀ w₀ g 
   pub came-in : (i : ℕ) → getD g i 0 / 8 ≡ getD g₀ i 0 / 8
   pub marks-now : (a : Axis) (p : Point) → OfGrid n p → stored n g a p ≡ stored n g₀ a p ⊕ parity (λ r. hit r && setOf (patchRim r) a p) (rims n E)
   pub work-now : (a : Axis) (p : Point) → OfGrid n p → stored n w a p ≡ false
+  pub odd-now : oddIn n w ≡ oddFace E
   pub seen-now : (q : Point) → Cell n q → seenB n w q ≡ anyOf (λ r. hit r && touch q r) (rims n E)
   pub counted : k ≡ count hit (rims n E)
 
--- the cell of a number, and the cells below one
-unfoldable pub cellOf : ℕ → ℕ → Point
-cellOf n k = record { i = k % n; j = k / n % n; k = k / n / n }
-
-abbrev pub cellsBelow : ℕ → ℕ → List Point
-cellsBelow n zero = []
-cellsBelow n (suc k) = cellOf n k ∷ cellsBelow n k
-
--- every rim has been patched
+-- every rim has been patched and counted
 pub record Finished (n : ℕ) (E : Set) (g₀ w₀ g w : List ℕ) (k : ℕ) : Type 0 where
   pub g-long : length g ≡ length g₀
   pub w-long : length w ≡ length w₀
@@ -53,5 +58,15 @@ pub record Finished (n : ℕ) (E : Set) (g₀ w₀ g w : List ℕ) (k : ℕ) : T
   pub marks-now : (a : Axis) (p : Point) → OfGrid n p → stored n g a p ≡ stored n g₀ a p ⊕ setOf (flips n E) a p
   pub counted : k ≡ length (rims n E)
 
-abbrev pub none : List Place → Bool
-none r = false
+-- marks on inner edges only
+abbrev pub Inner : ℕ → Set → Type 0
+Inner n E = (a : Axis) (p : Point) → E a p ≡ true → edgeIn (whole n) a p ≡ true
+
+-- what one point of the scan does, whatever rims have been hit before: the rims with a face at the point are hit too, r more
+abbrev pub Moves : ℕ → Point → List ℕ → List ℕ → List ℕ → List ℕ → ℕ → Type 0
+Moves n c g w g₂ w₂ r =
+    (E : Set) → Inner n E → (hit : List Place → Bool) (g₀ w₀ : List ℕ) (k : ℕ) → Between n E hit g₀ w₀ g w k → Between n E (λ s. owns c s || hit s) g₀ w₀ g₂ w₂ (k + r)
+
+-- what the whole scan does, from no rim hit
+abbrev pub AllPatched : ℕ → List ℕ → List ℕ → List ℕ → List ℕ → ℕ → Type 0
+AllPatched n g w g₂ w₂ r = (E : Set) → Inner n E → Between n E none g w g w 0 → Finished n E g w g₂ w₂ r

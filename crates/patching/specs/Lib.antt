@@ -1,3 +1,4 @@
 pub mod Paint
+pub mod Marked
 pub mod Between
 pub mod Call

@@ -1,27 +1,28 @@
 // The call patch.
-use halving::halves;
+use halving::patch_box;
+use halving::turn_faces;
+use lattice::bit;
 use lattice::level::Level;
 use lattice::level::LevelRead;
 use lattice::level::point_count;
 use lattice::scan::is_grid;
+use rules::Axis;
 use rules::Point;
-use walking::fill;
-use walking::own;
-use walking::seen;
+use walking::find_rim;
 ghost use mathlib.Core.Path.{_≡_};
-ghost use mathlib.Core.Bool.{Bool, true, _||_};
-ghost use mathlib.Core.List.{List};
-ghost use Prim.Native.Nat.{ℕ, _≤_, _<_, _+_, _*_, _/_, _%_};
+ghost use mathlib.Core.Bool.{true};
+ghost use Prim.Native.Nat.{ℕ, _≤_, _<_};
 ghost use lib.ListN.{length, getD};
-ghost use Rattle.rules.specs.declared.Place.{Place};
-ghost use Rattle.rules.specs.Rims.{rims};
-ghost use Rattle.lattice.specs.Cells.{Cell};
-ghost use Rattle.walking.specs.Walks.{came, Fine};
-ghost use Rattle.rules.specs.Grid.{isGrid};
+ghost use Rattle.rules.specs.declared.Axis.{Axis};
+ghost use Rattle.rules.specs.Lattice.{pointCount, pointOf};
+ghost use Rattle.rules.specs.Grid.{has, isGrid};
+ghost use Rattle.lattice.specs.Cells.{works};
+ghost use Rattle.walking.specs.Walks.{Fine};
+ghost use Rattle.halving.specs.Halving.{Edged};
+ghost use Rattle.patching.specs.Paint.{paint, gap, gaps, nine, eight, low, nought};
+ghost use Rattle.patching.specs.Marked.{markAt, marksAt, marksFrom};
+ghost use Rattle.patching.specs.Between.{Moves, AllPatched};
 ghost use Rattle.patching.specs.Call.{told, counted, patchDone, patchSized, patchCall};
-ghost use Rattle.patching.specs.Between.{owns, none, cellOf, Between, Finished};
-ghost use Rattle.rules.specs.Lattice.{pointCount};
-ghost use Rattle.patching.specs.Paint.{paint, gap, gaps, nine, low, nought};
 
 // What patch answers: the counts, or why it is refused.
 pub enum PatchAnswer {
@@ -75,7 +76,9 @@ pub fn patch_grid(n: usize, grid: &mut [u8], work: &mut [u8]) -> Counts
     ensures { λ r. ⌜ counted (r .rims) (r .flips) (now (grid .exit)) (now (work .exit)) ≡ patchDone n (now (grid .entry)) (now (work .entry)) ⌝ }
 {
     let count = point_count(n);
-    prepare(count, grid, work);
+    clear(count, work);
+    find_odd(n, grid, work);
+    put_by(count, grid, work);
     let rims = all_rims(n, grid, work);
     let flips = finish(count, grid, work);
     Counts {
@@ -84,60 +87,112 @@ pub fn patch_grid(n: usize, grid: &mut [u8], work: &mut [u8]) -> Counts
     }
 }
 
-// Patches the rim that has a lower face of the cell c, if there is one and it hasn't been patched.
-fn rim_at(n: usize, grid: &mut [u8], work: &mut [u8], c: Point) -> u32
-    requires { ⌜ (n ≤ 32) × (pointCount n ≤ length (now grid)) × (pointCount n ≤ length (now work)) × Cell n c × Fine n (now grid) ⌝ }
-    ensures { λ r. ⌜ (r ≤ 1) × ((hit : List Place → Bool) (g₀ w₀ : List ℕ) (k : ℕ) → Between n (came n g₀) hit g₀ w₀ (now (grid .entry)) (now (work .entry)) k
-        → Between n (came n g₀) (λ s. owns c s || hit s) g₀ w₀ (now (grid .exit)) (now (work .exit)) (k + r)) × Fine n (now (grid .exit)) ⌝ }
+// Clears the first bytes of a buffer.
+fn clear(count: usize, work: &mut [u8])
+    requires { ⌜ count ≤ length (now work) ⌝ }
+    ensures { λ _. ⌜ now (work .exit) ≡ paint nought count (now (work .entry)) ⌝ }
 {
-    if seen(n, work, c) {
-        return 0;
-    }
-    if own(n, grid, c) == 0 {
-        return 0;
-    }
-    let b = fill(n, grid, work, c);
-    halves(n, grid, work, b);
-    1
-}
-
-fn cell_of(n: usize, k: usize) -> Point
-    requires { ⌜ (1 ≤ n) × (n ≤ 32) × (k < n * n * n) ⌝ }
-    ensures { λ r. ⌜ (r ≡ cellOf n k) × Cell n r ⌝ }
-{
-    Point {
-        i: k % n,
-        j: k / n % n,
-        k: k / n / n,
+    let mut p: usize = 0;
+    while p < count {
+        work[p] = 0;
+        p += 1;
     }
 }
 
-// Patches every rim, and counts them.
-pub fn all_rims(n: usize, grid: &mut [u8], work: &mut [u8]) -> u32
-    requires { ⌜ (1 ≤ n) × (n ≤ 32) × (pointCount n ≤ length (now grid)) × (pointCount n ≤ length (now work)) × Fine n (now grid) ⌝ }
-    ensures { λ r. ⌜ (Between n (came n (now (grid .entry))) none (now (grid .entry)) (now (work .entry)) (now (grid .entry)) (now (work .entry)) 0
-        → Finished n (came n (now (grid .entry))) (now (grid .entry)) (now (work .entry)) (now (grid .exit)) (now (work .exit)) r) ⌝ }
+// Reverses the four faces of the edge along a at point number p, if the point's byte b marks it.
+fn turn_mark(n: usize, work: &mut [u8], p: usize, b: u8, a: Axis)
+    requires { ⌜ (n ≤ 32) × (pointCount n ≤ length (now work)) × (p < pointCount n) × (has a b ≡ true → Edged n (record { axis = a; at = pointOf n p })) ⌝ }
+    ensures { λ _. ⌜ now (work .exit) ≡ works n (markAt a b (pointOf n p)) (now (work .entry)) ⌝ }
 {
-    let mut found: u32 = 0;
-    let mut k: usize = 0;
-    while k < n * n * n {
-        found += rim_at(n, grid, work, cell_of(n, k));
-        k += 1;
+    if !bit(b, a) {
+        return;
     }
-    found
+    turn_faces(n, work, p, a);
 }
 
-// Puts each mark beside itself, into the bits 8, 16, 32, and clears the work bytes.
-pub fn prepare(count: usize, grid: &mut [u8], work: &mut [u8])
-    requires { ⌜ (count ≤ length (now grid)) × (count ≤ length (now work)) × ((i : ℕ) → i < count → getD (now grid) i 0 ≤ 7) ⌝ }
-    ensures { λ _. ⌜ (now (grid .exit) ≡ paint nine count (now (grid .entry))) × (now (work .exit) ≡ paint nought count (now (work .entry))) ⌝ }
+// Reverses the four faces of each marked edge at point number p, whose byte is b.
+fn turn_marks(n: usize, work: &mut [u8], p: usize, b: u8)
+    requires { ⌜ (n ≤ 32) × (pointCount n ≤ length (now work)) × (p < pointCount n) × ((a : Axis) → has a b ≡ true → Edged n (record { axis = a; at = pointOf n p })) ⌝ }
+    ensures { λ _. ⌜ now (work .exit) ≡ works n (marksAt b (pointOf n p)) (now (work .entry)) ⌝ }
+{
+    if b == 0 {
+        return;
+    }
+    turn_mark(n, work, p, b, Axis::X);
+    turn_mark(n, work, p, b, Axis::Y);
+    turn_mark(n, work, p, b, Axis::Z);
+}
+
+// Finds the odd faces: each marked edge reverses its four faces, and those reversed an odd number of times are left.
+fn find_odd(n: usize, grid: &[u8], work: &mut [u8])
+    requires { ⌜ (n ≤ 32) × (pointCount n ≤ length (now grid)) × (pointCount n ≤ length (now work))
+        × ((i : ℕ) → i < pointCount n → (a : Axis) → has a (getD (now grid) i 0) ≡ true → Edged n (record { axis = a; at = pointOf n i })) ⌝ }
+    ensures { λ _. ⌜ now (work .exit) ≡ works n (marksFrom n (now (grid .entry)) 0 (pointCount n)) (now (work .entry)) ⌝ }
+{
+    let count = point_count(n);
+    let mut p: usize = 0;
+    while p < count {
+        turn_marks(n, work, p, grid[p]);
+        p += 1;
+    }
+}
+
+// Puts each mark beside itself, into the bits 8, 16 and 32, and moves each odd face there.
+fn put_by(count: usize, grid: &mut [u8], work: &mut [u8])
+    requires { ⌜ (count ≤ length (now grid)) × (count ≤ length (now work)) × ((i : ℕ) → i < count → getD (now grid) i 0 ≤ 7) × ((i : ℕ) → i < count → getD (now work) i 0 ≤ 7) ⌝ }
+    ensures { λ _. ⌜ (now (grid .exit) ≡ paint nine count (now (grid .entry))) × (now (work .exit) ≡ paint eight count (now (work .entry))) ⌝ }
 {
     let mut p: usize = 0;
     while p < count {
         grid[p] = grid[p] * 9;
-        work[p] = 0;
+        work[p] = work[p] * 8;
         p += 1;
     }
+}
+
+// The point of a number.
+fn point_of(n: usize, p: usize) -> Point
+    requires { ⌜ n ≤ 32 ⌝ }
+    ensures { λ r. ⌜ r ≡ pointOf n p ⌝ }
+{
+    let w = n + 1;
+    Point {
+        i: p % w,
+        j: p / w % w,
+        k: p / w / w,
+    }
+}
+
+// Finds and patches the rim that has a lower face at point number p, if there is one that hasn't been patched. Answers how many it patched.
+fn rim_at(n: usize, grid: &mut [u8], work: &mut [u8], p: usize) -> u32
+    requires { ⌜ (n ≤ 32) × (pointCount n ≤ length (now grid)) × (pointCount n ≤ length (now work)) × (p < pointCount n) × Fine n (now work) ⌝ }
+    ensures { λ r. ⌜ (r ≤ 1) × Moves n (pointOf n p) (now (grid .entry)) (now (work .entry)) (now (grid .exit)) (now (work .exit)) r × Fine n (now (work .exit)) ⌝ }
+{
+    let b = work[p];
+    if b / 8 % 8 == 0 {
+        return 0;
+    }
+    if b / 64 % 2 == 1 {
+        return 0;
+    }
+    let reach = find_rim(n, work, point_of(n, p));
+    patch_box(n, grid, work, reach);
+    1
+}
+
+// Patches every rim, and counts them. The points are scanned once.
+fn all_rims(n: usize, grid: &mut [u8], work: &mut [u8]) -> u32
+    requires { ⌜ (n ≤ 32) × (pointCount n ≤ length (now grid)) × (pointCount n ≤ length (now work)) × Fine n (now work) ⌝ }
+    ensures { λ r. ⌜ AllPatched n (now (grid .entry)) (now (work .entry)) (now (grid .exit)) (now (work .exit)) r ⌝ }
+{
+    let count = point_count(n);
+    let mut found: u32 = 0;
+    let mut p: usize = 0;
+    while p < count {
+        found += rim_at(n, grid, work, p);
+        p += 1;
+    }
+    found
 }
 
 // How many of a point's three marks differ from those that came.
@@ -152,7 +207,7 @@ fn gap_of(b: u8) -> u32
 }
 
 // Keeps the marks as they are now, clears the work bytes, and counts the edges whose mark differs.
-pub fn finish(count: usize, grid: &mut [u8], work: &mut [u8]) -> u32
+fn finish(count: usize, grid: &mut [u8], work: &mut [u8]) -> u32
     requires { ⌜ (count ≤ 35937) × (count ≤ length (now grid)) × (count ≤ length (now work)) ⌝ }
     ensures { λ r. ⌜ (r ≡ gaps count (now (grid .entry))) × (now (grid .exit) ≡ paint low count (now (grid .entry))) × (now (work .exit) ≡ paint nought count (now (work .entry))) ⌝ }
 {

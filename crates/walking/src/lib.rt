@@ -1,129 +1,69 @@
-// The cells of one rim, seen by a walk that keeps its way back in the cells' bytes.
-use lattice::bit;
-use lattice::face;
+// The cells of one rim, found by a walk that keeps its way back in the cells' bytes.
+use lattice::face_rule;
+use lattice::index;
 use lattice::number_of;
-use lattice::odd;
+use lattice::step;
 use rules::Axis;
 use rules::Box;
 use rules::Point;
 ghost use mathlib.Core.Path.{_≡_};
 ghost use mathlib.Core.Bool.{false};
-ghost use Prim.Native.Nat.{_≤_, _<_, _+_, _*_, _/_, min, max};
-ghost use lib.ListN.{length, getD};
-ghost use Rattle.rules.specs.Lattice.{pointNumber, down, pointCount};
-ghost use Rattle.rules.specs.Grid.{byteAt};
-ghost use Rattle.rules.specs.Cell.{oddFace};
+ghost use Prim.Native.Nat.{_≤_, _<_, _+_, _/_, min, max};
+ghost use lib.Dec.{eqb};
+ghost use lib.ListN.{length};
+ghost use Rattle.rules.specs.declared.Axis.the-variants.{X};
+ghost use Rattle.rules.specs.Lattice.{OfGrid, pointOf, pointCount};
+ghost use Rattle.rules.specs.Grid.{has, value};
 ghost use Rattle.rules.specs.Rims.{joinBox};
-ghost use Rattle.rules.specs.Lattice.{OfGrid};
 ghost use Rattle.lattice.specs.Cells.{Cell};
-ghost use Rattle.walking.specs.Walks.{came, Fine, seenB, acrossOf, opposite, backOf, visitOf, firstOpen, openB, cellBox, Walked, stepOf, Filled};
+ghost use Rattle.walking.specs.Walks.{oddIn, Fine, seenB, lightOf, wayOf, leaveOf, Inside, acrossOf, opposite, openB, firstOpen, cellBox, Walked, stepOf, Found};
 
-// Where the walk stands, how many steps it is from its beginning, the box of what it has seen, and whether it goes on.
+// The cell where the walk stands, how many cells lie behind it on the way back, the box of all that it has seen, and whether it goes on.
 pub struct Walk {
-    pub c: Point,
+    pub cell: Point,
     pub depth: usize,
-    pub b: Box,
+    pub reach: Box,
     pub on: bool,
 }
 
-// Whether a cell has been seen.
-pub fn seen(n: usize, work: &[u8], c: Point) -> bool
-    requires { ⌜ (n ≤ 32) × (pointCount n ≤ length (now work)) × OfGrid n c ⌝ }
-    ensures { λ r. ⌜ r ≡ seenB n (now (work .entry)) c ⌝ }
+// 1 where a byte says that its cell has been seen, else 0.
+fn seen_bit(b: u8) -> u8
+    ensures { λ r. ⌜ r ≡ value (has X (b / 64)) 1 ⌝ }
 {
-    let at = number_of(n, c);
-    bit(work[at] / 8, Axis::X)
+    b / 64 % 2
 }
 
-fn less_one(k: usize) -> usize
-    ensures { λ r. ⌜ r + 1 ≡ max k 1 ⌝ }
+// 1 where a byte says that its cell's lower face on an axis is odd, else 0.
+fn odd_bit(b: u8, a: Axis) -> u8
+    ensures { λ r. ⌜ (r ≡ value (has a (b / 8)) 1) × (r ≤ 1) ⌝ }
 {
-    if k == 0 {
-        return 0;
-    }
-    k - 1
+    ((b / 8) >> index(a)) % 2
 }
 
-pub fn step_down(p: Point, a: Axis) -> Point
-    ensures { λ r. ⌜ r ≡ down a p ⌝ }
+// Whether face f of the cell at point number `at` is odd and leads to a cell not yet seen.
+fn is_open(n: usize, work: &[u8], at: usize, f: usize) -> bool
+    requires { ⌜ (n ≤ 32) × (pointCount n ≤ length (now work)) × (at < pointCount n) × Cell n (pointOf n at) × Fine n (now work) × (f < 6) ⌝ }
+    ensures { λ r. ⌜ r ≡ openB n (oddIn n (now (work .entry))) (now (work .entry)) (pointOf n at) f ⌝ }
 {
-    let mut q = p;
-    match a {
-        Axis::X => {
-            q.i = less_one(p.i);
-        }
-        Axis::Y => {
-            q.j = less_one(p.j);
-        }
-        Axis::Z => {
-            q.k = less_one(p.k);
-        }
-    }
-    q
-}
-
-// The cell across face f of a cell.
-fn across(n: usize, c: Point, f: usize) -> Point
-    requires { ⌜ (n ≤ 32) × OfGrid n c × (f < 6) ⌝ }
-    ensures { λ r. ⌜ r ≡ acrossOf f c ⌝ }
-{
-    let e = face(n, c, f);
-    let p = e.at;
+    let e = face_rule(f);
     let a = e.axis;
+    let p = at + number_of(n, e.at);
+    let odd = odd_bit(work[p], a);
     if f < 3 {
-        return step_down(p, a);
+        let q = at - (odd as usize) * step(n, a);
+        return seen_bit(work[q]) < odd;
     }
-    p
+    seen_bit(work[p]) < odd
 }
 
-fn weight(t: bool, w: u8) -> u8
-    ensures { λ r. ⌜ (r ≡ Rattle.rules.specs.Grid.value t w) × (r ≤ w) ⌝ }
-{
-    if t {
-        return w;
-    }
-    0
-}
-
-// The odd ones among a cell's three lower faces.
-pub fn own(n: usize, grid: &[u8], c: Point) -> u8
-    requires { ⌜ (n ≤ 32) × (pointCount n ≤ length (now grid)) × Cell n c × Fine n (now grid) ⌝ }
-    ensures { λ r. ⌜ (r ≡ byteAt (oddFace (came n (now (grid .entry)))) c) × (r < 8) ⌝ }
-{
-    let x = weight(odd(n, grid, 8, c, 0), 1);
-    let y = weight(odd(n, grid, 8, c, 1), 2);
-    let z = weight(odd(n, grid, 8, c, 2), 4);
-    x + (y + z)
-}
-
-// Sees a cell that was reached by way of face f of the cell before it.
-fn visit(n: usize, grid: &[u8], work: &mut [u8], c: Point, f: usize)
-    requires { ⌜ (n ≤ 32) × (pointCount n ≤ length (now grid)) × (pointCount n ≤ length (now work)) × Cell n c × Fine n (now grid) × (f < 6) ⌝ }
-    ensures { λ _. ⌜ now (work .exit) ≡ visitOf n (came n (now (grid .entry))) f c (now (work .entry)) ⌝ }
-{
-    let at = number_of(n, c);
-    let v = own(n, grid, c) + (8 + 16 * (f as u8));
-    work[at] = v;
-}
-
-fn is_open(n: usize, grid: &[u8], work: &[u8], c: Point, f: usize) -> bool
-    requires { ⌜ (n ≤ 32) × (pointCount n ≤ length (now grid)) × (pointCount n ≤ length (now work)) × Cell n c × Fine n (now grid) × (f < 6) ⌝ }
-    ensures { λ r. ⌜ r ≡ openB n (came n (now (grid .entry))) (now (work .entry)) c f ⌝ }
-{
-    if !odd(n, grid, 8, c, f) {
-        return false;
-    }
-    !seen(n, work, across(n, c, f))
-}
-
-// The first face that leads to a cell not yet seen, or 6.
-fn next(n: usize, grid: &[u8], work: &[u8], c: Point) -> usize
-    requires { ⌜ (n ≤ 32) × (pointCount n ≤ length (now grid)) × (pointCount n ≤ length (now work)) × Cell n c × Fine n (now grid) ⌝ }
-    ensures { λ r. ⌜ r ≡ firstOpen n (came n (now (grid .entry))) (now (work .entry)) c 6 0 ⌝ }
+// The first face of a cell that is odd and leads to a cell not yet seen, or 6.
+fn next_face(n: usize, work: &[u8], at: usize) -> usize
+    requires { ⌜ (n ≤ 32) × (pointCount n ≤ length (now work)) × (at < pointCount n) × Cell n (pointOf n at) × Fine n (now work) ⌝ }
+    ensures { λ r. ⌜ r ≡ firstOpen n (oddIn n (now (work .entry))) (now (work .entry)) (pointOf n at) 6 0 ⌝ }
 {
     let mut f: usize = 0;
     while f < 6 {
-        if is_open(n, grid, work, c, f) {
+        if is_open(n, work, at, f) {
             return f;
         }
         f += 1;
@@ -131,17 +71,59 @@ fn next(n: usize, grid: &[u8], work: &[u8], c: Point) -> usize
     f
 }
 
-// The cell that the walk came from.
-fn back(n: usize, work: &[u8], c: Point) -> Point
-    requires { ⌜ (n ≤ 32) × (pointCount n ≤ length (now work)) × OfGrid n c × (opposite (getD (now work) (pointNumber n c) 0 / 16) < 6) ⌝ }
-    ensures { λ r. ⌜ r ≡ backOf n (now (work .entry)) c ⌝ }
+// 1 where two numbers are equal, else 0.
+fn same(f: usize, g: usize) -> usize
+    ensures { λ r. ⌜ (r ≡ value (eqb f g) 1) × (r ≤ 1) ⌝ }
+{
+    if f == g {
+        return 1;
+    }
+    0
+}
+
+// The cell across face f of a cell, where the face lies between two cells.
+fn across(n: usize, c: Point, f: usize) -> Point
+    requires { ⌜ (n ≤ 32) × Cell n c × (f < 6) × Inside n f c ⌝ }
+    ensures { λ r. ⌜ r ≡ acrossOf f c ⌝ }
+{
+    Point {
+        i: c.i + same(f, 3) - same(f, 0),
+        j: c.j + same(f, 4) - same(f, 1),
+        k: c.k + same(f, 5) - same(f, 2),
+    }
+}
+
+// The number that face f of a cell has at the cell across.
+fn opposite_face(f: usize) -> usize
+    requires { ⌜ f < 6 ⌝ }
+    ensures { λ r. ⌜ (r ≡ opposite f) × (r < 6) ⌝ }
+{
+    if f < 3 {
+        return f + 3;
+    }
+    f - 3
+}
+
+// Enters a cell by way of face f of the cell before.
+fn enter(n: usize, work: &mut [u8], c: Point, f: usize)
+    requires { ⌜ (n ≤ 32) × (pointCount n ≤ length (now work)) × OfGrid n c × (f < 6) ⌝ }
+    ensures { λ _. ⌜ now (work .exit) ≡ lightOf n c f (now (work .entry)) ⌝ }
 {
     let at = number_of(n, c);
-    let f = work[at] as usize / 16;
-    if f < 3 {
-        return across(n, c, f + 3);
-    }
-    across(n, c, f - 3)
+    let odd = work[at] / 8 % 8;
+    work[at] = 64 + (odd * 8 + (f as u8));
+}
+
+// Leaves a cell for good: puts its odd lower faces into the working set, and answers the face by which it was entered.
+fn leave(n: usize, work: &mut [u8], c: Point) -> usize
+    requires { ⌜ (n ≤ 32) × (pointCount n ≤ length (now work)) × OfGrid n c ⌝ }
+    ensures { λ r. ⌜ (r ≡ wayOf n (now (work .entry)) c) × (now (work .exit) ≡ leaveOf n c (now (work .entry))) ⌝ }
+{
+    let at = number_of(n, c);
+    let b = work[at];
+    let odd = b / 8 % 8;
+    work[at] = 64 + (odd * 8 + odd);
+    (b % 8) as usize
 }
 
 pub fn least(a: usize, b: usize) -> usize
@@ -182,6 +164,7 @@ fn widen(n: usize, b: Box, c: Point) -> Box
     Box { lo: lo, hi: hi }
 }
 
+// The box of one cell.
 fn single(n: usize, c: Point) -> Box
     requires { ⌜ (n ≤ 32) × OfGrid n c ⌝ }
     ensures { λ r. ⌜ r ≡ cellBox c ⌝ }
@@ -194,59 +177,60 @@ fn single(n: usize, c: Point) -> Box
     Box { lo: c, hi: hi }
 }
 
-// One step of the walk.
-fn step(n: usize, grid: &[u8], work: &mut [u8], s: Walk) -> Walk
-    requires { ⌜ (n ≤ 32) × (pointCount n ≤ length (now grid)) × (pointCount n ≤ length (now work)) × Cell n (s .c) × Fine n (now grid) × (s .depth < 100000)
-        × (opposite (getD (now work) (pointNumber n (s .c)) 0 / 16) < 6) ⌝ }
-    ensures { λ r. ⌜ _≡_ {A = Walked} (record { walk = r; work = now (work .exit) }) (stepOf n (came n (now (grid .entry))) (record { walk = s; work = now (work .entry) })) ⌝ }
+// Takes one step: on to a cell not yet seen, else back to the cell before, else the walk ends.
+fn walk_on(n: usize, work: &mut [u8], s: Walk) -> Walk
+    requires { ⌜ (n ≤ 32) × (pointCount n ≤ length (now work)) × Cell n (s .cell) × Fine n (now work) × (s .depth < 100000)
+        × ((s .depth ≡ 0 → ⊥) → (wayOf n (now work) (s .cell) < 6) × Inside n (opposite (wayOf n (now work) (s .cell))) (s .cell)) ⌝ }
+    ensures { λ r. ⌜ _≡_ {A = Walked} (record { walk = r; work = now (work .exit) }) (stepOf n (oddIn n (now (work .entry))) (record { walk = s; work = now (work .entry) })) ⌝ }
 {
-    let c = s.c;
-    let b = s.b;
+    let c = s.cell;
+    let reach = s.reach;
     let depth = s.depth;
-    let f = next(n, grid, work, c);
+    let f = next_face(n, work, number_of(n, c));
     if f < 6 {
         let d = across(n, c, f);
-        visit(n, grid, work, d, f);
-        let wide = widen(n, b, d);
+        enter(n, work, d, f);
+        let wide = widen(n, reach, d);
         return Walk {
-            c: d,
+            cell: d,
             depth: depth + 1,
-            b: wide,
+            reach: wide,
             on: true,
         };
     }
+    let way = leave(n, work, c);
     if depth == 0 {
         return Walk {
-            c: c,
+            cell: c,
             depth: 0,
-            b: b,
+            reach: reach,
             on: false,
         };
     }
-    let e = back(n, work, c);
+    let back = across(n, c, opposite_face(way));
     Walk {
-        c: e,
+        cell: back,
         depth: depth - 1,
-        b: b,
+        reach: reach,
         on: true,
     }
 }
 
-// Sees every cell that odd faces join to the seed, puts their odd lower faces into the working set, and returns their box.
-pub fn fill(n: usize, grid: &[u8], work: &mut [u8], seed: Point) -> Box
-    requires { ⌜ (n ≤ 32) × (pointCount n ≤ length (now grid)) × (pointCount n ≤ length (now work)) × Cell n seed × Fine n (now grid) × (seenB n (now work) seed ≡ false) ⌝ }
-    ensures { λ r. ⌜ Filled n (came n (now (grid .entry))) (now (work .entry)) (now (work .exit)) seed r ⌝ }
+// Finds the rim that has an odd face of the cell `seed`: sees its cells, makes its faces the working set, and answers its box.
+pub fn find_rim(n: usize, work: &mut [u8], seed: Point) -> Box
+    requires { ⌜ (n ≤ 32) × (pointCount n ≤ length (now work)) × Cell n seed × Fine n (now work) × (seenB n (now work) seed ≡ false) ⌝ }
+    ensures { λ r. ⌜ Found n (oddIn n (now (work .entry))) (now (work .entry)) (now (work .exit)) seed r ⌝ }
 {
-    visit(n, grid, work, seed, 0);
+    enter(n, work, seed, 0);
     let b = single(n, seed);
     let mut s = Walk {
-        c: seed,
+        cell: seed,
         depth: 0,
-        b: b,
+        reach: b,
         on: true,
     };
     while s.on {
-        s = step(n, grid, work, s);
+        s = walk_on(n, work, s);
     }
-    s.b
+    s.reach
 }

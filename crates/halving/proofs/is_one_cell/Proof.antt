@@ -1,7 +1,7 @@
 use Rattle.halving.proofs.is_one_cell.Tie as tie
 use borrow.Author.Needs.{needs}
 use Rattle.halving.proofs.is_one_cell.Statement.{statement}
-use Rattle.halving.proofs.Scans.{one-no-x, one-no-y, one-z}
+use Rattle.halving.proofs.Boxes.{one-no-x, one-no-y, one-z}
 
 sub-if1 : tie.Need-sub-if1
 sub-if1 c = search needs

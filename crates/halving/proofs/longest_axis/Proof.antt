@@ -1,7 +1,7 @@
 use Rattle.halving.proofs.longest_axis.Tie as tie
 use borrow.Author.Needs.{needs}
 use Rattle.halving.proofs.longest_axis.Statement.{statement}
-use Rattle.halving.proofs.Scans.{long-x, long-xz, long-y, long-z}
+use Rattle.halving.proofs.Boxes.{long-x, long-xz, long-y, long-z}
 
 sub-x : tie.Need-sub-x
 sub-x c = search needs

@@ -2,11 +2,11 @@ use Rattle.halving.proofs.lower_half.Tie as tie
 use borrow.Author.Needs.{needs}
 use Rattle.halving.proofs.lower_half.Statement.{statement}
 
-with-requires : tie.Need-with-requires
-with-requires c κs = search needs
+with-coordinate-requires : tie.Need-with-coordinate-requires
+with-coordinate-requires c κs = search needs
 
 returns : tie.Need-returns
-returns c = rw (c .with .ensures)
+returns c = rw (c .with-coordinate .ensures)
 
 pub lower-half-spec : {M : Type 1} → statement M
-lower-half-spec = tie.close (tie.spec with-requires returns)
+lower-half-spec = tie.close (tie.spec with-coordinate-requires returns)

@@ -2,11 +2,11 @@ use Rattle.halving.proofs.upper_half.Tie as tie
 use borrow.Author.Needs.{needs}
 use Rattle.halving.proofs.upper_half.Statement.{statement}
 
-with-requires : tie.Need-with-requires
-with-requires c κs = search needs
+with-coordinate-requires : tie.Need-with-coordinate-requires
+with-coordinate-requires c κs = search needs
 
 returns : tie.Need-returns
-returns c = rw (c .with .ensures)
+returns c = rw (c .with-coordinate .ensures)
 
 pub upper-half-spec : {M : Type 1} → statement M
-upper-half-spec = tie.close (tie.spec with-requires returns)
+upper-half-spec = tie.close (tie.spec with-coordinate-requires returns)

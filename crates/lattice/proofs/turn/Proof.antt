@@ -1,10 +1,8 @@
-use Rattle.lattice.proofs.turn.Tie as tie
+-- `turn` turns one bit of one byte. Assumes nothing.
 use borrow.Author.Needs.{needs}
+use Rattle.lattice.specs.Cells.{turnAt}
 use Rattle.lattice.proofs.turn.Statement.{statement}
-use Rattle.lattice.specs.Cells.{turnOne}
-
-number-of-requires : tie.Need-number-of-requires
-number-of-requires c κs = search needs
+use Rattle.lattice.proofs.turn.Tie as tie
 
 slice-read-turned : tie.Need-slice-read-turned
 slice-read-turned c = search needs
@@ -19,16 +17,9 @@ same-length : tie.Need-same-length
 same-length c = search needs
 
 returns : tie.Need-returns
-unfolding turnOne
+unfolding turnAt
 returns c = cc
 
 pub turn-spec : {M : Type 1} → statement M
 turn-spec =
-    tie.close
-    (tie.spec
-    number-of-requires
-    slice-read-turned
-    turned-requires
-    slice-write-s
-    same-length
-    returns)
+    tie.close (tie.spec slice-read-turned turned-requires slice-write-s same-length returns)

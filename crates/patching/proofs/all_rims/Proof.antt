@@ -1,56 +1,59 @@
-use Rattle.patching.proofs.all_rims.Tie as tie
-use Rattle.patching.proofs.all_rims.Statement.{statement}
+-- `all_rims` hits every rim. Assumes nothing.
 use mathlib.Core.Path.{_≡_, refl}
-use Prim.Native.Nat.{_-_, _*_, _≤_}
+use mathlib.Core.Path.{_≡_, refl, sym, _∙_}
+use Prim.Native.Nat.{_-_, _≤_}
+use native.Mathlib.Nat.{le-antisymm}
 use native.Mathlib.Omega.{arith}
-use native.Mathlib.Nat.{mul-le-mul, le-antisymm}
-use Rattle.walking.proofs.Laws.{came-inner}
-use Rattle.patching.proofs.Cover.{Scanned, scanned-on, finished, cube-small}
+use borrow.Author.Needs.{needs}
+use Rattle.rules.specs.Lattice.{pointCount}
+use Rattle.patching.proofs.Cover.{Scanned, scanned-on, finished}
+use Rattle.patching.proofs.all_rims.Statement.{statement}
+use Rattle.patching.proofs.all_rims.Tie as tie
 
 abbrev Inv-loop : tie.InvT-loop
-Inv-loop n grid₀ work₀ found₀ k₀ grid work found k = Scanned n grid₀ work₀ k found grid work
+Inv-loop n grid₀ work₀ count found₀ p₀ grid work found p = (count ≡ pointCount n) × Scanned n grid₀ work₀ p found grid work
 
 abbrev μ-loop : tie.MeasureT-loop
-μ-loop n grid₀ work₀ found₀ k₀ grid work found k = n * n * n - k
+μ-loop n grid₀ work₀ count found₀ p₀ grid work found p = count - p
+
+point-count-requires : tie.Need-point-count-requires Inv-loop μ-loop
+point-count-requires c κs = search needs
 
 loop-holds : tie.Need-loop-holds Inv-loop μ-loop
-loop-holds c = record { at-most = omega arith; few = omega arith; fine = c .before .before .pre .4; g-long = refl; w-long = refl; now = λ B. B }
-
-mul-loop : tie.Need-mul-loop Inv-loop μ-loop
-mul-loop c = let n = c .before .before .before .args .n in let a : n * n ≤ 32 * 32 = mul-le-mul (c .before .before .before .pre .1) (c .before .before .before .pre .1) in omega arith
-
-mul-loop-2 : tie.Need-mul-loop-2 Inv-loop μ-loop
-mul-loop-2 c = let a = cube-small (c .before .before .before .args .n) (c .before .before .before .pre .1) in omega arith
-
-cell-of-requires : tie.Need-cell-of-requires Inv-loop μ-loop
-cell-of-requires c κs = (c .before .before .before .before .before .before .pre .0, c .before .before .before .before .before .before .pre .1, c .before .before .loop-test .taken)
+loop-holds c = (c .point-count .ensures .0, record { at-most = omega arith; few = omega arith; fine = c .before .before .before .pre .3; g-long = refl; w-long = refl; now = λ E i B. B })
 
 rim-at-requires : tie.Need-rim-at-requires Inv-loop μ-loop
-rim-at-requires c κs = (c .before .before .before .before .before .before .before .pre .1, rw (c .before .before .before .before .loop .inv .g-long) (c .before .before .before .before .before .before .before .pre .2), rw (c .before .before .before .before .loop .inv .w-long) (c .before .before .before .before .before .before .before .pre .3), c .cell-of .ensures .1, c .before .before .before .before .loop .inv .fine)
+rim-at-requires c κs =
+    let s = c .before .before .before .before .before .before .before in
+    let i = c .before .before .before .loop .inv in
+    (s .pre .0, rw (i .1 .g-long) (s .pre .1), rw (i .1 .w-long) (s .pre .2), rw (i .0) at (c .before .before .loop-test .taken), i .1 .fine)
 
 add-found : tie.Need-add-found Inv-loop μ-loop
-add-found c = let a = cube-small (c .before .before .before .before .before .before .before .before .before .before .before .before .args .n) (c .before .before .before .before .before .before .before .before .before .before .before .before .pre .1) in let b = c .before .before .before .before .before .before .before .before .before .loop .inv .few in let d = c .before .before .before .before .before .before .before .before .before .loop .inv .at-most in let e = c .before .before .before .before .rim-at .ensures .0 in omega arith
+add-found c = let i = c .before .before .before .before .before .before .before .before .loop .inv in let a = i .1 .few in let r = c .before .before .before .before .rim-at .ensures .0 in omega (arith, c .before .before .before .before .before .before .before .loop-test .taken, c .before .before .before .before .before .before .before .before .before .point-count .ensures .1)
 
-add-k : tie.Need-add-k Inv-loop μ-loop
-add-k c = let a = cube-small (c .before .before .before .before .before .before .before .before .before .before .before .before .args .n) (c .before .before .before .before .before .before .before .before .before .before .before .before .pre .1) in let d = c .before .before .before .before .before .before .before .before .before .loop .inv .at-most in omega arith
+add-p : tie.Need-add-p Inv-loop μ-loop
+add-p c = omega (arith, c .before .before .before .before .before .before .before .loop-test .taken, c .before .before .before .before .before .before .before .before .before .point-count .ensures .1)
 
 loop-less : tie.Need-loop-less Inv-loop μ-loop
-loop-less c = omega (arith, c .before .before .before .before .before .before .before .before .loop-test .taken)
+loop-less c = omega (arith, c .before .before .before .before .before .before .before .loop-test .taken)
 
 loop-again : tie.Need-loop-again Inv-loop μ-loop
-loop-again c = scanned-on _ _ _ _ _ _ _ (c .before .before .before .before .before .before .before .before .before .loop .inv) (c .before .before .before .before .before .before .before .before .loop-test .taken) _ (c .before .before .before .before .before .cell-of .ensures .0) _ _ _ (c .before .before .before .before .rim-at .kept .1 .0) (c .before .before .before .before .rim-at .kept .1 .1 .0) (c .before .before .before .before .rim-at .ensures)
+loop-again c =
+    let i = c .before .before .before .before .before .before .before .before .loop .inv in
+    let r = c .before .before .before .before .rim-at in
+    (i .0, scanned-on _ _ _ _ _ _ _ (i .1) (rw (i .0) at (c .before .before .before .before .before .before .before .loop-test .taken)) _ _ _ (r .kept .1 .0) (r .kept .1 .1 .0) (r .ensures))
 
 same-length : tie.Need-same-length Inv-loop μ-loop
-same-length c = c .before .loop .inv .g-long
+same-length c = c .before .loop .inv .1 .g-long
 
 same-length-2 : tie.Need-same-length-2 Inv-loop μ-loop
-same-length-2 c = c .before .loop .inv .w-long
+same-length-2 c = c .before .loop .inv .1 .w-long
 
 returns : tie.Need-returns Inv-loop μ-loop
 returns c =
     let i = c .before .loop .inv in
-    let e : c .before .loop .k ≡ c .before .before .before .before .args .n * c .before .before .before .before .args .n * c .before .before .before .before .args .n = le-antisymm (i .at-most) (c .loop-test .left) in
-    λ B. finished _ _ (came-inner _ _) _ _ _ _ _ ((rw e at i) .now B)
+    let e : c .before .loop .p ≡ pointCount (c .before .before .before .before .before .args .n) = le-antisymm (i .1 .at-most) (rw (i .0) at (c .loop-test .left)) in
+    λ E inner B. finished _ E inner _ _ _ _ _ ((rw e at (i .1)) .now E inner B)
 
 pub all-rims-spec : {M : Type 1} → statement M
 all-rims-spec =
@@ -58,13 +61,11 @@ all-rims-spec =
     (tie.spec
     Inv-loop
     μ-loop
+    point-count-requires
     loop-holds
-    mul-loop
-    mul-loop-2
-    cell-of-requires
     rim-at-requires
     add-found
-    add-k
+    add-p
     loop-less
     loop-again
     same-length

@@ -1,30 +1,47 @@
--- `patch_grid` patches a grid: the marks are put by, every rim is patched, the marks are settled and counted. Assumes nothing.
-use mathlib.Core.Path.{subst}
-use Prim.Native.Nat.{ℕ, _<_}
+-- `patch_grid` finds the odd faces, patches every rim, and settles and counts the marks. Assumes nothing.
+use mathlib.Core.Path.{sym, ap, _∙_, subst}
+use mathlib.Core.List.{List}
+use Prim.Native.Nat.{ℕ, _≤_, _<_}
+use lib.ListN.{length, getD}
+use Rattle.walking.specs.Walks.{Fine}
+use Rattle.patching.proofs.Odd.{marks-edged}
+use Rattle.patching.proofs.Begins.{grid-small, found-small, fine-start}
+use Rattle.patching.proofs.Ends.{found-is, work-is, ends-well}
 use borrow.Author.Needs.{needs}
-use Rattle.patching.proofs.GridBytes.{grid-small}
-use Rattle.patching.proofs.Ends.{starts, ends-well}
 use Rattle.patching.proofs.patch_grid.Statement.{statement}
 use Rattle.patching.proofs.patch_grid.Tie as tie
 
 point-count-requires : tie.Need-point-count-requires
 point-count-requires c κs = search needs
 
-prepare-requires : tie.Need-prepare-requires
-prepare-requires c κs =
-    let s = c .before .before .before .before .before in
-    let e = c .before .before .point-count .ensures .0 in
-    (rw e (s .pre .2), rw e (s .pre .3), λ i l. grid-small (s .args .n) (s .args .grid .now) (s .pre .2) (s .pre .4) i (subst (λ (k : ℕ). i < k) e l))
+clear-requires : tie.Need-clear-requires
+clear-requires c κs = rw (c .before .point-count .ensures .0) (c .before .before .before .before .pre .3)
+
+find-odd-requires : tie.Need-find-odd-requires
+find-odd-requires c κs =
+    let s = c .before .before .before .before .before .before .before .before .before in
+    (s .pre .1, s .pre .2, rw (c .before .before .before .before .clear .kept .1 .0) (s .pre .3), marks-edged (s .args .n) (s .args .grid .now) (s .pre .2) (s .pre .4))
+
+put-by-requires : tie.Need-put-by-requires
+put-by-requires c κs =
+    let s = c .before .before .before .before .before .before .before .before .before .before .before .before .before .before in
+    let k = c .before .before .before .before .before .before .before .before .before .before .before .point-count .ensures .0 in
+    let o = found-is (s .args .n) (s .args .grid .now) (s .args .work .now) (s .pre .2) (s .pre .3) (s .pre .4) _ k _ _ (c .before .before .before .before .before .before .before .before .before .clear .ensures) (c .before .before .before .before .find-odd .ensures) in (
+      rw k (s .pre .2),
+      rw (c .before .before .before .before .find-odd .kept .1 .1 .0, c .before .before .before .before .before .before .before .before .before .clear .kept .1 .0, k) (s .pre .3),
+      (λ i l. grid-small (s .args .n) (s .args .grid .now) (s .args .work .now) (s .pre .2) (s .pre .3) (s .pre .4) i (subst (λ (j : ℕ). i < j) k l)),
+      (λ i l. subst (λ (w : List ℕ). getD w i 0 ≤ 7) (sym o) (found-small (s .args .n) (s .args .grid .now) (s .args .work .now) (s .pre .2) (s .pre .3) (s .pre .4) i (subst (λ (j : ℕ). i < j) k l))),
+    )
 
 all-rims-requires : tie.Need-all-rims-requires
 all-rims-requires c κs =
-    let s = c .before .before .before .before .before .before .before .before .before .before .before .before in
-    let p = c .before .before .before .before .before .before .prepare in (
-      s .pre .0,
+    let s = c .before .before .before .before .before .before .before .before .before .before .before .before .before .before .before .before .before .before .before .before .before in
+    let p = c .before .before .before .before .before .before .put-by in
+    let e = p .ensures in (
       s .pre .1,
       rw (p .kept .1 .0) (s .pre .2),
-      rw (p .kept .1 .1 .0) (s .pre .3),
-      starts (s .args .n) (s .args .grid .now) (s .args .work .now) (s .pre .2) (s .pre .3) (s .pre .4) _ (c .before .before .before .before .before .before .before .before .before .point-count .ensures .0) _ (p .ensures .0),
+      rw (p .kept .1 .1 .0, c .before .before .before .before .before .before .before .before .before .before .before .find-odd .kept .1 .1 .0, c .before .before .before .before .before .before .before .before .before .before .before .before .before .before .before .before .clear .kept .1 .0) (s .pre .3),
+      subst (Fine (s .args .n)) (sym (work-is (s .args .n) (s .args .grid .now) (s .args .work .now) (s .pre .2) (s .pre .3) (s .pre .4) _ (c .before .before .before .before .before .before .before .before .before .before .before .before .before .before .before .before .before .before .point-count .ensures .0) _ _ _ _ (c .before .before .before .before .before .before .before .before .before .before .before .before .before .before .before .before .clear .ensures) (c .before .before .before .before .before .before .before .before .before .before .before .find-odd .ensures) (e .0) (e .1))) (fine-start (s .args .n) (s .args .grid .now) (s .args .work .now) (s .pre .2) (s .pre .3) (s .pre .4)),
     )
 
 finish-requires : tie.Need-finish-requires
@@ -38,17 +55,19 @@ same-length-2 c = search needs
 
 returns : tie.Need-returns
 returns c =
-    let s = c .before .before .before .before .before .before .before .before .before .before .before .before .before .before .before .before .before .before .before .before .before .before .before .before in
-    let p = c .before .before .before .before .before .before .before .before .before .before .before .before .before .before .before .before .before .before .prepare .ensures in
+    let s = c .before .before .before .before .before .before .before .before .before .before .before .before .before .before .before .before .before .before .before .before .before .before .before .before .before .before .before .before .before .before .before .before .before in
+    let p = c .before .before .before .before .before .before .before .before .before .before .before .before .before .before .before .before .before .before .put-by .ensures in
     let f = c .before .before .before .before .finish .ensures in
-    ends-well (s .args .n) (s .args .grid .now) (s .args .work .now) (s .pre .2) (s .pre .3) (s .pre .4) _ (c .before .before .before .before .before .before .before .before .before .before .before .before .before .before .before .before .before .before .before .before .before .point-count .ensures .0) _ _ (p .0) (p .1) _ _ _ (c .before .before .before .before .before .before .before .before .before .before .before .all-rims .ensures) _ _ _ (f .0) (f .1) (f .2)
+    ends-well (s .args .n) (s .args .grid .now) (s .args .work .now) (s .pre .2) (s .pre .3) (s .pre .4) _ (c .before .before .before .before .before .before .before .before .before .before .before .before .before .before .before .before .before .before .before .before .before .before .before .before .before .before .before .before .before .before .point-count .ensures .0) _ _ _ _ (c .before .before .before .before .before .before .before .before .before .before .before .before .before .before .before .before .before .before .before .before .before .before .before .before .before .before .before .before .clear .ensures) (c .before .before .before .before .before .before .before .before .before .before .before .before .before .before .before .before .before .before .before .before .before .before .before .find-odd .ensures) (p .0) (p .1) _ _ _ (c .before .before .before .before .before .before .before .before .before .before .before .all-rims .ensures) _ _ _ (f .0) (f .1) (f .2)
 
 pub patch-grid-spec : {M : Type 1} → statement M
 patch-grid-spec =
     tie.close
     (tie.spec
     point-count-requires
-    prepare-requires
+    clear-requires
+    find-odd-requires
+    put-by-requires
     all-rims-requires
     finish-requires
     same-length

@@ -1,59 +1,57 @@
-use Rattle.patching.proofs.rim_at.Tie as tie
+-- `rim_at` hits the rims that have a face at its point. Assumes nothing.
+use mathlib.Core.Path.{sym, subst}
+use native.Mathlib.Omega.{arith}
+use Rattle.lattice.specs.Cells.{Cell}
+use Rattle.walking.specs.Walks.{seenB}
+use Rattle.patching.proofs.Next.{fit-of, at-none, at-cell, at-seen, at-dark, at-rim}
 use borrow.Author.Needs.{needs}
 use Rattle.patching.proofs.rim_at.Statement.{statement}
-use mathlib.Core.Path.{sym, _∙_}
-use native.Mathlib.Omega.{arith}
-use Rattle.patching.proofs.Next.{move-seen, move-none, move-rim, fine-after, fit-of}
+use Rattle.patching.proofs.rim_at.Tie as tie
 
-seen-requires : tie.Need-seen-requires
-seen-requires c κs = search needs
+slice-read-b : tie.Need-slice-read-b
+slice-read-b c = search needs
+
+returns : tie.Need-returns
+returns c = let s = c .before .before .before .before in (omega arith, at-none (s .args .n) (s .args .grid .now) (s .args .work .now) (s .args .p) (s .pre .3) (c .if1 .taken), s .pre .4)
+
+returns-2 : tie.Need-returns-2
+returns-2 c = let s = c .before .before .before .before .before in (omega arith, at-seen (s .args .n) (s .args .grid .now) (s .args .work .now) (s .args .p) (s .pre .3) (s .pre .4) (c .before .if1 .left) (c .if2 .taken), s .pre .4)
+
+point-of-requires : tie.Need-point-of-requires
+point-of-requires c κs = search needs
+
+find-rim-requires : tie.Need-find-rim-requires
+find-rim-requires c κs =
+    let s = c .before .before .before .before .before .before .before in
+    rw (c .point-of .ensures) (s .pre .0, s .pre .2, at-cell (s .args .n) (s .args .grid .now) (s .args .work .now) (s .args .p) (s .pre .3) (s .pre .4) (c .before .before .before .if1 .left), s .pre .4, at-dark (s .args .n) (s .args .grid .now) (s .args .work .now) (s .args .p) (s .pre .3) (c .before .before .if2 .left))
+
+patch-box-requires : tie.Need-patch-box-requires
+patch-box-requires c κs =
+    let s = c .before .before .before .before .before .before .before .before .before .before .before .before in
+    (s .pre .0, s .pre .1, rw (c .before .before .before .before .find-rim .kept .1 .0) (s .pre .2), fit-of _ _ _ _ _ _ (c .before .before .before .before .find-rim .ensures))
 
 same-length : tie.Need-same-length
 same-length c = search needs
 
-returns : tie.Need-returns
-returns c = (omega arith, move-seen _ _ _ _ (c .before .before .before .before .before .pre .3) (sym (c .before .seen .ensures) ∙ c .if1 .taken), c .before .before .before .before .before .pre .4)
-
-own-requires : tie.Need-own-requires
-own-requires c κs = search needs
-
 same-length-2 : tie.Need-same-length-2
 same-length-2 c = search needs
 
-same-length-3 : tie.Need-same-length-3
-same-length-3 c = search needs
-
-returns-2 : tie.Need-returns-2
-returns-2 c = (omega arith, move-none _ _ _ _ (c .before .before .before .before .before .before .before .before .pre .3) (sym (c .before .own .ensures .0) ∙ c .if2 .taken), c .before .before .before .before .before .before .before .before .pre .4)
-
-fill-requires : tie.Need-fill-requires
-fill-requires c κs = (c .before .before .before .before .before .before .before .before .before .before .pre .0, c .before .before .before .before .before .before .before .before .before .before .pre .1, c .before .before .before .before .before .before .before .before .before .before .pre .2, c .before .before .before .before .before .before .before .before .before .before .pre .3, c .before .before .before .before .before .before .before .before .before .before .pre .4, sym (c .before .before .before .before .before .before .seen .ensures) ∙ c .before .before .before .before .before .if1 .left)
-
-halves-requires : tie.Need-halves-requires
-halves-requires c κs = (c .before .before .before .before .before .before .before .before .before .before .before .before .before .before .before .pre .0, c .before .before .before .before .before .before .before .before .before .before .before .before .before .before .before .pre .1, rw (c .before .before .before .before .fill .kept .1 .1 .0) (c .before .before .before .before .before .before .before .before .before .before .before .before .before .before .before .pre .2), fit-of _ _ _ _ _ _ (c .before .before .before .before .fill .ensures))
-
-same-length-4 : tie.Need-same-length-4
-same-length-4 c = search needs
-
-same-length-5 : tie.Need-same-length-5
-same-length-5 c = search needs
-
 returns-3 : tie.Need-returns-3
-returns-3 c = (omega arith, move-rim (c .before .before .before .before .before .before .before .before .before .before .before .before .before .before .before .before .before .before .before .before .args .n) (c .before .before .before .before .before .before .before .before .before .before .before .before .before .before .before .before .before .before .before .before .args .grid .now) (c .before .before .before .before .before .before .before .before .before .before .before .before .before .before .before .before .before .before .before .before .args .work .now) (c .before .before .before .before .before .before .before .before .before .before .before .before .before .before .before .before .before .before .before .before .args .c) (c .before .before .before .before .before .before .before .before .before .before .before .before .before .before .before .before .before .before .before .before .pre .3) (c .before .before .before .before .before .before .before .before .before .before .before .before .before .before .before .before .before .before .before .before .pre .1) (c .before .before .before .before .before .before .before .before .before .before .before .before .before .before .before .before .before .before .before .before .pre .2) (sym (c .before .before .before .before .before .before .before .before .before .before .before .before .before .before .before .before .seen .ensures) ∙ c .before .before .before .before .before .before .before .before .before .before .before .before .before .before .before .if1 .left) (λ e. c .before .before .before .before .before .before .before .before .before .before .before .before .if2 .left (c .before .before .before .before .before .before .before .before .before .before .before .before .before .own .ensures .0 ∙ e)) _ _ (c .before .before .before .before .before .before .before .before .before .fill .ensures) _ _ (c .before .before .before .before .halves .ensures), fine-after (c .before .before .before .before .before .before .before .before .before .before .before .before .before .before .before .before .before .before .before .before .args .n) (c .before .before .before .before .before .before .before .before .before .before .before .before .before .before .before .before .before .before .before .before .args .grid .now) (c .before .before .before .before .before .before .before .before .before .before .before .before .before .before .before .before .before .before .before .before .args .work .now) (c .before .before .before .before .before .before .before .before .before .before .before .before .before .before .before .before .before .before .before .before .args .c) (c .before .before .before .before .before .before .before .before .before .before .before .before .before .before .before .before .before .before .before .before .pre .3) (c .before .before .before .before .before .before .before .before .before .before .before .before .before .before .before .before .before .before .before .before .pre .1) (c .before .before .before .before .before .before .before .before .before .before .before .before .before .before .before .before .before .before .before .before .pre .4) _ _ (c .before .before .before .before .before .before .before .before .before .fill .ensures) _ (c .before .before .before .before .halves .ensures .0))
+returns-3 c =
+    let s = c .before .before .before .before .before .before .before .before .before .before .before .before .before .before .before .before .before in
+    let r = at-rim (s .args .n) (s .args .grid .now) (s .args .work .now) (s .args .p) (s .pre .3) (s .pre .1) (s .pre .2) (s .pre .4) (c .before .before .before .before .before .before .before .before .before .before .before .before .before .if1 .left) (c .before .before .before .before .before .before .before .before .before .before .before .before .if2 .left) _ (c .before .before .before .before .before .before .before .before .before .before .point-of .ensures) _ _ (c .before .before .before .before .before .before .before .before .before .find-rim .ensures) _ _ (c .before .before .before .before .patch-box .ensures) in
+    (omega arith, r .0, r .1)
 
 pub rim-at-spec : {M : Type 1} → statement M
 rim-at-spec =
     tie.close
     (tie.spec
-    seen-requires
-    same-length
+    slice-read-b
     returns
-    own-requires
-    same-length-2
-    same-length-3
     returns-2
-    fill-requires
-    halves-requires
-    same-length-4
-    same-length-5
+    point-of-requires
+    find-rim-requires
+    patch-box-requires
+    same-length
+    same-length-2
     returns-3)

@@ -46,8 +46,8 @@ returns-2 c =
     let f = rw (c .before .before .ends-of .ensures) at (c .before .meets .ensures) in
     edge-not-in (cellsOf (s .args .l)) (met (s .args .l) (s .args .t)) (s .args .e) (s .args .grid .now) (is ∙ fails f (c .if2 .taken))
 
-turn-requires : tie.Need-turn-requires
-turn-requires c κs =
+turn-place-requires : tie.Need-turn-place-requires
+turn-place-requires c κs =
     let s = c .before .before .before .before .before .before .before .before .before in
     rw (c .before .before .before .before .before .before .before .cells .ensures) (cells-most (s .args .l), s .pre .1 .0, s .pre .1 .1)
 
@@ -60,7 +60,7 @@ returns-3 c =
     let is = met-is (s .args .l) (s .args .t) (s .args .e .axis) (s .args .e .at) (s .pre .1 .2) in
     let f = rw (c .before .before .before .before .before .before .ends-of .ensures) at (c .before .before .before .before .before .meets .ensures) in
     let m = rw (c .before .before .before .before .before .before .before .before .before .before .cells .ensures) at (c .before .before .before .before .before .before .before .before .member .ensures) in
-    rw (c .before .before .turn .ensures, c .before .before .before .before .before .before .before .before .before .before .cells .ensures)
+    rw (c .before .before .turn-place .ensures, c .before .before .before .before .before .before .before .before .before .before .cells .ensures)
     (edge-turned (cellsOf (s .args .l)) (met (s .args .l) (s .args .t)) (s .args .e) (s .args .grid .now) (s .pre .1 .0) (s .pre .1 .1)
     (sym m ∙ c .before .before .before .before .before .before .before .if1 .left) (is ∙ holds f (c .before .before .before .before .if2 .left)))
 
@@ -76,6 +76,6 @@ mark-edge-spec =
     meets-requires
     same-length-2
     returns-2
-    turn-requires
+    turn-place-requires
     same-length-3
     returns-3)

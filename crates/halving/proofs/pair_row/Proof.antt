@@ -1,0 +1,51 @@
+use Rattle.halving.proofs.pair_row.Tie as tie
+use Rattle.halving.proofs.pair_row.Statement.{statement}
+use mathlib.Core.Path.{refl}
+use Prim.Native.Nat.{_-_}
+use native.Mathlib.Omega.{arith}
+use Rattle.halving.proofs.Scans.{Rowing, rowing-on, rowing-end}
+
+abbrev Inv-loop : tie.InvT-loop
+Inv-loop n grid₀ work₀ a m from to v h₀ u₀ grid work h u = Rowing n a m to v (record { unpaired = h₀; grid = grid₀; work = work₀ }) u₀ u h grid work
+
+abbrev μ-loop : tie.MeasureT-loop
+μ-loop n grid₀ work₀ a m from to v h₀ u₀ grid work h u = to - u
+
+loop-holds : tie.Need-loop-holds Inv-loop μ-loop
+loop-holds c = record { scan = refl; unpaired = c .before .before .pre .7; g-long = refl; w-long = refl }
+
+pair-spot-requires : tie.Need-pair-spot-requires Inv-loop μ-loop
+pair-spot-requires c κs = (c .before .before .before .before .before .before .pre .0, rw (c .before .before .before .loop .inv .g-long) (c .before .before .before .before .before .before .pre .1), rw (c .before .before .before .loop .inv .w-long) (c .before .before .before .before .before .before .pre .2), c .before .before .before .before .before .before .pre .3, c .before .before .before .before .before .before .pre .4, omega (arith, c .before .before .loop-test .taken, c .before .before .before .before .before .before .pre .5, c .before .before .before .before .before .before .pre .6), c .before .before .before .loop .inv .unpaired)
+
+add-u : tie.Need-add-u Inv-loop μ-loop
+add-u c = omega (arith, c .before .before .before .before .before .before .before .loop-test .taken, c .before .before .before .before .before .before .before .before .before .before .before .pre .5, c .before .before .before .before .before .before .before .before .before .before .before .pre .0)
+
+loop-less : tie.Need-loop-less Inv-loop μ-loop
+loop-less c = omega (arith, c .before .before .before .before .before .before .before .loop-test .taken)
+
+loop-again : tie.Need-loop-again Inv-loop μ-loop
+loop-again c = rowing-on _ _ _ _ _ _ _ _ _ _ _ (c .before .before .before .before .before .before .before .before .loop .inv) (c .before .before .before .before .before .before .before .loop-test .taken) _ _ _ (c .before .before .before .before .pair-spot .ensures .0) (c .before .before .before .before .pair-spot .ensures .1)
+
+same-length : tie.Need-same-length Inv-loop μ-loop
+same-length c = c .before .loop .inv .g-long
+
+same-length-2 : tie.Need-same-length-2 Inv-loop μ-loop
+same-length-2 c = c .before .loop .inv .w-long
+
+returns : tie.Need-returns Inv-loop μ-loop
+returns c = (rowing-end _ _ _ _ _ _ _ _ _ _ _ (c .before .loop .inv) (c .loop-test .left), c .before .loop .inv .unpaired)
+
+pub pair-row-spec : {M : Type 1} → statement M
+pair-row-spec =
+    tie.close
+    (tie.spec
+    Inv-loop
+    μ-loop
+    loop-holds
+    pair-spot-requires
+    add-u
+    loop-less
+    loop-again
+    same-length
+    same-length-2
+    returns)

@@ -1,0 +1,52 @@
+-- The numbers of points one step apart, and of a face or an edge of a cell. Assumes nothing.
+use mathlib.Core.Path.{_≡_, sym, ap, subst, _∙_}
+use Prim.Native.Nat.{ℕ, zero, suc, pred, _+_, _*_, _≤_}
+use native.Mathlib.Nat.{mul-le-mul}
+use native.Mathlib.Omega.{arith}
+use Rattle.rules.specs.declared.Axis.{Axis}
+use Rattle.rules.specs.declared.Axis.the-variants.{X, Y, Z}
+use Rattle.rules.specs.declared.Point.{Point}
+use Rattle.rules.specs.declared.Place.{Place}
+use Rattle.rules.specs.Lattice.{coord, up, down, origin, pointNumber, OfGrid}
+use Rattle.lattice.specs.Cells.{pointStep, moved}
+
+-- one step up an axis
+pub number-up : (n : ℕ) (a : Axis) (p : Point) → pointNumber n (up a p) ≡ pointNumber n p + pointStep n a
+number-up n X p = omega arith
+number-up n Y p = omega arith
+number-up n Z p = omega arith
+
+pred-suc : (k : ℕ) → 1 ≤ k → suc (pred k) ≡ k
+pred-suc zero h = absurd (omega arith)
+pred-suc (suc k) h = let e : pred (suc k) ≡ k = omega arith in ap suc e
+
+-- the step up to where a step down came from
+pub up-down : (a : Axis) (p : Point) → 1 ≤ coord a p → up a (down a p) ≡ p
+up-down X p h = λ i. record { i = pred-suc (p .i) h i; j = p .j; k = p .k }
+up-down Y p h = λ i. record { i = p .i; j = pred-suc (p .j) h i; k = p .k }
+up-down Z p h = λ i. record { i = p .i; j = p .j; k = pred-suc (p .k) h i }
+
+-- the point one step from (0,0,0)
+pub number-step : (n : ℕ) (a : Axis) → pointNumber n (up a origin) ≡ pointStep n a
+number-step n a = let e = number-up n a origin in let z : pointNumber n origin ≡ 0 = omega arith in omega arith
+
+up-small : (n : ℕ) (a : Axis) → 1 ≤ n → OfGrid n (up a origin)
+up-small n X h = omega arith
+up-small n Y h = omega arith
+up-small n Z h = omega arith
+
+pub step-grid : {n : ℕ} {p : Point} (a : Axis) → 1 ≤ n → n ≤ 32 → p ≡ up a origin → (n ≤ 32) × OfGrid n p
+step-grid {n} a h m e = (m, subst (OfGrid n) (sym e) (up-small n a h))
+
+-- one step down an axis
+pub number-down : (n : ℕ) (a : Axis) (p : Point) → 1 ≤ coord a p → pointNumber n (down a p) + pointStep n a ≡ pointNumber n p
+number-down n a p h = sym (number-up n a (down a p)) ∙ ap (pointNumber n) (up-down a p h)
+
+-- a place of the cell at (0,0,0), moved to another cell
+pub number-moved : (n : ℕ) (c : Point) (e : Place) → pointNumber n (moved c e .at) ≡ pointNumber n c + pointNumber n (e .at)
+number-moved n c e = omega arith
+
+pub step-most : (n : ℕ) (a : Axis) → n ≤ 32 → pointStep n a ≤ 1089
+step-most n X h = omega arith
+step-most n Y h = omega arith
+step-most n Z h = let w : suc n ≤ 33 = omega arith in mul-le-mul w w

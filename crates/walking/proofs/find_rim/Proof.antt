@@ -1,0 +1,75 @@
+-- `find_rim` walks until it is back at the first cell with nothing left to enter. Assumes nothing.
+use mathlib.Core.List.{List}
+use Prim.Native.Nat.{ℕ, _≤_}
+use native.Mathlib.Omega.{arith}
+use lib.ListN.{length}
+use Rattle.rules.specs.declared.Point.{Point}
+use Rattle.rules.specs.Lattice.{pointCount}
+use Rattle.walking.specs.Walks.{oddIn, Fine}
+use Rattle.walking.proofs.Faces.{cell-grid}
+use Rattle.walking.proofs.Invariant.{Live, left}
+use Rattle.walking.proofs.Stepping.{start-from, step-from, ready}
+use Rattle.walking.proofs.find_rim.Statement.{statement}
+use Rattle.walking.proofs.find_rim.Tie as tie
+
+abbrev Inv-loop : tie.InvT-loop
+Inv-loop n work₀ s₀ work s = (w : List ℕ) (p : Point) → pointCount n ≤ length w → Fine n w → Live n (oddIn n w) w p (record { walk = s₀; work = work₀ }) → Live n (oddIn n w) w p (record { walk = s; work = work })
+
+abbrev μ-loop : tie.MeasureT-loop
+μ-loop n work₀ s₀ work s = left n (record { walk = s; work = work })
+
+enter-requires : tie.Need-enter-requires Inv-loop μ-loop
+enter-requires c κs = let s = c .before .before in (s .pre .0, s .pre .1, cell-grid _ _ (s .pre .2), omega arith)
+
+single-requires : tie.Need-single-requires Inv-loop μ-loop
+single-requires c κs = let s = c .before .before .before .before .before in (s .pre .0, cell-grid _ _ (s .pre .2))
+
+loop-holds : tie.Need-loop-holds Inv-loop μ-loop
+loop-holds c = λ w p l f h. h
+
+walk-on-requires : tie.Need-walk-on-requires Inv-loop μ-loop
+walk-on-requires c κs =
+    let s = c .before .before .before .before .before .before .before .before .before in
+    let w = s .args .work .now in
+    let h = c .before .before .loop .inv w (s .args .seed) (s .pre .1) (s .pre .3) (start-from (s .args .n) w (s .args .seed) (s .pre .1) (s .pre .3) (s .pre .2) (s .pre .4) _ _ (c .before .before .before .single .ensures) (c .before .before .before .before .before .before .enter .ensures)) in
+    let r = ready (s .args .n) w (s .args .seed) (s .pre .1) (s .pre .3) (s .pre .0) _ h (c .before .loop-test .taken) in
+    (s .pre .0, r .0, r .1, r .2, r .3, r .4)
+
+loop-less : tie.Need-loop-less Inv-loop μ-loop
+loop-less c =
+    let s = c .before .before .before .before .before .before .before .before .before .before .before .before in
+    let w = s .args .work .now in
+    let h = c .before .before .before .before .before .loop .inv w (s .args .seed) (s .pre .1) (s .pre .3) (start-from (s .args .n) w (s .args .seed) (s .pre .1) (s .pre .3) (s .pre .2) (s .pre .4) _ _ (c .before .before .before .before .before .before .single .ensures) (c .before .before .before .before .before .before .before .before .before .enter .ensures)) in
+    step-from (s .args .n) w (s .args .seed) (s .pre .1) (s .pre .3) _ _ (c .before .before .walk-on .ensures) h (c .before .before .before .before .loop-test .taken) .1
+
+loop-again : tie.Need-loop-again Inv-loop μ-loop
+loop-again c = λ w p l f h. step-from (c .before .before .before .before .before .before .before .before .before .before .before .before .args .n) w p l f _ _ (c .before .before .walk-on .ensures) (c .before .before .before .before .before .loop .inv w p l f h) (c .before .before .before .before .loop-test .taken) .0
+
+same-length : tie.Need-same-length Inv-loop μ-loop
+same-length c =
+    let s = c .before .before .before .before .before .before .before .before .before in
+    let w = s .args .work .now in
+    let h = c .before .before .loop .inv w (s .args .seed) (s .pre .1) (s .pre .3) (start-from (s .args .n) w (s .args .seed) (s .pre .1) (s .pre .3) (s .pre .2) (s .pre .4) _ _ (c .before .before .before .single .ensures) (c .before .before .before .before .before .before .enter .ensures)) in
+    h .long
+
+returns : tie.Need-returns Inv-loop μ-loop
+returns c =
+    let s = c .before .before .before .before .before .before .before .before .before in
+    let w = s .args .work .now in
+    let h = c .before .before .loop .inv w (s .args .seed) (s .pre .1) (s .pre .3) (start-from (s .args .n) w (s .args .seed) (s .pre .1) (s .pre .3) (s .pre .2) (s .pre .4) _ _ (c .before .before .before .single .ensures) (c .before .before .before .before .before .before .enter .ensures)) in
+    h .off (c .before .loop-test .left)
+
+pub find-rim-spec : {M : Type 1} → statement M
+find-rim-spec =
+    tie.close
+    (tie.spec
+    Inv-loop
+    μ-loop
+    enter-requires
+    single-requires
+    loop-holds
+    walk-on-requires
+    loop-less
+    loop-again
+    same-length
+    returns)

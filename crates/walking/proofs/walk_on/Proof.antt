@@ -1,0 +1,104 @@
+-- `walk_on` takes the step of the definition. Assumes nothing.
+use mathlib.Core.Path.{_≡_, sym, ap, _∙_, subst}
+use Prim.Native.Nat.{ℕ, _<_}
+use Rattle.lattice.specs.Cells.{Cell}
+use Rattle.walking.specs.Walks.{Inside, acrossOf, opposite}
+use Rattle.walking.proofs.Faces.{cell-grid}
+use Rattle.walking.proofs.Stepping.{cell-at, first-of, open-inside, across-grid, step-push, step-stop, step-pop}
+use borrow.Author.Needs.{needs}
+use Rattle.walking.proofs.walk_on.Statement.{statement}
+use Rattle.walking.proofs.walk_on.Tie as tie
+
+number-of-requires : tie.Need-number-of-requires
+number-of-requires c κs = search needs
+
+next-face-requires : tie.Need-next-face-requires
+next-face-requires c κs =
+    let s = c .before .before .before .before .before in
+    (s .pre .0, s .pre .1, c .number-of .ensures .1, subst (Cell (s .args .n)) (sym (cell-at _ _ _ (s .pre .2) (c .number-of .ensures .0))) (s .pre .2), s .pre .3)
+
+across-requires : tie.Need-across-requires
+across-requires c κs =
+    let s = c .before .before .before .before .before .before .before in
+    let f = first-of _ _ _ _ _ (s .pre .2) (c .before .before .number-of .ensures .0) (c .before .next-face .ensures) in
+    (s .pre .0, s .pre .2, c .if1 .taken, open-inside _ _ _ _ f (c .if1 .taken))
+
+enter-requires : tie.Need-enter-requires
+enter-requires c κs =
+    let s = c .before .before .before .before .before .before .before .before .before in
+    let f = first-of _ _ _ _ _ (s .pre .2) (c .before .before .before .before .number-of .ensures .0) (c .before .before .before .next-face .ensures) in
+    (s .pre .0, s .pre .1, across-grid _ _ _ _ (c .before .before .if1 .taken) (s .pre .2) (open-inside _ _ _ _ f (c .before .before .if1 .taken)) (c .before .across .ensures), c .before .before .if1 .taken)
+
+widen-requires : tie.Need-widen-requires
+widen-requires c κs =
+    let s = c .before .before .before .before .before .before .before .before .before .before .before .before in
+    let f = first-of _ _ _ _ _ (s .pre .2) (c .before .before .before .before .before .before .before .number-of .ensures .0) (c .before .before .before .before .before .before .next-face .ensures) in
+    (s .pre .0, across-grid _ _ _ _ (c .before .before .before .before .before .if1 .taken) (s .pre .2) (open-inside _ _ _ _ f (c .before .before .before .before .before .if1 .taken)) (c .before .before .before .before .across .ensures))
+
+add-t19 : tie.Need-add-t19
+add-t19 c = search needs
+
+same-length : tie.Need-same-length
+same-length c = search needs
+
+returns : tie.Need-returns
+returns c =
+    let s = c .before .before .before .before .before .before .before .before .before .before .before .before .before in
+    let f = first-of _ _ _ _ _ (s .pre .2) (c .before .before .before .before .before .before .before .before .number-of .ensures .0) (c .before .before .before .before .before .before .before .next-face .ensures) in
+    step-push _ _ _ _ _ f _ _ _ (c .before .before .before .before .before .before .if1 .taken) (c .before .before .before .before .before .across .ensures) (c .before .before .before .enter .ensures) (c .widen .ensures)
+
+leave-requires : tie.Need-leave-requires
+leave-requires c κs =
+    let s = c .before .before .before .before .before .before .before .before in
+    (s .pre .0, s .pre .1, cell-grid _ _ (s .pre .2))
+
+same-length-2 : tie.Need-same-length-2
+same-length-2 c = search needs
+
+returns-2 : tie.Need-returns-2
+returns-2 c =
+    let s = c .before .before .before .before .before .before .before .before .before .before .before .before in
+    let f = first-of _ _ _ _ _ (s .pre .2) (c .before .before .before .before .before .before .before .number-of .ensures .0) (c .before .before .before .before .before .before .next-face .ensures) in
+    step-stop _ _ _ _ _ f _ (c .before .before .before .before .before .if1 .left) (c .if2 .taken) (c .before .before .before .leave .ensures .1)
+
+opposite-face-requires : tie.Need-opposite-face-requires
+opposite-face-requires c κs = subst (λ (k : ℕ). k < 6) (sym (c .before .before .before .leave .ensures .0)) (c .before .before .before .before .before .before .before .before .before .before .before .before .pre .5 (c .if2 .left) .0)
+
+across-requires-2 : tie.Need-across-requires-2
+across-requires-2 c κs =
+    let s = c .before .before .before .before .before .before .before .before .before .before .before .before .before in
+    (s .pre .0, s .pre .2, c .opposite-face .ensures .1, subst (λ (k : ℕ). Inside (s .args .n) k (s .args .s .cell)) (sym (c .opposite-face .ensures .0 ∙ ap opposite (c .before .before .before .before .leave .ensures .0))) (s .pre .5 (c .before .if2 .left) .1))
+
+sub-t14 : tie.Need-sub-t14
+sub-t14 c = search needs
+
+same-length-3 : tie.Need-same-length-3
+same-length-3 c = search needs
+
+returns-3 : tie.Need-returns-3
+returns-3 c =
+    let s = c .before .before .before .before .before .before .before .before .before .before .before .before .before .before in
+    let f = first-of _ _ _ _ _ (s .pre .2) (c .before .before .before .before .before .before .before .before .before .number-of .ensures .0) (c .before .before .before .before .before .before .before .before .next-face .ensures) in
+    step-pop _ _ _ _ _ f _ _ (c .before .before .before .before .before .before .before .if1 .left) (c .before .before .if2 .left)
+    (c .across2 .ensures ∙ ap (λ (k : ℕ). acrossOf k (s .args .s .cell)) (c .before .opposite-face .ensures .0 ∙ ap opposite (c .before .before .before .before .before .leave .ensures .0))) (c .before .before .before .before .before .leave .ensures .1)
+
+pub walk-on-spec : {M : Type 1} → statement M
+walk-on-spec =
+    tie.close
+    (tie.spec
+    number-of-requires
+    next-face-requires
+    across-requires
+    enter-requires
+    widen-requires
+    add-t19
+    same-length
+    returns
+    leave-requires
+    same-length-2
+    returns-2
+    opposite-face-requires
+    across-requires-2
+    sub-t14
+    same-length-3
+    returns-3)
