@@ -16,12 +16,6 @@ pub struct Repaired {
     pub quads: u32,
 }
 
-// Room for a refusal, or for the first two lines and the last line end.
-pub const HEAD_ROOM: usize = 106;
-
-// Room for the line of a quad.
-pub const QUAD_ROOM: usize = 26;
-
 // Puts a text at a place, and answers the place behind it.
 pub fn put_text(out: &mut [u8], at: usize, text: &[u8]) -> usize
     requires { ⌜ at + length (now text) ≤ length (now out) ⌝ }

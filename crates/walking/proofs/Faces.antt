@@ -17,15 +17,18 @@ use Rattle.rules.proofs.Bits.{eqb→}
 use Rattle.rules.proofs.Boxes.{faceIn→}
 use Rattle.lattice.specs.Cells.{faceRule, faceOf, indexOf, Cell}
 use Rattle.lattice.proofs.Laws.{face-small}
-use Rattle.lattice.proofs.GridFacts.{lower-x, lower-y, lower-z}
 use Rattle.lattice.proofs.PointSteps.{up-down}
 use Rattle.walking.specs.Walks.{Inside, acrossOf, opposite}
 
 -- ---- a lower and an upper face on each axis
+at-zero : (c : Point) → record { i = c .i + 0; j = c .j + 0; k = c .k + 0 } ≡ c
+at-zero c = λ i. record { i = add-zero (c .i) i; j = add-zero (c .j) i; k = add-zero (c .k) i }
+
 pub face-lower : (a : Axis) (c : Point) → faceOf (indexOf a) c ≡ record { axis = a; at = c }
-face-lower X c = lower-x c
-face-lower Y c = lower-y c
-face-lower Z c = lower-z c
+unfolding faceOf faceRule
+face-lower X c = λ i. record { axis = X; at = at-zero c i }
+face-lower Y c = λ i. record { axis = Y; at = at-zero c i }
+face-lower Z c = λ i. record { axis = Z; at = at-zero c i }
 
 pub face-upper : (a : Axis) (c : Point) → faceOf (indexOf a + 3) c ≡ record { axis = a; at = up a c }
 unfolding faceOf faceRule
