@@ -1,6 +1,6 @@
 -- The points from a number on, as a scan has them before it. Assumes nothing.
 use mathlib.Core.Path.{_≡_, refl, sym, ap, _∙_}
-use mathlib.Core.Bool.{Bool, true, false, _&&_, cond}
+use mathlib.Core.Bool.{Bool, true, false, not, _&&_, cond}
 use mathlib.Core.List.{List, [], _∷_}
 use Prim.Native.Nat.{ℕ, zero, suc, _+_, _*_, _≤_, _<_}
 use native.Mathlib.Nat.{mul-add, mul-suc, mul-le-mul-left, le-of-suc-le-suc, not-suc-le-zero}
@@ -14,11 +14,12 @@ use Rattle.rules.specs.declared.Axis.{Axis}
 use Rattle.rules.specs.declared.Axis.the-variants.{X, Y, Z}
 use Rattle.rules.specs.declared.Point.{Point}
 use Rattle.rules.specs.Lists.{allOf, between}
-use Rattle.rules.specs.Lattice.{points, pointNumber, pointCount, inner}
+use Rattle.rules.specs.Lattice.{points, pointNumber, pointCount, inner, sameAxis, raise, whole}
 use Rattle.rules.specs.Lattice.{OfGrid}
-use Rattle.rules.proofs.Bits.{&&-left, &&-assoc, &&-comm, &&-self, &&-again, ands}
+use Rattle.rules.proofs.Boxes.{inBox←}
+use Rattle.rules.proofs.Bits.{three→, between→, Bounds, &&-left, &&-assoc, &&-comm, &&-self, &&-again, ands}
 use Rattle.rules.proofs.Numbers.{points-at, points-length, number-below}
-use Rattle.lattice.specs.Scans.{nextPoint, innerAlong}
+use Rattle.lattice.specs.Scans.{nextPoint, innerAlong, deep}
 
 -- the points of numbers from p on
 unfoldable pub pointsFrom : ℕ → ℕ → List Point
@@ -112,6 +113,19 @@ inner-z n p = &&-last (between 0 n (p .k)) (between 1 n (p .i)) (between 1 n (p 
   where
     &&-last : (a b c : Bool) → a && (b && c) ≡ b && (c && a)
     &&-last a b c = simp ands
+
+-- at a deep point every edge is inner
+pub deep-inner : (n : ℕ) (p : Point) → deep n p ≡ true → (a : Axis) → inner n a p ≡ true
+deep-inner n p e a =
+    let b = three→ (between 1 n (p .i)) (between 1 n (p .j)) (between 1 n (p .k)) e in
+    let s = not (sameAxis a X) in
+    let t = not (sameAxis a Y) in
+    let u = not (sameAxis a Z) in
+    inBox← (whole n) s t u p (rest s (p .i) (between→ 1 n (p .i) (b .0)), rest t (p .j) (between→ 1 n (p .j) (b .1)), rest u (p .k) (between→ 1 n (p .k) (b .2)))
+  where
+    rest : (s : Bool) (i : ℕ) → Bounds 1 n i → Bounds (raise s 0) n i
+    rest true i c = c
+    rest false i c = omega arith
 
 -- ---- a test of every point, one point after the other
 module _ (f : Point → Bool) (n : ℕ) where

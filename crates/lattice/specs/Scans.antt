@@ -20,3 +20,7 @@ innerAlong n l u v = between 0 n l && (between 1 n u && between 1 n v)
 -- none of the cell's three lower faces is odd
 abbrev pub lowerEven : Set → Point → Bool
 lowerEven E c = allOf (λ f. not (isIn (oddFace E) f)) (placesAt c)
+
+-- all three coordinates lie in 1..n-1
+abbrev pub deep : ℕ → Point → Bool
+deep n p = between 1 n (p .i) && (between 1 n (p .j) && between 1 n (p .k))

@@ -15,7 +15,7 @@ ghost use Rattle.rules.specs.Grid.{has, byteFits, isGrid, marks};
 ghost use Rattle.rules.specs.Lattice.{OfGrid};
 ghost use Rattle.rules.specs.Rims.{evenFaces};
 ghost use Rattle.lattice.specs.Cells.{Cell};
-ghost use Rattle.lattice.specs.Scans.{nextPoint, innerAlong, lowerEven};
+ghost use Rattle.lattice.specs.Scans.{nextPoint, innerAlong, deep, lowerEven};
 
 // The point after a point, by rising number.
 pub fn next_point(n: usize, p: Point) -> Point
@@ -87,7 +87,20 @@ fn mark_fits(n: usize, b: u8, a: Axis, p: Point) -> bool
     is_inner(n, a, p)
 }
 
-// Whether a byte may stand at a point of a grid.
+// Whether all three coordinates of a point lie in 1..n-1, so that its three edges are inner.
+fn is_deep(n: usize, p: Point) -> bool
+    ensures { λ r. ⌜ r ≡ deep n p ⌝ }
+{
+    if !is_between(1, n, p.i) {
+        return false;
+    }
+    if !is_between(1, n, p.j) {
+        return false;
+    }
+    is_between(1, n, p.k)
+}
+
+// Whether a byte may stand at a point of a grid. Most points are deep, and there any byte up to 7 may.
 pub fn byte_fits(n: usize, b: u8, p: Point) -> bool
     ensures { λ r. ⌜ r ≡ byteFits n b p ⌝ }
 {
@@ -96,6 +109,9 @@ pub fn byte_fits(n: usize, b: u8, p: Point) -> bool
     }
     if 7 < b {
         return false;
+    }
+    if is_deep(n, p) {
+        return true;
     }
     if !mark_fits(n, b, Axis::X, p) {
         return false;
