@@ -1,3 +1,5 @@
+-- the examples of the rules
+pub mod Accepted
 -- numbers, tests and lists
 pub mod Bits
 pub mod Sums

@@ -1,7 +1,6 @@
 -- Examples 1 to 7 of the rules, and five more that pin the tie between sides, the rounding of the cut, the pairing, the path's order
--- and the count of flips: one table and one claim, proved by computing the definitions. Assumes nothing.
-use mathlib.Core.Path.{_≡_, refl}
-use mathlib.Core.Bool.{Bool, true, _&&_, Bool·beq}
+-- and the count of flips: one table. That every row is right is one claim (proofs/Accepted.antt), proved by computing. Assumes nothing.
+use mathlib.Core.Bool.{Bool, _&&_, Bool·beq}
 use mathlib.Core.List.{List, [], _∷_}
 use Prim.Native.Nat.{ℕ}
 use lib.Dec.{eqb}
@@ -9,17 +8,16 @@ use lib.ListN.{length}
 use Rattle.rules.specs.Lists.{allOf, count}
 use Rattle.rules.specs.Lattice.{Axis, X, Y, Z, Edge, Set, isIn, setOf, points, places}
 use Rattle.rules.specs.Grid.{bytes, marks}
-use Rattle.rules.specs.Rims.{oddFaces, rims}
-use Rattle.rules.specs.Patch.{patchRim, flips, patched, flipCount}
+use Rattle.rules.specs.Rims.{rims}
+use Rattle.rules.specs.Patch.{flips, patched, flipCount}
 use Rattle.rules.specs.Signs.{sign}
-use Rattle.rules.specs.Quads.{quads}
 
 -- edge x(i,j,k), y(i,j,k) or z(i,j,k)
 abbrev edge : Axis → ℕ → ℕ → ℕ → Edge
 edge a i j k = record { axis = a; at = record { i = i; j = j; k = k } }
 
 -- a row: the marks, the number of rims, the edges flipped, the marks after, and the number of points inside
-record Example : Type 0 where
+pub record Example : Type 0 where
   before : List Edge
   rims : ℕ
   flipped : List Edge
@@ -48,7 +46,7 @@ ring =
     ∷ (edge X 1 2 1 ∷ (edge X 1 3 1 ∷ (edge X 1 1 2 ∷ (edge X 1 3 2 ∷ (edge X 1 1 3 ∷ (edge X 1 2 3 ∷ (edge X 1 3 3 ∷ [])))))))
 
 -- the examples, row by row
-unfoldable table : List Example
+unfoldable pub table : List Example
 unfolding single gap pair ring
 table =
     record { before = []; rims = 0; flipped = []; after = []; inside = 0 }
@@ -122,7 +120,7 @@ abbrev sameEdges : Set → Set → Bool
 sameEdges E F = allOf (λ e. Bool·beq (isIn E e) (isIn F e)) (places 5)
 
 -- from the bytes, through the definitions, to rims, flips, marks and signs
-abbrev right : Example → Bool
+abbrev pub right : Example → Bool
 right e =
     let E = marks 4 (bytes 4 (setOf (e .before))) in
     let F = marks 4 (bytes 4 (patched 4 E)) in
@@ -130,14 +128,3 @@ right e =
     && (sameEdges (setOf (flips 4 E)) (setOf (e .flipped))
     && (eqb (flipCount 4 E) (length (e .flipped))
     && (sameEdges F (setOf (e .after)) && eqb (count (sign F) (points 5)) (e .inside))))
-
-examples-hold : allOf right table ≡ true
-unfolding table single gap pair ring rims flips patched oddFaces patchRim flipCount bytes marks
-examples-hold = refl
-
--- the quads that the rules list for one point inside
-listing-holds : quads 4 (setOf single) (sign (setOf single)) ≡
-    21 ∷ (25 ∷ (26 ∷ (22 ∷ (21 ∷ (22 ∷ (38 ∷ (37 ∷ (21 ∷
-    (37 ∷ (41 ∷ (25 ∷ (22 ∷ (26 ∷ (42 ∷ (38 ∷ (25 ∷ (41 ∷ (42 ∷ (26 ∷ (37 ∷ (38 ∷ (42 ∷ (41 ∷ [])))))))))))))))))))))))
-unfolding single quads
-listing-holds = refl

@@ -7,6 +7,7 @@ use Rattle.walking.specs.Walks.{Fine}
 use Rattle.patching.proofs.Odd.{marks-edged}
 use Rattle.patching.proofs.Begins.{grid-small, found-small, fine-start}
 use Rattle.patching.proofs.Ends.{found-is, work-is, ends-well}
+use native.Mathlib.Omega.{arith}
 use borrow.Author.Needs.{needs}
 use Rattle.patching.proofs.patch_grid.Statement.{statement}
 use Rattle.patching.proofs.patch_grid.Tie as tie
@@ -15,7 +16,7 @@ point-count-requires : tie.Need-point-count-requires
 point-count-requires c κs = search needs
 
 clear-requires : tie.Need-clear-requires
-clear-requires c κs = rw (c .before .point-count .ensures .0) (c .before .before .before .before .pre .3)
+clear-requires c κs = omega (arith, c .before .point-count .ensures .0, c .before .before .before .before .pre .3)
 
 find-odd-requires : tie.Need-find-odd-requires
 find-odd-requires c κs =
