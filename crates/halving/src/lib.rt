@@ -21,6 +21,7 @@ ghost use Rattle.rules.specs.Patch.{path, cut, longest, middle, oneCell, lower,
 ghost use Rattle.rules.proofs.Store.{stored};
 ghost use Rattle.rules.proofs.PatchOf.{patchOf};
 ghost use Rattle.lattice.specs.Cells.{turns, works};
+ghost use Rattle.halving.specs.Clear.{rowClear, layerClear, boxClear};
 ghost use Rattle.halving.specs.Halving.{Edged, Run, ahead, along, Scan, pairOf, scanAll, Placed, Fits, rowOf};
 
 // The spot of the working face that waits for a partner, if one does.
@@ -228,6 +229,62 @@ fn is_one_cell(n: usize, b: Box) -> bool
     hi.k - lo.k <= 1
 }
 
+// Whether no cell of a row has a lower face in the working set.
+fn row_is_clear(work: &[u8], from: usize, count: usize) -> bool
+    requires { ⌜ (count ≤ 32) × (from + count ≤ length (now work)) ⌝ }
+    ensures { λ r. ⌜ r ≡ rowClear (now (work .entry)) from count ⌝ }
+{
+    let mut held: u8 = 0;
+    let mut k: usize = 0;
+    while k < count {
+        held += work[from + k] % 8;
+        k += 1;
+    }
+    held == 0
+}
+
+// Whether no cell of the box's layer k has a lower face in the working set.
+fn layer_is_clear(n: usize, work: &[u8], b: Box, k: usize) -> bool
+    requires { ⌜ (n ≤ 32) × (pointCount n ≤ length (now work)) × Fits n b × (k < n) ⌝ }
+    ensures { λ r. ⌜ r ≡ layerClear n b (now (work .entry)) k ⌝ }
+{
+    let lo = b.lo;
+    let hi = b.hi;
+    let mut j = lo.j;
+    while j < hi.j {
+        let from = number_of(
+            n,
+            Point {
+                i: lo.i,
+                j: j,
+                k: k,
+            },
+        );
+        if !row_is_clear(work, from, hi.i - lo.i) {
+            return false;
+        }
+        j += 1;
+    }
+    true
+}
+
+// Whether no cell of a box has a lower face in the working set: then there is nothing to patch.
+fn is_clear(n: usize, work: &[u8], b: Box) -> bool
+    requires { ⌜ (n ≤ 32) × (pointCount n ≤ length (now work)) × Fits n b ⌝ }
+    ensures { λ r. ⌜ r ≡ boxClear n b (now (work .entry)) ⌝ }
+{
+    let lo = b.lo;
+    let hi = b.hi;
+    let mut k = lo.k;
+    while k < hi.k {
+        if !layer_is_clear(n, work, b, k) {
+            return false;
+        }
+        k += 1;
+    }
+    true
+}
+
 // The axis of the longest side of a box, x before y before z when equal.
 fn longest_axis(n: usize, b: Box) -> Axis
     requires { ⌜ Fits n b ⌝ }
@@ -307,6 +364,9 @@ pub fn patch_box(n: usize, grid: &mut [u8], work: &mut [u8], b: Box)
     ensures { λ _. ⌜ (now (grid .exit) ≡ turns n (patchOf b (stored n (now (work .entry)))) (now (grid .entry))) × (now (work .exit) ≡ works n (patchOf b (stored n (now (work .entry)))) (now (work .entry))) ⌝ }
 {
     if is_one_cell(n, b) {
+        return;
+    }
+    if is_clear(n, work, b) {
         return;
     }
     let a = longest_axis(n, b);

@@ -1,9 +1,10 @@
--- What holds of each member of a list, and what is said of a mapped list. Assumes nothing.
+-- What holds of each member of a list, what is said of a mapped list, and tests of a range of numbers. Assumes nothing.
 use mathlib.Core.Bool.{Bool, cond, false, false≢true, not, true, _&&_, _||_}
 use mathlib.Core.List.{List, [], map, _++_, _∷_}
 use mathlib.Core.Logic.{_↔_}
-use mathlib.Core.Path.{ap, ap₂, refl, _∙_, _≡_}
-use Prim.Native.Nat.{suc, zero, ℕ, _+_, _<_, _≤_}
+use mathlib.Core.Path.{ap, ap₂, refl, subst, sym, _∙_, _≡_}
+use Prim.Native.Nat.{suc, zero, ℕ, _+_, _-_, _<_, _≤_}
+use native.Mathlib.Decide.{ℕ-discrete}
 use native.Mathlib.Omega.{arith}
 use lib.ListN.{length}
 use Rattle.rules.specs.Lists.{keep, count, anyOf, allOf, All, each, upto}
@@ -148,3 +149,34 @@ all-upto i (suc k) = (
 -- what holds of each number below k
 pub all-below : {P : ℕ → Type 0} (k : ℕ) → ((i : ℕ) → i < k → P i) → All P (upto 0 k)
 all-below {P} k h = all-weaken _ P (λ i c. h i (omega arith)) (upto 0 k) (all-upto 0 k)
+
+-- what holds of each number of a range, of one of them
+pub at-upto : (P : ℕ → Type 0) (i k j : ℕ) → All P (upto i k) → i ≤ j → j < i + k → P j
+at-upto P i zero j h l u = absurd (omega arith)
+at-upto P i (suc k) j h l u = go (ℕ-discrete i j) (at-upto P (suc i) k j (h .1))
+  where
+    go : Dec (i ≡ j) → (suc i ≤ j → j < suc i + k → P j) → P j
+    go (yes e) r = subst P e (h .0)
+    go (no n) r = r (omega arith) (omega arith)
+
+-- the numbers from p on: p and those from the next on
+pub upto-more : (p c : ℕ) → p < c → upto p (c - p) ≡ p ∷ upto (suc p) (c - suc p)
+upto-more p c h = ap (upto p) (let e : c - p ≡ suc (c - suc p) = omega arith in e)
+
+-- ---- a test of every number from p on and below c, one number after the other
+module _ (f : ℕ → Bool) (p c : ℕ) where
+  -- the first passes and the others decide
+  pub range-more : p < c → f p ≡ true → allOf f (upto (suc p) (c - suc p)) ≡ allOf f (upto p (c - p))
+  range-more h e = sym (ap (allOf f) (upto-more p c h) ∙ ap (λ (b : Bool). b && allOf f (upto (suc p) (c - suc p))) e)
+
+  -- the first fails
+  pub range-fails : p < c → f p ≡ false → allOf f (upto p (c - p)) ≡ false
+  range-fails h e = ap (allOf f) (upto-more p c h) ∙ ap (λ (b : Bool). b && allOf f (upto (suc p) (c - suc p))) e
+
+  -- none is left
+  pub range-end : c ≤ p → allOf f (upto p (c - p)) ≡ true
+  range-end h = ap (λ (k : ℕ). allOf f (upto p k)) (let e : c - p ≡ 0 = omega arith in e)
+
+-- a test that every number of a range passes, at one of them
+pub range-at : (f : ℕ → Bool) (p c j : ℕ) → allOf f (upto p (c - p)) ≡ true → p ≤ j → j < c → f j ≡ true
+range-at f p c j e l u = at-upto (λ i. f i ≡ true) p (c - p) j (allOf→ f (upto p (c - p)) e) l (omega arith)

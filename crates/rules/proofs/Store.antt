@@ -1,17 +1,16 @@
 -- A buffer of bytes as a set, and what turning one bit of it does. Assumes nothing.
 use mathlib.Core.Bool.{Bool, Bool·beq, cond, false, true, true≢false, _&&_}
 use mathlib.Core.List.{List, [], _∷_}
-use mathlib.Core.Path.{ap, ap₂, refl, subst, sym, _∙_, _≡_}
-use Prim.Native.Nat.{suc, zero, ℕ, _+_, _-_, _<_, _≤_}
-use native.Mathlib.Decide.{ℕ-discrete}
+use mathlib.Core.Path.{ap, ap₂, refl, sym, _∙_, _≡_}
+use Prim.Native.Nat.{suc, ℕ, _+_, _-_, _<_, _≤_}
 use native.Mathlib.Omega.{arith}
 use lib.ListN.{getD, length, set}
 use lib.Seq.{getD-set-other, getD-set-same}
-use Rattle.rules.specs.Lists.{_⊕_, allOf, All, upto}
+use Rattle.rules.specs.Lists.{_⊕_, allOf, upto}
 use Rattle.rules.specs.Lattice.{OfGrid, sameAxis, samePoint, pointNumber, pointCount, points, Set, Axis, X, Y, Z, Point}
 use Rattle.rules.specs.Grid.{weight, has}
 use Rattle.rules.proofs.Bits.{⊕-false, &&-false, &&-true, and-left, and-right}
-use Rattle.rules.proofs.Lists.{allOf→}
+use Rattle.rules.proofs.Lists.{allOf→, at-upto}
 use Rattle.rules.proofs.Cuts.{samePoint→}
 use Rattle.rules.proofs.Chains.{same-point}
 use Rattle.rules.proofs.Numbers.{points-at, number-below}
@@ -54,14 +53,6 @@ turned a c b = Bool·beq (has c (toggle a b)) (has c b ⊕ sameAxis a c)
 
 tested : allOf (λ b. allOf (λ a. allOf (λ c. turned a c b) axes) axes) (upto 0 256) ≡ true
 tested = refl
-
-at-upto : (P : ℕ → Type 0) (i k j : ℕ) → All P (upto i k) → i ≤ j → j < i + k → P j
-at-upto P i zero j h l u = absurd (omega arith)
-at-upto P i (suc k) j h l u = go (ℕ-discrete i j) (at-upto P (suc i) k j (h .1))
-  where
-    go : Dec (i ≡ j) → (suc i ≤ j → j < suc i + k → P j) → P j
-    go (yes e) r = subst P e (h .0)
-    go (no n) r = r (omega arith) (omega arith)
 
 beq→ : (a b : Bool) → Bool·beq a b ≡ true → a ≡ b
 beq→ true true e = refl

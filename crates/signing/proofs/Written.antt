@@ -7,14 +7,11 @@ use native.Mathlib.Omega.{arith}
 use lib.ListN.{length, drop, set}
 use lib.Seq.{sets, sets-eq}
 use Rattle.rules.specs.Lists.{upto}
+use Rattle.rules.proofs.Lists.{upto-more}
 
 -- what is behind the list keeps its contents
 pub written : (s l : List ℕ) (k : ℕ) → length l ≡ k → k ≤ length s → sets s 0 l ≡ l ++ drop k s
 written s l k e h = sets-eq l s 0 (omega arith) ∙ ap (λ (i : ℕ). l ++ drop i s) (zero-add (length l) ∙ e)
-
--- the numbers from p on: p and those from the next on
-pub upto-more : (p c : ℕ) → p < c → upto p (c - p) ≡ p ∷ upto (suc p) (c - suc p)
-upto-more p c h = ap (upto p) (let e : c - p ≡ suc (c - suc p) = omega arith in e)
 
 -- one member of those from p on is written, and the others are left
 pub write-more : (f : ℕ → ℕ) (s : List ℕ) (p c : ℕ) → p < c → sets (set s p (f p)) (suc p) (map f (upto (suc p) (c - suc p))) ≡ sets s p (map f (upto p (c - p)))

@@ -1,5 +1,5 @@
 -- `patch_box` cuts a box and patches its halves; the cell count of the box falls. Assumes nothing.
-use mathlib.Core.Path.{sym, _∙_}
+use mathlib.Core.Path.{refl, sym, _∙_}
 use Prim.Native.Nat.{ℕ, _<_}
 use borrow.Fn.Kinds.{In}
 use borrow.Fn.PlainCycle.{Measures, is, falls, and}
@@ -7,6 +7,7 @@ use Rattle.halving.proofs.patch_box.Reads as patch-box
 use Rattle.halving.proofs.patch_box.Kinds as patch-box-kinds
 use Rattle.halving.proofs.+patch_box.Lts-patch_box as patch-box-lts
 use Rattle.halving.proofs.cut_plane.Reads as cut-plane-reads
+use Rattle.halving.proofs.is_clear.Reads as is-clear-reads
 use Rattle.halving.proofs.is_one_cell.Reads as is-one-cell-reads
 use Rattle.halving.proofs.longest_axis.Reads as longest-axis-reads
 use Rattle.halving.proofs.lower_half.Reads as lower-half-reads
@@ -14,6 +15,7 @@ use Rattle.halving.proofs.middle_of.Reads as middle-of-reads
 use Rattle.halving.proofs.upper_half.Reads as upper-half-reads
 use Rattle.halving.specs.Halving.{cellCount}
 use Rattle.halving.proofs.Boxes.{one-is, mid-low, mid-high, low-ok, up-ok, halves-turn}
+use Rattle.halving.proofs.Clear.{clear-is}
 use Rattle.halving.proofs.+patch_box.{statement}
 use Rattle.halving.proofs.+patch_box.Tie.{close}
 
@@ -30,6 +32,8 @@ patch-box-below t =
 patch-box-is-one-cell-requires : (t : ℕ) → patch-box-lts.Need-is-one-cell-requires (
   is-one-cell-reads.Asked,
   is-one-cell-reads.Learnt,
+  is-clear-reads.Asked,
+  is-clear-reads.Learnt,
   longest-axis-reads.Asked,
   longest-axis-reads.Learnt,
   middle-of-reads.Asked,
@@ -48,6 +52,8 @@ patch-box-is-one-cell-requires t c κs = c .before .before .pre .1 .3
 patch-box-returns : (t : ℕ) → patch-box-lts.Need-returns (
   is-one-cell-reads.Asked,
   is-one-cell-reads.Learnt,
+  is-clear-reads.Asked,
+  is-clear-reads.Learnt,
   longest-axis-reads.Asked,
   longest-axis-reads.Learnt,
   middle-of-reads.Asked,
@@ -63,9 +69,11 @@ patch-box-returns : (t : ℕ) → patch-box-lts.Need-returns (
 ) (patch-box-at t) patch-box.Post
 patch-box-returns t c = one-is _ _ _ _ (sym (c .before .is-one-cell .ensures) ∙ c .if1 .taken)
 
-patch-box-longest-axis-requires : (t : ℕ) → patch-box-lts.Need-longest-axis-requires (
+patch-box-is-clear-requires : (t : ℕ) → patch-box-lts.Need-is-clear-requires (
   is-one-cell-reads.Asked,
   is-one-cell-reads.Learnt,
+  is-clear-reads.Asked,
+  is-clear-reads.Learnt,
   longest-axis-reads.Asked,
   longest-axis-reads.Learnt,
   middle-of-reads.Asked,
@@ -79,11 +87,75 @@ patch-box-longest-axis-requires : (t : ℕ) → patch-box-lts.Need-longest-axis-
   upper-half-reads.Asked,
   upper-half-reads.Learnt,
 ) (patch-box-at t) patch-box.Post
-patch-box-longest-axis-requires t c κs = c .before .before .before .before .pre .1 .3
+patch-box-is-clear-requires t c κs =
+    let s = c .before .before .before .before .before in
+    (s .pre .1 .0, s .pre .1 .2, s .pre .1 .3)
+
+patch-box-same-length : (t : ℕ) → patch-box-lts.Need-same-length (
+  is-one-cell-reads.Asked,
+  is-one-cell-reads.Learnt,
+  is-clear-reads.Asked,
+  is-clear-reads.Learnt,
+  longest-axis-reads.Asked,
+  longest-axis-reads.Learnt,
+  middle-of-reads.Asked,
+  middle-of-reads.Learnt,
+  cut-plane-reads.Asked,
+  cut-plane-reads.Learnt,
+  lower-half-reads.Asked,
+  lower-half-reads.Learnt,
+  patch-box-below t,
+  patch-box.Post,
+  upper-half-reads.Asked,
+  upper-half-reads.Learnt,
+) (patch-box-at t) patch-box.Post
+patch-box-same-length t c = refl
+
+patch-box-returns-2 : (t : ℕ) → patch-box-lts.Need-returns-2 (
+  is-one-cell-reads.Asked,
+  is-one-cell-reads.Learnt,
+  is-clear-reads.Asked,
+  is-clear-reads.Learnt,
+  longest-axis-reads.Asked,
+  longest-axis-reads.Learnt,
+  middle-of-reads.Asked,
+  middle-of-reads.Learnt,
+  cut-plane-reads.Asked,
+  cut-plane-reads.Learnt,
+  lower-half-reads.Asked,
+  lower-half-reads.Learnt,
+  patch-box-below t,
+  patch-box.Post,
+  upper-half-reads.Asked,
+  upper-half-reads.Learnt,
+) (patch-box-at t) patch-box.Post
+patch-box-returns-2 t c = clear-is _ _ _ _ (sym (c .before .is-clear .ensures) ∙ c .if2 .taken)
+
+patch-box-longest-axis-requires : (t : ℕ) → patch-box-lts.Need-longest-axis-requires (
+  is-one-cell-reads.Asked,
+  is-one-cell-reads.Learnt,
+  is-clear-reads.Asked,
+  is-clear-reads.Learnt,
+  longest-axis-reads.Asked,
+  longest-axis-reads.Learnt,
+  middle-of-reads.Asked,
+  middle-of-reads.Learnt,
+  cut-plane-reads.Asked,
+  cut-plane-reads.Learnt,
+  lower-half-reads.Asked,
+  lower-half-reads.Learnt,
+  patch-box-below t,
+  patch-box.Post,
+  upper-half-reads.Asked,
+  upper-half-reads.Learnt,
+) (patch-box-at t) patch-box.Post
+patch-box-longest-axis-requires t c κs = c .before .before .before .before .before .before .before .pre .1 .3
 
 patch-box-middle-of-requires : (t : ℕ) → patch-box-lts.Need-middle-of-requires (
   is-one-cell-reads.Asked,
   is-one-cell-reads.Learnt,
+  is-clear-reads.Asked,
+  is-clear-reads.Learnt,
   longest-axis-reads.Asked,
   longest-axis-reads.Learnt,
   middle-of-reads.Asked,
@@ -97,11 +169,13 @@ patch-box-middle-of-requires : (t : ℕ) → patch-box-lts.Need-middle-of-requir
   upper-half-reads.Asked,
   upper-half-reads.Learnt,
 ) (patch-box-at t) patch-box.Post
-patch-box-middle-of-requires t c κs = let s = c .before .before .before .before .before in (s .pre .1 .0, s .pre .1 .3)
+patch-box-middle-of-requires t c κs = let s = c .before .before .before .before .before .before .before .before in (s .pre .1 .0, s .pre .1 .3)
 
 patch-box-cut-plane-requires : (t : ℕ) → patch-box-lts.Need-cut-plane-requires (
   is-one-cell-reads.Asked,
   is-one-cell-reads.Learnt,
+  is-clear-reads.Asked,
+  is-clear-reads.Learnt,
   longest-axis-reads.Asked,
   longest-axis-reads.Learnt,
   middle-of-reads.Asked,
@@ -116,8 +190,8 @@ patch-box-cut-plane-requires : (t : ℕ) → patch-box-lts.Need-cut-plane-requir
   upper-half-reads.Learnt,
 ) (patch-box-at t) patch-box.Post
 patch-box-cut-plane-requires t c κs =
-    let s = c .before .before .before .before .before .before .before .before in
-    let o = sym (c .before .before .before .before .before .is-one-cell .ensures) ∙ c .before .before .before .before .if1 .left in
+    let s = c .before .before .before .before .before .before .before .before .before .before .before in
+    let o = sym (c .before .before .before .before .before .before .before .before .is-one-cell .ensures) ∙ c .before .before .before .before .before .before .before .if1 .left in
     let a = c .before .before .before .longest-axis .ensures in
     let m = c .before .before .middle-of .ensures in
     (s .pre .1 .0, s .pre .1 .1, s .pre .1 .2, s .pre .1 .3, mid-low _ _ (s .pre .1 .3) o _ _ a m, mid-high _ _ (s .pre .1 .3) o _ _ a m)
@@ -125,6 +199,8 @@ patch-box-cut-plane-requires t c κs =
 patch-box-lower-half-requires : (t : ℕ) → patch-box-lts.Need-lower-half-requires (
   is-one-cell-reads.Asked,
   is-one-cell-reads.Learnt,
+  is-clear-reads.Asked,
+  is-clear-reads.Learnt,
   longest-axis-reads.Asked,
   longest-axis-reads.Learnt,
   middle-of-reads.Asked,
@@ -143,6 +219,8 @@ patch-box-lower-half-requires t c κs = tt
 patch-box-patch-box-requires : (t : ℕ) → patch-box-lts.Need-patch-box-requires (
   is-one-cell-reads.Asked,
   is-one-cell-reads.Learnt,
+  is-clear-reads.Asked,
+  is-clear-reads.Learnt,
   longest-axis-reads.Asked,
   longest-axis-reads.Learnt,
   middle-of-reads.Asked,
@@ -157,8 +235,8 @@ patch-box-patch-box-requires : (t : ℕ) → patch-box-lts.Need-patch-box-requir
   upper-half-reads.Learnt,
 ) (patch-box-at t) patch-box.Post
 patch-box-patch-box-requires t c κs =
-    let s = c .before .before .before .before .before .before .before .before .before .before .before .before .before .before .before .before in
-    let o = sym (c .before .before .before .before .before .before .before .before .before .before .before .before .before .is-one-cell .ensures) ∙ c .before .before .before .before .before .before .before .before .before .before .before .before .if1 .left in
+    let s = c .before .before .before .before .before .before .before .before .before .before .before .before .before .before .before .before .before .before .before in
+    let o = sym (c .before .before .before .before .before .before .before .before .before .before .before .before .before .before .before .before .is-one-cell .ensures) ∙ c .before .before .before .before .before .before .before .before .before .before .before .before .before .before .before .if1 .left in
     let k = c .before .before .before .before .before .before .before .cut-plane .kept in
     let h = low-ok _ _ (s .pre .1 .3) o _ _ (c .before .before .before .before .before .before .before .before .before .before .before .longest-axis .ensures) (c .before .before .before .before .before .before .before .before .before .before .middle-of .ensures) t _ (s .pre .0) (c .lower-half .ensures) in
     (h .0, (s .pre .1 .0, rw (k .1 .0) (s .pre .1 .1), rw (k .1 .1 .0) (s .pre .1 .2), h .1))
@@ -166,6 +244,8 @@ patch-box-patch-box-requires t c κs =
 patch-box-upper-half-requires : (t : ℕ) → patch-box-lts.Need-upper-half-requires (
   is-one-cell-reads.Asked,
   is-one-cell-reads.Learnt,
+  is-clear-reads.Asked,
+  is-clear-reads.Learnt,
   longest-axis-reads.Asked,
   longest-axis-reads.Learnt,
   middle-of-reads.Asked,
@@ -184,6 +264,8 @@ patch-box-upper-half-requires t c κs = tt
 patch-box-patch-box-requires-2 : (t : ℕ) → patch-box-lts.Need-patch-box-requires-2 (
   is-one-cell-reads.Asked,
   is-one-cell-reads.Learnt,
+  is-clear-reads.Asked,
+  is-clear-reads.Learnt,
   longest-axis-reads.Asked,
   longest-axis-reads.Learnt,
   middle-of-reads.Asked,
@@ -198,34 +280,18 @@ patch-box-patch-box-requires-2 : (t : ℕ) → patch-box-lts.Need-patch-box-requ
   upper-half-reads.Learnt,
 ) (patch-box-at t) patch-box.Post
 patch-box-patch-box-requires-2 t c κs =
-    let s = c .before .before .before .before .before .before .before .before .before .before .before .before .before .before .before .before .before .before .before .before .before .before .before .before in
-    let o = sym (c .before .before .before .before .before .before .before .before .before .before .before .before .before .before .before .before .before .before .before .before .before .is-one-cell .ensures) ∙ c .before .before .before .before .before .before .before .before .before .before .before .before .before .before .before .before .before .before .before .before .if1 .left in
+    let s = c .before .before .before .before .before .before .before .before .before .before .before .before .before .before .before .before .before .before .before .before .before .before .before .before .before .before .before in
+    let o = sym (c .before .before .before .before .before .before .before .before .before .before .before .before .before .before .before .before .before .before .before .before .before .before .before .before .is-one-cell .ensures) ∙ c .before .before .before .before .before .before .before .before .before .before .before .before .before .before .before .before .before .before .before .before .before .before .before .if1 .left in
     let k = c .before .before .before .before .before .before .before .before .before .before .before .before .before .before .before .cut-plane .kept in
     let j = c .before .before .before .before .before .before .before .patch-box .kept in
     let h = up-ok _ _ (s .pre .1 .3) o _ _ (c .before .before .before .before .before .before .before .before .before .before .before .before .before .before .before .before .before .before .before .longest-axis .ensures) (c .before .before .before .before .before .before .before .before .before .before .before .before .before .before .before .before .before .before .middle-of .ensures) t _ (s .pre .0) (c .upper-half .ensures) in
     (h .0, (s .pre .1 .0, rw (j .1 .0, k .1 .0) (s .pre .1 .1), rw (j .1 .1 .0, k .1 .1 .0) (s .pre .1 .2), h .1))
 
-patch-box-same-length : (t : ℕ) → patch-box-lts.Need-same-length (
-  is-one-cell-reads.Asked,
-  is-one-cell-reads.Learnt,
-  longest-axis-reads.Asked,
-  longest-axis-reads.Learnt,
-  middle-of-reads.Asked,
-  middle-of-reads.Learnt,
-  cut-plane-reads.Asked,
-  cut-plane-reads.Learnt,
-  lower-half-reads.Asked,
-  lower-half-reads.Learnt,
-  patch-box-below t,
-  patch-box.Post,
-  upper-half-reads.Asked,
-  upper-half-reads.Learnt,
-) (patch-box-at t) patch-box.Post
-patch-box-same-length t c = c .before .before .before .before .patch-box2 .kept .1 .0 ∙ c .before .before .before .before .before .before .before .before .before .before .before .before .patch-box .kept .1 .0 ∙ c .before .before .before .before .before .before .before .before .before .before .before .before .before .before .before .before .before .before .before .before .cut-plane .kept .1 .0
-
 patch-box-same-length-2 : (t : ℕ) → patch-box-lts.Need-same-length-2 (
   is-one-cell-reads.Asked,
   is-one-cell-reads.Learnt,
+  is-clear-reads.Asked,
+  is-clear-reads.Learnt,
   longest-axis-reads.Asked,
   longest-axis-reads.Learnt,
   middle-of-reads.Asked,
@@ -239,11 +305,13 @@ patch-box-same-length-2 : (t : ℕ) → patch-box-lts.Need-same-length-2 (
   upper-half-reads.Asked,
   upper-half-reads.Learnt,
 ) (patch-box-at t) patch-box.Post
-patch-box-same-length-2 t c = c .before .before .before .before .patch-box2 .kept .1 .1 .0 ∙ c .before .before .before .before .before .before .before .before .before .before .before .before .patch-box .kept .1 .1 .0 ∙ c .before .before .before .before .before .before .before .before .before .before .before .before .before .before .before .before .before .before .before .before .cut-plane .kept .1 .1 .0
+patch-box-same-length-2 t c = c .before .before .before .before .patch-box2 .kept .1 .0 ∙ c .before .before .before .before .before .before .before .before .before .before .before .before .patch-box .kept .1 .0 ∙ c .before .before .before .before .before .before .before .before .before .before .before .before .before .before .before .before .before .before .before .before .cut-plane .kept .1 .0
 
-patch-box-returns-2 : (t : ℕ) → patch-box-lts.Need-returns-2 (
+patch-box-same-length-3 : (t : ℕ) → patch-box-lts.Need-same-length-3 (
   is-one-cell-reads.Asked,
   is-one-cell-reads.Learnt,
+  is-clear-reads.Asked,
+  is-clear-reads.Learnt,
   longest-axis-reads.Asked,
   longest-axis-reads.Learnt,
   middle-of-reads.Asked,
@@ -257,9 +325,29 @@ patch-box-returns-2 : (t : ℕ) → patch-box-lts.Need-returns-2 (
   upper-half-reads.Asked,
   upper-half-reads.Learnt,
 ) (patch-box-at t) patch-box.Post
-patch-box-returns-2 t c =
-    let s = c .before .before .before .before .before .before .before .before .before .before .before .before .before .before .before .before .before .before .before .before .before .before .before .before .before .before .before .before .before in
-    let o = sym (c .before .before .before .before .before .before .before .before .before .before .before .before .before .before .before .before .before .before .before .before .before .before .before .before .before .before .is-one-cell .ensures) ∙ c .before .before .before .before .before .before .before .before .before .before .before .before .before .before .before .before .before .before .before .before .before .before .before .before .before .if1 .left in
+patch-box-same-length-3 t c = c .before .before .before .before .patch-box2 .kept .1 .1 .0 ∙ c .before .before .before .before .before .before .before .before .before .before .before .before .patch-box .kept .1 .1 .0 ∙ c .before .before .before .before .before .before .before .before .before .before .before .before .before .before .before .before .before .before .before .before .cut-plane .kept .1 .1 .0
+
+patch-box-returns-3 : (t : ℕ) → patch-box-lts.Need-returns-3 (
+  is-one-cell-reads.Asked,
+  is-one-cell-reads.Learnt,
+  is-clear-reads.Asked,
+  is-clear-reads.Learnt,
+  longest-axis-reads.Asked,
+  longest-axis-reads.Learnt,
+  middle-of-reads.Asked,
+  middle-of-reads.Learnt,
+  cut-plane-reads.Asked,
+  cut-plane-reads.Learnt,
+  lower-half-reads.Asked,
+  lower-half-reads.Learnt,
+  patch-box-below t,
+  patch-box.Post,
+  upper-half-reads.Asked,
+  upper-half-reads.Learnt,
+) (patch-box-at t) patch-box.Post
+patch-box-returns-3 t c =
+    let s = c .before .before .before .before .before .before .before .before .before .before .before .before .before .before .before .before .before .before .before .before .before .before .before .before .before .before .before .before .before .before .before .before in
+    let o = sym (c .before .before .before .before .before .before .before .before .before .before .before .before .before .before .before .before .before .before .before .before .before .before .before .before .before .before .before .before .before .is-one-cell .ensures) ∙ c .before .before .before .before .before .before .before .before .before .before .before .before .before .before .before .before .before .before .before .before .before .before .before .before .before .before .before .before .if1 .left in
     let k = c .before .before .before .before .before .before .before .before .before .before .before .before .before .before .before .before .before .before .before .before .cut-plane in
     let l = c .before .before .before .before .before .before .before .before .before .before .before .before .patch-box in
     let u = c .before .before .before .before .patch-box2 in
@@ -270,6 +358,8 @@ pub +patch-box-spec : {M : Type 1} → statement M
 +patch-box-spec = close μ-patch-box λ t. patch-box-lts.spec (
   is-one-cell-reads.Asked,
   is-one-cell-reads.Learnt,
+  is-clear-reads.Asked,
+  is-clear-reads.Learnt,
   longest-axis-reads.Asked,
   longest-axis-reads.Learnt,
   middle-of-reads.Asked,
@@ -287,6 +377,9 @@ pub +patch-box-spec : {M : Type 1} → statement M
     patch-box.Post
     (patch-box-is-one-cell-requires t)
     (patch-box-returns t)
+    (patch-box-is-clear-requires t)
+    (patch-box-same-length t)
+    (patch-box-returns-2 t)
     (patch-box-longest-axis-requires t)
     (patch-box-middle-of-requires t)
     (patch-box-cut-plane-requires t)
@@ -294,6 +387,6 @@ pub +patch-box-spec : {M : Type 1} → statement M
     (patch-box-patch-box-requires t)
     (patch-box-upper-half-requires t)
     (patch-box-patch-box-requires-2 t)
-    (patch-box-same-length t)
     (patch-box-same-length-2 t)
-    (patch-box-returns-2 t)
+    (patch-box-same-length-3 t)
+    (patch-box-returns-3 t)
