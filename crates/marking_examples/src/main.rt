@@ -1,11 +1,15 @@
 // Runs open and mark at level 2: examples 8 to 11 of the rules, triangles of no area, numbers at the ends of the range and of
 // i32, lists of other lengths, and inputs to which several numbers apply. It prints the number and the edges marked; `kept`
 // says that nothing of the buffer changed, `rest` that the bytes behind the last point are as they were.
-use libc::STDOUT_FILENO;
 use marking::MarkAnswer;
 use marking::OpenAnswer;
 use marking::mark;
 use marking::open;
+use showing::all_hold;
+use showing::put;
+use showing::say;
+use showing::say_marks;
+use showing::say_number;
 
 // The points of level 2, and the bytes of a buffer that is longer.
 const POINTS: usize = 125;
@@ -13,66 +17,6 @@ const POINTS: usize = 125;
 const LONG: usize = 130;
 // What every byte holds before a grid is opened, and every byte behind it afterwards.
 const DIRTY: u8 = 90;
-
-fn say(text: &[u8]) {
-    io::write_all(STDOUT_FILENO, text);
-}
-
-fn say_number(k: u32) {
-    io::print_decimal(STDOUT_FILENO, k as u64);
-}
-
-// Puts a byte into a buffer.
-fn put(buffer: &mut [u8], p: usize, v: u8) {
-    if p < buffer.len() {
-        buffer[p] = v;
-    }
-}
-
-// Whether the bytes from `from` on all hold v.
-fn bytes_hold(buffer: &[u8], from: usize, v: u8) -> bool {
-    let mut p = from;
-    while p < buffer.len() {
-        if buffer[p] != v {
-            return false;
-        }
-        p += 1;
-    }
-    true
-}
-
-fn say_point(p: usize) {
-    say_number((p % 5) as u32);
-    say_number((p / 5 % 5) as u32);
-    say_number((p / 25 % 5) as u32);
-}
-
-// Prints the marks of a point.
-fn say_byte(p: usize, b: u8) {
-    if b % 2 == 1 {
-        say(b" x");
-        say_point(p);
-    }
-    if b / 2 % 2 == 1 {
-        say(b" y");
-        say_point(p);
-    }
-    if b / 4 % 2 == 1 {
-        say(b" z");
-        say_point(p);
-    }
-}
-
-// Prints the marks of a grid, by rising point number.
-fn say_marks(grid: &[u8]) {
-    let mut p: usize = 0;
-    while p < grid.len() {
-        if p < POINTS {
-            say_byte(p, grid[p]);
-        }
-        p += 1;
-    }
-}
 
 fn open_number(answer: OpenAnswer) -> u32 {
     match answer {
@@ -99,7 +43,7 @@ fn say_opened(name: &[u8], number: u32, grid: &[u8]) {
     say(name);
     say(b": ");
     say_number(number);
-    if bytes_hold(grid, 0, DIRTY) {
+    if all_hold(grid, 0, LONG, DIRTY) {
         say(b", kept");
     }
 }
@@ -110,7 +54,7 @@ fn show_open(name: &[u8], level: u32) {
     let number = open_number(open(level, &mut grid));
     say_opened(name, number, &grid);
     if number == 0 {
-        if bytes_hold(&grid, POINTS, DIRTY) {
+        if all_hold(&grid, POINTS, LONG, DIRTY) {
             say(b", rest");
         }
         say_marks(&grid);
@@ -132,7 +76,7 @@ fn say_marked(name: &[u8], number: u32, grid: &[u8]) {
     say(name);
     say(b": ");
     say_number(number);
-    if bytes_hold(grid, POINTS, DIRTY) {
+    if all_hold(grid, POINTS, LONG, DIRTY) {
         say(b", rest");
     }
     say_marks(grid);

@@ -1,9 +1,12 @@
 // Runs patch on the examples of the rules at level 2, on the four grids that pin its choices, on a sheet with a hole, and on
 // inputs that it refuses. For each it prints the number, the rims, the flips, and the edges marked afterwards; `kept` says that
 // no byte of either buffer changed, `clear` that the first P work bytes are 0, `rest` that the bytes behind them are as they were.
-use libc::STDOUT_FILENO;
 use patching::PatchAnswer;
 use patching::patch;
+use showing::all_hold;
+use showing::say;
+use showing::say_marks;
+use showing::say_number;
 ghost use Prim.Native.Nat.{_≤_, _<_};
 ghost use lib.ListN.{length};
 
@@ -15,14 +18,6 @@ const LONG: usize = 130;
 const BEHIND: u8 = 201;
 
 const DIRTY: u8 = 90;
-
-fn say(text: &[u8]) {
-    io::write_all(STDOUT_FILENO, text);
-}
-
-fn say_number(k: u32) {
-    io::print_decimal(STDOUT_FILENO, k as u64);
-}
 
 // The value of a mark on the edge that a letter names.
 fn value(letter: u8) -> u8
@@ -90,52 +85,6 @@ fn fill(buffer: &mut [u8], v: u8) {
     let mut p: usize = 0;
     while p < buffer.len() {
         buffer[p] = filler(p, v);
-        p += 1;
-    }
-}
-
-// Whether the bytes from `from` up to `to` all hold v.
-fn all_hold(buffer: &[u8], from: usize, to: usize, v: u8) -> bool {
-    let mut p = from;
-    while p < to {
-        if p < buffer.len() {
-            if buffer[p] != v {
-                return false;
-            }
-        }
-        p += 1;
-    }
-    true
-}
-
-fn say_edge(letter: &[u8], p: usize) {
-    say(b" ");
-    say(letter);
-    say_number((p % 5) as u32);
-    say_number((p / 5 % 5) as u32);
-    say_number((p / 25 % 5) as u32);
-}
-
-// Prints the marked edges of a point.
-fn say_point(b: u8, p: usize) {
-    if b % 2 == 1 {
-        say_edge(b"x", p);
-    }
-    if b / 2 % 2 == 1 {
-        say_edge(b"y", p);
-    }
-    if b / 4 % 2 == 1 {
-        say_edge(b"z", p);
-    }
-}
-
-// Prints the edges that a grid marks, by rising point number.
-fn say_marks(grid: &[u8]) {
-    let mut p: usize = 0;
-    while p < grid.len() {
-        if p < POINTS {
-            say_point(grid[p], p);
-        }
         p += 1;
     }
 }

@@ -2,7 +2,11 @@
 // with one number less, and inputs that each call refuses. For sign it prints the number and the points inside, for surface the
 // number, the count and the quads; `kept` says that nothing of the buffer changed, `rest` that what is behind the last byte or
 // quad is as it was.
-use libc::STDOUT_FILENO;
+use showing::all_hold;
+use showing::put;
+use showing::say;
+use showing::say_number;
+use showing::say_point;
 use signing::SignAnswer;
 use signing::sign;
 use surfacing::SurfaceAnswer;
@@ -17,39 +21,12 @@ const DIRTY: u8 = 90;
 
 const BLANK: u16 = 999;
 
-fn say(text: &[u8]) {
-    io::write_all(STDOUT_FILENO, text);
-}
-
-fn say_number(k: u32) {
-    io::print_decimal(STDOUT_FILENO, k as u64);
-}
-
-// Puts a byte into a buffer.
-fn put(buffer: &mut [u8], p: usize, v: u8) {
-    if p < buffer.len() {
-        buffer[p] = v;
-    }
-}
-
 // Marks the six edges of point (2,2,2): at points (2,2,1), (2,1,2), (1,2,2) and at itself.
 fn mark_single(grid: &mut [u8]) {
     put(grid, 37, 4);
     put(grid, 57, 2);
     put(grid, 61, 1);
     put(grid, 62, 7);
-}
-
-// Whether the bytes from `from` on all hold v.
-fn bytes_hold(buffer: &[u8], from: usize, v: u8) -> bool {
-    let mut p = from;
-    while p < buffer.len() {
-        if buffer[p] != v {
-            return false;
-        }
-        p += 1;
-    }
-    true
 }
 
 // Whether the entries of a list from `from` on are blank.
@@ -64,11 +41,9 @@ fn entries_blank(list: &[u16], from: usize) -> bool {
     true
 }
 
-fn say_point(p: usize) {
+fn say_place(p: usize) {
     say(b" ");
-    say_number((p % 5) as u32);
-    say_number((p / 5 % 5) as u32);
-    say_number((p / 25 % 5) as u32);
+    say_point(p);
 }
 
 // Prints the points inside, by rising number.
@@ -76,7 +51,7 @@ fn say_inside(signs: &[u8]) {
     let mut p: usize = 0;
     while p < signs.len() {
         if signs[p] == 1 {
-            say_point(p);
+            say_place(p);
         }
         p += 1;
     }
@@ -100,11 +75,11 @@ fn show_sign(name: &[u8], level: u32, grid: &[u8]) {
     say(name);
     say(b": ");
     say_number(number);
-    if bytes_hold(&signs, 0, DIRTY) {
+    if all_hold(&signs, 0, LONG, DIRTY) {
         say(b", kept");
     }
     if number == 0 {
-        if bytes_hold(&signs, POINTS, DIRTY) {
+        if all_hold(&signs, POINTS, LONG, DIRTY) {
             say(b", rest, inside");
         }
         say_inside(&signs);

@@ -17,8 +17,8 @@ loop-holds c = search needs
 shared-slice-read-if1 : tie.Need-shared-slice-read-if1 Inv-loop μ-loop
 shared-slice-read-if1 c = search needs
 
-say-point-requires : tie.Need-say-point-requires Inv-loop μ-loop
-say-point-requires c κs = search needs
+say-place-requires : tie.Need-say-place-requires Inv-loop μ-loop
+say-place-requires c κs = search needs
 
 add-p : tie.Need-add-p Inv-loop μ-loop
 add-p c = search needs
@@ -40,7 +40,7 @@ say-inside-spec =
     μ-loop
     loop-holds
     shared-slice-read-if1
-    say-point-requires
+    say-place-requires
     add-p
     loop-less
     loop-again

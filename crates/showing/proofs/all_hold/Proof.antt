@@ -1,21 +1,20 @@
--- `bytes_hold` reads within its buffer and ends. Assumes nothing.
-use Prim.Native.Nat.{_-_}
+-- `all_hold` reads within its buffer and ends. Assumes nothing.
 use borrow.Author.Needs.{needs}
-use lib.ListN.{length}
-use Rattle.marking_examples.proofs.bytes_hold.Statement.{statement}
-use Rattle.marking_examples.proofs.bytes_hold.Tie as tie
+use Prim.Native.Nat.{_-_}
+use Rattle.showing.proofs.all_hold.Statement.{statement}
+use Rattle.showing.proofs.all_hold.Tie as tie
 
 abbrev Inv-loop : tie.InvT-loop
-Inv-loop buffer from v p₀ p = Unit
+Inv-loop buffer from to v p₀ p = Unit
 
 abbrev μ-loop : tie.MeasureT-loop
-μ-loop buffer from v p₀ p = length buffer - p
+μ-loop buffer from to v p₀ p = to - p
 
 loop-holds : tie.Need-loop-holds Inv-loop μ-loop
 loop-holds c = search needs
 
-shared-slice-read-if1 : tie.Need-shared-slice-read-if1 Inv-loop μ-loop
-shared-slice-read-if1 c = search needs
+shared-slice-read-if2 : tie.Need-shared-slice-read-if2 Inv-loop μ-loop
+shared-slice-read-if2 c = search needs
 
 returns : tie.Need-returns Inv-loop μ-loop
 returns c = search needs
@@ -32,14 +31,14 @@ loop-again c = search needs
 returns-2 : tie.Need-returns-2 Inv-loop μ-loop
 returns-2 c = search needs
 
-pub bytes-hold-spec : {M : Type 1} → statement M
-bytes-hold-spec =
+pub all-hold-spec : {M : Type 1} → statement M
+all-hold-spec =
     tie.close
     (tie.spec
     Inv-loop
     μ-loop
     loop-holds
-    shared-slice-read-if1
+    shared-slice-read-if2
     returns
     add-p
     loop-less

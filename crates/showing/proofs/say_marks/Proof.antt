@@ -1,9 +1,9 @@
 -- `say_marks` reads within its grid and ends. Assumes nothing.
-use Prim.Native.Nat.{_-_}
 use borrow.Author.Needs.{needs}
+use Prim.Native.Nat.{_-_}
 use lib.ListN.{length}
-use Rattle.marking_examples.proofs.say_marks.Statement.{statement}
-use Rattle.marking_examples.proofs.say_marks.Tie as tie
+use Rattle.showing.proofs.say_marks.Statement.{statement}
+use Rattle.showing.proofs.say_marks.Tie as tie
 
 abbrev Inv-loop : tie.InvT-loop
 Inv-loop grid p₀ p = Unit
