@@ -29,333 +29,9 @@ abbrev patch-box-below : ℕ → In 2 patch-box-kinds.ps
 patch-box-below t =
     and 2 patch-box-kinds.ps (falls 2 patch-box-kinds.ps _<_ μ-patch-box t) patch-box.Pre
 
-patch-box-is-one-cell-requires : (t : ℕ) → patch-box-lts.Need-is-one-cell-requires (
-  is-one-cell-reads.Asked,
-  is-one-cell-reads.Learnt,
-  is-clear-reads.Asked,
-  is-clear-reads.Learnt,
-  longest-axis-reads.Asked,
-  longest-axis-reads.Learnt,
-  middle-of-reads.Asked,
-  middle-of-reads.Learnt,
-  cut-plane-reads.Asked,
-  cut-plane-reads.Learnt,
-  lower-half-reads.Asked,
-  lower-half-reads.Learnt,
-  patch-box-below t,
-  patch-box.Post,
-  upper-half-reads.Asked,
-  upper-half-reads.Learnt,
-) (patch-box-at t) patch-box.Post
-patch-box-is-one-cell-requires t c κs = c .before .before .pre .1 .3
-
-patch-box-returns : (t : ℕ) → patch-box-lts.Need-returns (
-  is-one-cell-reads.Asked,
-  is-one-cell-reads.Learnt,
-  is-clear-reads.Asked,
-  is-clear-reads.Learnt,
-  longest-axis-reads.Asked,
-  longest-axis-reads.Learnt,
-  middle-of-reads.Asked,
-  middle-of-reads.Learnt,
-  cut-plane-reads.Asked,
-  cut-plane-reads.Learnt,
-  lower-half-reads.Asked,
-  lower-half-reads.Learnt,
-  patch-box-below t,
-  patch-box.Post,
-  upper-half-reads.Asked,
-  upper-half-reads.Learnt,
-) (patch-box-at t) patch-box.Post
-patch-box-returns t c = one-is _ _ _ _ (sym (c .before .is-one-cell .ensures) ∙ c .if1 .taken)
-
-patch-box-is-clear-requires : (t : ℕ) → patch-box-lts.Need-is-clear-requires (
-  is-one-cell-reads.Asked,
-  is-one-cell-reads.Learnt,
-  is-clear-reads.Asked,
-  is-clear-reads.Learnt,
-  longest-axis-reads.Asked,
-  longest-axis-reads.Learnt,
-  middle-of-reads.Asked,
-  middle-of-reads.Learnt,
-  cut-plane-reads.Asked,
-  cut-plane-reads.Learnt,
-  lower-half-reads.Asked,
-  lower-half-reads.Learnt,
-  patch-box-below t,
-  patch-box.Post,
-  upper-half-reads.Asked,
-  upper-half-reads.Learnt,
-) (patch-box-at t) patch-box.Post
-patch-box-is-clear-requires t c κs =
-    let s = c .before .before .before .before .before in
-    (s .pre .1 .0, s .pre .1 .2, s .pre .1 .3)
-
-patch-box-same-length : (t : ℕ) → patch-box-lts.Need-same-length (
-  is-one-cell-reads.Asked,
-  is-one-cell-reads.Learnt,
-  is-clear-reads.Asked,
-  is-clear-reads.Learnt,
-  longest-axis-reads.Asked,
-  longest-axis-reads.Learnt,
-  middle-of-reads.Asked,
-  middle-of-reads.Learnt,
-  cut-plane-reads.Asked,
-  cut-plane-reads.Learnt,
-  lower-half-reads.Asked,
-  lower-half-reads.Learnt,
-  patch-box-below t,
-  patch-box.Post,
-  upper-half-reads.Asked,
-  upper-half-reads.Learnt,
-) (patch-box-at t) patch-box.Post
-patch-box-same-length t c = refl
-
-patch-box-returns-2 : (t : ℕ) → patch-box-lts.Need-returns-2 (
-  is-one-cell-reads.Asked,
-  is-one-cell-reads.Learnt,
-  is-clear-reads.Asked,
-  is-clear-reads.Learnt,
-  longest-axis-reads.Asked,
-  longest-axis-reads.Learnt,
-  middle-of-reads.Asked,
-  middle-of-reads.Learnt,
-  cut-plane-reads.Asked,
-  cut-plane-reads.Learnt,
-  lower-half-reads.Asked,
-  lower-half-reads.Learnt,
-  patch-box-below t,
-  patch-box.Post,
-  upper-half-reads.Asked,
-  upper-half-reads.Learnt,
-) (patch-box-at t) patch-box.Post
-patch-box-returns-2 t c = clear-is _ _ _ _ (sym (c .before .is-clear .ensures) ∙ c .if2 .taken)
-
-patch-box-longest-axis-requires : (t : ℕ) → patch-box-lts.Need-longest-axis-requires (
-  is-one-cell-reads.Asked,
-  is-one-cell-reads.Learnt,
-  is-clear-reads.Asked,
-  is-clear-reads.Learnt,
-  longest-axis-reads.Asked,
-  longest-axis-reads.Learnt,
-  middle-of-reads.Asked,
-  middle-of-reads.Learnt,
-  cut-plane-reads.Asked,
-  cut-plane-reads.Learnt,
-  lower-half-reads.Asked,
-  lower-half-reads.Learnt,
-  patch-box-below t,
-  patch-box.Post,
-  upper-half-reads.Asked,
-  upper-half-reads.Learnt,
-) (patch-box-at t) patch-box.Post
-patch-box-longest-axis-requires t c κs = c .before .before .before .before .before .before .before .pre .1 .3
-
-patch-box-middle-of-requires : (t : ℕ) → patch-box-lts.Need-middle-of-requires (
-  is-one-cell-reads.Asked,
-  is-one-cell-reads.Learnt,
-  is-clear-reads.Asked,
-  is-clear-reads.Learnt,
-  longest-axis-reads.Asked,
-  longest-axis-reads.Learnt,
-  middle-of-reads.Asked,
-  middle-of-reads.Learnt,
-  cut-plane-reads.Asked,
-  cut-plane-reads.Learnt,
-  lower-half-reads.Asked,
-  lower-half-reads.Learnt,
-  patch-box-below t,
-  patch-box.Post,
-  upper-half-reads.Asked,
-  upper-half-reads.Learnt,
-) (patch-box-at t) patch-box.Post
-patch-box-middle-of-requires t c κs = let s = c .before .before .before .before .before .before .before .before in (s .pre .1 .0, s .pre .1 .3)
-
-patch-box-cut-plane-requires : (t : ℕ) → patch-box-lts.Need-cut-plane-requires (
-  is-one-cell-reads.Asked,
-  is-one-cell-reads.Learnt,
-  is-clear-reads.Asked,
-  is-clear-reads.Learnt,
-  longest-axis-reads.Asked,
-  longest-axis-reads.Learnt,
-  middle-of-reads.Asked,
-  middle-of-reads.Learnt,
-  cut-plane-reads.Asked,
-  cut-plane-reads.Learnt,
-  lower-half-reads.Asked,
-  lower-half-reads.Learnt,
-  patch-box-below t,
-  patch-box.Post,
-  upper-half-reads.Asked,
-  upper-half-reads.Learnt,
-) (patch-box-at t) patch-box.Post
-patch-box-cut-plane-requires t c κs =
-    let s = c .before .before .before .before .before .before .before .before .before .before .before in
-    let o = sym (c .before .before .before .before .before .before .before .before .is-one-cell .ensures) ∙ c .before .before .before .before .before .before .before .if1 .left in
-    let a = c .before .before .before .longest-axis .ensures in
-    let m = c .before .before .middle-of .ensures in
-    (s .pre .1 .0, s .pre .1 .1, s .pre .1 .2, s .pre .1 .3, mid-low _ _ (s .pre .1 .3) o _ _ a m, mid-high _ _ (s .pre .1 .3) o _ _ a m)
-
-patch-box-lower-half-requires : (t : ℕ) → patch-box-lts.Need-lower-half-requires (
-  is-one-cell-reads.Asked,
-  is-one-cell-reads.Learnt,
-  is-clear-reads.Asked,
-  is-clear-reads.Learnt,
-  longest-axis-reads.Asked,
-  longest-axis-reads.Learnt,
-  middle-of-reads.Asked,
-  middle-of-reads.Learnt,
-  cut-plane-reads.Asked,
-  cut-plane-reads.Learnt,
-  lower-half-reads.Asked,
-  lower-half-reads.Learnt,
-  patch-box-below t,
-  patch-box.Post,
-  upper-half-reads.Asked,
-  upper-half-reads.Learnt,
-) (patch-box-at t) patch-box.Post
-patch-box-lower-half-requires t c κs = tt
-
-patch-box-patch-box-requires : (t : ℕ) → patch-box-lts.Need-patch-box-requires (
-  is-one-cell-reads.Asked,
-  is-one-cell-reads.Learnt,
-  is-clear-reads.Asked,
-  is-clear-reads.Learnt,
-  longest-axis-reads.Asked,
-  longest-axis-reads.Learnt,
-  middle-of-reads.Asked,
-  middle-of-reads.Learnt,
-  cut-plane-reads.Asked,
-  cut-plane-reads.Learnt,
-  lower-half-reads.Asked,
-  lower-half-reads.Learnt,
-  patch-box-below t,
-  patch-box.Post,
-  upper-half-reads.Asked,
-  upper-half-reads.Learnt,
-) (patch-box-at t) patch-box.Post
-patch-box-patch-box-requires t c κs =
-    let s = c .before .before .before .before .before .before .before .before .before .before .before .before .before .before .before .before .before .before .before in
-    let o = sym (c .before .before .before .before .before .before .before .before .before .before .before .before .before .before .before .before .is-one-cell .ensures) ∙ c .before .before .before .before .before .before .before .before .before .before .before .before .before .before .before .if1 .left in
-    let k = c .before .before .before .before .before .before .before .cut-plane .kept in
-    let h = low-ok _ _ (s .pre .1 .3) o _ _ (c .before .before .before .before .before .before .before .before .before .before .before .longest-axis .ensures) (c .before .before .before .before .before .before .before .before .before .before .middle-of .ensures) t _ (s .pre .0) (c .lower-half .ensures) in
-    (h .0, (s .pre .1 .0, rw (k .1 .0) (s .pre .1 .1), rw (k .1 .1 .0) (s .pre .1 .2), h .1))
-
-patch-box-upper-half-requires : (t : ℕ) → patch-box-lts.Need-upper-half-requires (
-  is-one-cell-reads.Asked,
-  is-one-cell-reads.Learnt,
-  is-clear-reads.Asked,
-  is-clear-reads.Learnt,
-  longest-axis-reads.Asked,
-  longest-axis-reads.Learnt,
-  middle-of-reads.Asked,
-  middle-of-reads.Learnt,
-  cut-plane-reads.Asked,
-  cut-plane-reads.Learnt,
-  lower-half-reads.Asked,
-  lower-half-reads.Learnt,
-  patch-box-below t,
-  patch-box.Post,
-  upper-half-reads.Asked,
-  upper-half-reads.Learnt,
-) (patch-box-at t) patch-box.Post
-patch-box-upper-half-requires t c κs = tt
-
-patch-box-patch-box-requires-2 : (t : ℕ) → patch-box-lts.Need-patch-box-requires-2 (
-  is-one-cell-reads.Asked,
-  is-one-cell-reads.Learnt,
-  is-clear-reads.Asked,
-  is-clear-reads.Learnt,
-  longest-axis-reads.Asked,
-  longest-axis-reads.Learnt,
-  middle-of-reads.Asked,
-  middle-of-reads.Learnt,
-  cut-plane-reads.Asked,
-  cut-plane-reads.Learnt,
-  lower-half-reads.Asked,
-  lower-half-reads.Learnt,
-  patch-box-below t,
-  patch-box.Post,
-  upper-half-reads.Asked,
-  upper-half-reads.Learnt,
-) (patch-box-at t) patch-box.Post
-patch-box-patch-box-requires-2 t c κs =
-    let s = c .before .before .before .before .before .before .before .before .before .before .before .before .before .before .before .before .before .before .before .before .before .before .before .before .before .before .before in
-    let o = sym (c .before .before .before .before .before .before .before .before .before .before .before .before .before .before .before .before .before .before .before .before .before .before .before .before .is-one-cell .ensures) ∙ c .before .before .before .before .before .before .before .before .before .before .before .before .before .before .before .before .before .before .before .before .before .before .before .if1 .left in
-    let k = c .before .before .before .before .before .before .before .before .before .before .before .before .before .before .before .cut-plane .kept in
-    let j = c .before .before .before .before .before .before .before .patch-box .kept in
-    let h = up-ok _ _ (s .pre .1 .3) o _ _ (c .before .before .before .before .before .before .before .before .before .before .before .before .before .before .before .before .before .before .before .longest-axis .ensures) (c .before .before .before .before .before .before .before .before .before .before .before .before .before .before .before .before .before .before .middle-of .ensures) t _ (s .pre .0) (c .upper-half .ensures) in
-    (h .0, (s .pre .1 .0, rw (j .1 .0, k .1 .0) (s .pre .1 .1), rw (j .1 .1 .0, k .1 .1 .0) (s .pre .1 .2), h .1))
-
-patch-box-same-length-2 : (t : ℕ) → patch-box-lts.Need-same-length-2 (
-  is-one-cell-reads.Asked,
-  is-one-cell-reads.Learnt,
-  is-clear-reads.Asked,
-  is-clear-reads.Learnt,
-  longest-axis-reads.Asked,
-  longest-axis-reads.Learnt,
-  middle-of-reads.Asked,
-  middle-of-reads.Learnt,
-  cut-plane-reads.Asked,
-  cut-plane-reads.Learnt,
-  lower-half-reads.Asked,
-  lower-half-reads.Learnt,
-  patch-box-below t,
-  patch-box.Post,
-  upper-half-reads.Asked,
-  upper-half-reads.Learnt,
-) (patch-box-at t) patch-box.Post
-patch-box-same-length-2 t c = c .before .before .before .before .patch-box2 .kept .1 .0 ∙ c .before .before .before .before .before .before .before .before .before .before .before .before .patch-box .kept .1 .0 ∙ c .before .before .before .before .before .before .before .before .before .before .before .before .before .before .before .before .before .before .before .before .cut-plane .kept .1 .0
-
-patch-box-same-length-3 : (t : ℕ) → patch-box-lts.Need-same-length-3 (
-  is-one-cell-reads.Asked,
-  is-one-cell-reads.Learnt,
-  is-clear-reads.Asked,
-  is-clear-reads.Learnt,
-  longest-axis-reads.Asked,
-  longest-axis-reads.Learnt,
-  middle-of-reads.Asked,
-  middle-of-reads.Learnt,
-  cut-plane-reads.Asked,
-  cut-plane-reads.Learnt,
-  lower-half-reads.Asked,
-  lower-half-reads.Learnt,
-  patch-box-below t,
-  patch-box.Post,
-  upper-half-reads.Asked,
-  upper-half-reads.Learnt,
-) (patch-box-at t) patch-box.Post
-patch-box-same-length-3 t c = c .before .before .before .before .patch-box2 .kept .1 .1 .0 ∙ c .before .before .before .before .before .before .before .before .before .before .before .before .patch-box .kept .1 .1 .0 ∙ c .before .before .before .before .before .before .before .before .before .before .before .before .before .before .before .before .before .before .before .before .cut-plane .kept .1 .1 .0
-
-patch-box-returns-3 : (t : ℕ) → patch-box-lts.Need-returns-3 (
-  is-one-cell-reads.Asked,
-  is-one-cell-reads.Learnt,
-  is-clear-reads.Asked,
-  is-clear-reads.Learnt,
-  longest-axis-reads.Asked,
-  longest-axis-reads.Learnt,
-  middle-of-reads.Asked,
-  middle-of-reads.Learnt,
-  cut-plane-reads.Asked,
-  cut-plane-reads.Learnt,
-  lower-half-reads.Asked,
-  lower-half-reads.Learnt,
-  patch-box-below t,
-  patch-box.Post,
-  upper-half-reads.Asked,
-  upper-half-reads.Learnt,
-) (patch-box-at t) patch-box.Post
-patch-box-returns-3 t c =
-    let s = c .before .before .before .before .before .before .before .before .before .before .before .before .before .before .before .before .before .before .before .before .before .before .before .before .before .before .before .before .before .before .before .before in
-    let o = sym (c .before .before .before .before .before .before .before .before .before .before .before .before .before .before .before .before .before .before .before .before .before .before .before .before .before .before .before .before .before .is-one-cell .ensures) ∙ c .before .before .before .before .before .before .before .before .before .before .before .before .before .before .before .before .before .before .before .before .before .before .before .before .before .before .before .before .if1 .left in
-    let k = c .before .before .before .before .before .before .before .before .before .before .before .before .before .before .before .before .before .before .before .before .cut-plane in
-    let l = c .before .before .before .before .before .before .before .before .before .before .before .before .patch-box in
-    let u = c .before .before .before .before .patch-box2 in
-    halves-turn _ _ (s .pre .1 .3) o _ _ (c .before .before .before .before .before .before .before .before .before .before .before .before .before .before .before .before .before .before .before .before .before .before .before .before .longest-axis .ensures) (c .before .before .before .before .before .before .before .before .before .before .before .before .before .before .before .before .before .before .before .before .before .before .before .middle-of .ensures) (s .args .work .now) (s .args .grid .now)
-    (k .last .1 .1 .0) (k .last .1 .0) (l .last .1 .1 .0) (l .last .1 .0) _ _ _ _ (s .pre .1 .2) (c .before .before .before .before .before .before .before .before .before .before .before .before .before .lower-half .ensures) (c .before .before .before .before .before .upper-half .ensures) (k .ensures) (l .ensures) (u .ensures)
-
-pub +patch-box-spec : {M : Type 1} → statement M
-+patch-box-spec = close μ-patch-box λ t. patch-box-lts.spec (
+-- what each call asks and gives
+abbrev claims : ℕ → patch-box-lts.Claims
+claims t = (
   is-one-cell-reads.Asked,
   is-one-cell-reads.Learnt,
   is-clear-reads.Asked,
@@ -373,6 +49,79 @@ pub +patch-box-spec : {M : Type 1} → statement M
   upper-half-reads.Asked,
   upper-half-reads.Learnt,
 )
+
+patch-box-is-one-cell-requires : (t : ℕ) → patch-box-lts.Need-is-one-cell-requires (claims t) (patch-box-at t) patch-box.Post
+patch-box-is-one-cell-requires t c κs = c .before .before .pre .1 .3
+
+patch-box-returns : (t : ℕ) → patch-box-lts.Need-returns (claims t) (patch-box-at t) patch-box.Post
+patch-box-returns t c = one-is _ _ _ _ (sym (c .before .is-one-cell .ensures) ∙ c .if1 .taken)
+
+patch-box-is-clear-requires : (t : ℕ) → patch-box-lts.Need-is-clear-requires (claims t) (patch-box-at t) patch-box.Post
+patch-box-is-clear-requires t c κs =
+    let s = c .before .before .before .before .before in
+    (s .pre .1 .0, s .pre .1 .2, s .pre .1 .3)
+
+patch-box-same-length : (t : ℕ) → patch-box-lts.Need-same-length (claims t) (patch-box-at t) patch-box.Post
+patch-box-same-length t c = refl
+
+patch-box-returns-2 : (t : ℕ) → patch-box-lts.Need-returns-2 (claims t) (patch-box-at t) patch-box.Post
+patch-box-returns-2 t c = clear-is _ _ _ _ (sym (c .before .is-clear .ensures) ∙ c .if2 .taken)
+
+patch-box-longest-axis-requires : (t : ℕ) → patch-box-lts.Need-longest-axis-requires (claims t) (patch-box-at t) patch-box.Post
+patch-box-longest-axis-requires t c κs = c .before .before .before .before .before .before .before .pre .1 .3
+
+patch-box-middle-of-requires : (t : ℕ) → patch-box-lts.Need-middle-of-requires (claims t) (patch-box-at t) patch-box.Post
+patch-box-middle-of-requires t c κs = let s = c .before .before .before .before .before .before .before .before in (s .pre .1 .0, s .pre .1 .3)
+
+patch-box-cut-plane-requires : (t : ℕ) → patch-box-lts.Need-cut-plane-requires (claims t) (patch-box-at t) patch-box.Post
+patch-box-cut-plane-requires t c κs =
+    let s = c .before .before .before .before .before .before .before .before .before .before .before in
+    let o = sym (c .before .before .before .before .before .before .before .before .is-one-cell .ensures) ∙ c .before .before .before .before .before .before .before .if1 .left in
+    let a = c .before .before .before .longest-axis .ensures in
+    let m = c .before .before .middle-of .ensures in
+    (s .pre .1 .0, s .pre .1 .1, s .pre .1 .2, s .pre .1 .3, mid-low _ _ (s .pre .1 .3) o _ _ a m, mid-high _ _ (s .pre .1 .3) o _ _ a m)
+
+patch-box-lower-half-requires : (t : ℕ) → patch-box-lts.Need-lower-half-requires (claims t) (patch-box-at t) patch-box.Post
+patch-box-lower-half-requires t c κs = tt
+
+patch-box-patch-box-requires : (t : ℕ) → patch-box-lts.Need-patch-box-requires (claims t) (patch-box-at t) patch-box.Post
+patch-box-patch-box-requires t c κs =
+    let s = c .before .before .before .before .before .before .before .before .before .before .before .before .before .before .before .before .before .before .before in
+    let o = sym (c .before .before .before .before .before .before .before .before .before .before .before .before .before .before .before .before .is-one-cell .ensures) ∙ c .before .before .before .before .before .before .before .before .before .before .before .before .before .before .before .if1 .left in
+    let k = c .before .before .before .before .before .before .before .cut-plane .kept in
+    let h = low-ok _ _ (s .pre .1 .3) o _ _ (c .before .before .before .before .before .before .before .before .before .before .before .longest-axis .ensures) (c .before .before .before .before .before .before .before .before .before .before .middle-of .ensures) t _ (s .pre .0) (c .lower-half .ensures) in
+    (h .0, (s .pre .1 .0, rw (k .1 .0) (s .pre .1 .1), rw (k .1 .1 .0) (s .pre .1 .2), h .1))
+
+patch-box-upper-half-requires : (t : ℕ) → patch-box-lts.Need-upper-half-requires (claims t) (patch-box-at t) patch-box.Post
+patch-box-upper-half-requires t c κs = tt
+
+patch-box-patch-box-requires-2 : (t : ℕ) → patch-box-lts.Need-patch-box-requires-2 (claims t) (patch-box-at t) patch-box.Post
+patch-box-patch-box-requires-2 t c κs =
+    let s = c .before .before .before .before .before .before .before .before .before .before .before .before .before .before .before .before .before .before .before .before .before .before .before .before .before .before .before in
+    let o = sym (c .before .before .before .before .before .before .before .before .before .before .before .before .before .before .before .before .before .before .before .before .before .before .before .before .is-one-cell .ensures) ∙ c .before .before .before .before .before .before .before .before .before .before .before .before .before .before .before .before .before .before .before .before .before .before .before .if1 .left in
+    let k = c .before .before .before .before .before .before .before .before .before .before .before .before .before .before .before .cut-plane .kept in
+    let j = c .before .before .before .before .before .before .before .patch-box .kept in
+    let h = up-ok _ _ (s .pre .1 .3) o _ _ (c .before .before .before .before .before .before .before .before .before .before .before .before .before .before .before .before .before .before .before .longest-axis .ensures) (c .before .before .before .before .before .before .before .before .before .before .before .before .before .before .before .before .before .before .middle-of .ensures) t _ (s .pre .0) (c .upper-half .ensures) in
+    (h .0, (s .pre .1 .0, rw (j .1 .0, k .1 .0) (s .pre .1 .1), rw (j .1 .1 .0, k .1 .1 .0) (s .pre .1 .2), h .1))
+
+patch-box-same-length-2 : (t : ℕ) → patch-box-lts.Need-same-length-2 (claims t) (patch-box-at t) patch-box.Post
+patch-box-same-length-2 t c = c .before .before .before .before .patch-box2 .kept .1 .0 ∙ c .before .before .before .before .before .before .before .before .before .before .before .before .patch-box .kept .1 .0 ∙ c .before .before .before .before .before .before .before .before .before .before .before .before .before .before .before .before .before .before .before .before .cut-plane .kept .1 .0
+
+patch-box-same-length-3 : (t : ℕ) → patch-box-lts.Need-same-length-3 (claims t) (patch-box-at t) patch-box.Post
+patch-box-same-length-3 t c = c .before .before .before .before .patch-box2 .kept .1 .1 .0 ∙ c .before .before .before .before .before .before .before .before .before .before .before .before .patch-box .kept .1 .1 .0 ∙ c .before .before .before .before .before .before .before .before .before .before .before .before .before .before .before .before .before .before .before .before .cut-plane .kept .1 .1 .0
+
+patch-box-returns-3 : (t : ℕ) → patch-box-lts.Need-returns-3 (claims t) (patch-box-at t) patch-box.Post
+patch-box-returns-3 t c =
+    let s = c .before .before .before .before .before .before .before .before .before .before .before .before .before .before .before .before .before .before .before .before .before .before .before .before .before .before .before .before .before .before .before .before in
+    let o = sym (c .before .before .before .before .before .before .before .before .before .before .before .before .before .before .before .before .before .before .before .before .before .before .before .before .before .before .before .before .before .is-one-cell .ensures) ∙ c .before .before .before .before .before .before .before .before .before .before .before .before .before .before .before .before .before .before .before .before .before .before .before .before .before .before .before .before .if1 .left in
+    let k = c .before .before .before .before .before .before .before .before .before .before .before .before .before .before .before .before .before .before .before .before .cut-plane in
+    let l = c .before .before .before .before .before .before .before .before .before .before .before .before .patch-box in
+    let u = c .before .before .before .before .patch-box2 in
+    halves-turn _ _ (s .pre .1 .3) o _ _ (c .before .before .before .before .before .before .before .before .before .before .before .before .before .before .before .before .before .before .before .before .before .before .before .before .longest-axis .ensures) (c .before .before .before .before .before .before .before .before .before .before .before .before .before .before .before .before .before .before .before .before .before .before .before .middle-of .ensures) (s .args .work .now) (s .args .grid .now)
+    (k .last .1 .1 .0) (k .last .1 .0) (l .last .1 .1 .0) (l .last .1 .0) _ _ _ _ (s .pre .1 .2) (c .before .before .before .before .before .before .before .before .before .before .before .before .before .lower-half .ensures) (c .before .before .before .before .before .upper-half .ensures) (k .ensures) (l .ensures) (u .ensures)
+
+pub +patch-box-spec : {M : Type 1} → statement M
++patch-box-spec = close μ-patch-box λ t. patch-box-lts.spec (claims t)
     (patch-box-at t)
     patch-box.Post
     (patch-box-is-one-cell-requires t)
