@@ -17,8 +17,9 @@ use Rattle.rules.proofs.Bits.{&&-true}
 use Rattle.signing.specs.SignBytes.{signByte, inside}
 use Rattle.signing.proofs.Differ.{differ-is}
 use Rattle.lattice.proofs.GridFacts.{grid-marks}
-use Rattle.surfacing.specs.Fit.{edgeFits, pointFits, signsFit, pointStep, Grids}
-use Rattle.surfacing.proofs.Steps.{number-up}
+use Rattle.surfacing.specs.Fit.{edgeFits, pointFits, signsFit, Grids}
+use Rattle.lattice.specs.Cells.{pointStep}
+use Rattle.lattice.proofs.PointSteps.{number-up}
 
 -- an edge that does not exist
 pub edge-beyond : (n : ℕ) (E : Set) (s : Point → Bool) (a : Axis) (q : Point) → n ≤ coord a q → true ≡ edgeFits n E s a q

@@ -1,7 +1,5 @@
 -- The point above a point, by its number. Assumes nothing.
-use mathlib.Core.Path.{_≡_}
-use Prim.Native.Nat.{ℕ, suc, _+_, _*_, _≤_, _<_}
-use native.Mathlib.Nat.{mul-le-mul}
+use Prim.Native.Nat.{ℕ, suc, _+_, _<_}
 use native.Mathlib.Omega.{arith}
 use Rattle.rules.specs.declared.Axis.{Axis}
 use Rattle.rules.specs.declared.Axis.the-variants.{X, Y, Z}
@@ -9,13 +7,9 @@ use Rattle.rules.specs.declared.Point.{Point}
 use Rattle.rules.specs.Lattice.{coord, up, origin, pointNumber, pointCount, pointOf, OfGrid}
 use Rattle.rules.proofs.Numbers.{number-below}
 use Rattle.rules.proofs.PointOf.{number-pointOf, pointOf-grid}
+use Rattle.lattice.specs.Cells.{pointStep}
 use Rattle.lattice.proofs.Points.{At}
-use Rattle.surfacing.specs.Fit.{pointStep}
-
-pub number-up : (n : ℕ) (a : Axis) (q : Point) → pointNumber n (up a q) ≡ pointNumber n q + pointStep n a
-number-up n X q = omega arith
-number-up n Y q = omega arith
-number-up n Z q = omega arith
+use Rattle.lattice.proofs.PointSteps.{number-up}
 
 pub up-grid : (n : ℕ) (a : Axis) (q : Point) → OfGrid n q → coord a q < n → OfGrid n (up a q)
 up-grid n X q h l = omega arith
@@ -24,9 +18,6 @@ up-grid n Z q h l = omega arith
 
 pub below : (n : ℕ) (q : Point) → OfGrid n q → pointNumber n q < pointCount n
 below n q h = number-below (suc n) (q .i) (q .j) (q .k) (omega arith) (omega arith) (omega arith)
-
-pub square-most : (n : ℕ) → n ≤ 32 → suc n * suc n ≤ 1089
-square-most n h = let a : suc n ≤ 33 = omega arith in mul-le-mul a a
 
 pub up-below : (n : ℕ) (a : Axis) (q : Point) → OfGrid n q → coord a q < n → pointNumber n q + pointStep n a < pointCount n
 up-below n a q h l = let e = number-up n a q in let b = below n (up a q) (up-grid n a q h l) in omega arith

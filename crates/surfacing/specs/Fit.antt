@@ -25,12 +25,6 @@ pointFits n E s p = leb (signByte n s p) 1 && allOf (isIn (edgeFits n E (inside 
 unfoldable pub signsFit : ℕ → Set → List ℕ → Bool
 signsFit n E s = not (inside n s origin) && allOf (pointFits n E s) (points (suc n))
 
--- the step from a point's number to that of the next point along an axis
-abbrev pub pointStep : ℕ → Axis → ℕ
-pointStep n X = 1
-pointStep n Y = suc n
-pointStep n Z = suc n * suc n
-
 -- a grid, and a sign buffer that is long enough
 pub record Grids (n : ℕ) (g s : List ℕ) : Type 0 where
   pub g-long : pointCount n ≤ length g

@@ -2,6 +2,7 @@
 use lattice::bit;
 use lattice::level::point_count;
 use lattice::scan::next_point;
+use lattice::step;
 use rules::Axis;
 use rules::Point;
 use signing::is_inside;
@@ -13,7 +14,7 @@ ghost use lib.ListN.{length};
 ghost use Rattle.rules.specs.Lattice.{coord, pointNumber, pointCount, OfGrid};
 ghost use Rattle.rules.specs.Grid.{marks, isGrid};
 ghost use Rattle.signing.specs.SignBytes.{inside};
-ghost use Rattle.surfacing.specs.Fit.{edgeFits, pointFits, signsFit, pointStep, Grids};
+ghost use Rattle.surfacing.specs.Fit.{edgeFits, pointFits, signsFit, Grids};
 
 // The coordinate of a point on an axis.
 fn coordinate(p: Point, a: Axis) -> usize
@@ -26,18 +27,6 @@ fn coordinate(p: Point, a: Axis) -> usize
     }
 }
 
-// The step from a point's number to that of the next point along an axis.
-fn point_step(n: usize, a: Axis) -> usize
-    requires { ⌜ n ≤ 32 ⌝ }
-    ensures { λ r. ⌜ r ≡ pointStep n a ⌝ }
-{
-    match a {
-        Axis::X => 1,
-        Axis::Y => n + 1,
-        Axis::Z => (n + 1) * (n + 1),
-    }
-}
-
 // Answers whether the edge along a at the point q, of number p, has a sign change exactly when it has a mark, if it exists.
 fn edge_fits(n: usize, grid: &[u8], signs: &[u8], a: Axis, q: Point, p: usize) -> bool
     requires { ⌜ (n ≤ 32) × Grids n (now grid) (now signs) × OfGrid n q × (p ≡ pointNumber n q) ⌝ }
@@ -46,7 +35,7 @@ fn edge_fits(n: usize, grid: &[u8], signs: &[u8], a: Axis, q: Point, p: usize) -
     if coordinate(q, a) >= n {
         return true;
     }
-    let r = p + point_step(n, a);
+    let r = p + step(n, a);
     let change = is_inside(signs[p]) != is_inside(signs[r]);
     change == bit(grid[p], a)
 }

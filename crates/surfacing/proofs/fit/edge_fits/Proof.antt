@@ -23,14 +23,14 @@ exists : (c : tie.Else1) →
     coord (start .args .a) (start .args .q) < start .args .n
 exists c = rw (sym (c .before .coordinate .ensures)) (omega arith)
 
-point-step-requires : tie.Need-point-step-requires
-point-step-requires c κs = search needs
+step-requires : tie.Need-step-requires
+step-requires c κs = let e = exists c in (omega arith, c .before .before .before .before .pre .0)
 
 add-r : tie.Need-add-r
 add-r c =
     let start = c .before .before .before .before .before in
     let b = up-below (start .args .n) (start .args .a) (start .args .q) (start .pre .2) (exists (c .before)) in
-    omega (arith, c .point-step .ensures)
+    omega (arith, c .step .ensures)
 
 shared-slice-read-is-inside : tie.Need-shared-slice-read-is-inside
 shared-slice-read-is-inside c = let start = c .before .before .before .before .before .before in omega (arith, below (start .args .n) (start .args .q) (start .pre .2))
@@ -42,7 +42,7 @@ shared-slice-read-is-inside-2 : tie.Need-shared-slice-read-is-inside-2
 shared-slice-read-is-inside-2 c =
     let start = c .before .before .before .before .before .before .before .before in
     let b = up-below (start .args .n) (start .args .a) (start .args .q) (start .pre .2) (exists (c .before .before .before .before)) in
-    omega (arith, c .before .before .before .point-step .ensures)
+    omega (arith, c .before .before .before .step .ensures)
 
 is-inside-requires-2 : tie.Need-is-inside-requires-2
 is-inside-requires-2 c κs = search needs
@@ -57,7 +57,7 @@ returns-2 : tie.Need-returns-2
 returns-2 c =
     let start = c .before .before .before .before .before .before .before .before .before .before .before in
     edge-is (start .args .n) (start .args .grid .now) (start .args .signs .now) (start .args .a) (start .args .q) (start .args .p) _ _ _ _
-    (start .pre .1) (start .pre .2) (exists (c .before .before .before .before .before .before .before)) (start .pre .3) (c .before .before .before .before .before .before .point-step .ensures) (c .before .before .before .before .is-inside .ensures) (c .before .before .is-inside2 .ensures) (c .bit .ensures)
+    (start .pre .1) (start .pre .2) (exists (c .before .before .before .before .before .before .before)) (start .pre .3) (c .before .before .before .before .before .before .step .ensures) (c .before .before .before .before .is-inside .ensures) (c .before .before .is-inside2 .ensures) (c .bit .ensures)
 
 pub edge-fits-spec : {M : Type 1} → statement M
 edge-fits-spec =
@@ -65,7 +65,7 @@ edge-fits-spec =
     (tie.spec
     coordinate-requires
     returns
-    point-step-requires
+    step-requires
     add-r
     shared-slice-read-is-inside
     is-inside-requires
