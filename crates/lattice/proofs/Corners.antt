@@ -1,27 +1,16 @@
 -- The three edges at a cell's lowest corner, by the table. Assumes nothing.
-use mathlib.Core.Path.{_≡_, refl, sym, ap, subst, _∙_}
+use mathlib.Core.Path.{_≡_, refl, sym, ap, subst}
 use mathlib.Core.Bool.{true, not}
-use Prim.Native.Nat.{ℕ, _*_}
+use Prim.Native.Nat.{ℕ}
 use native.Mathlib.Nat.{add-zero}
 use native.Mathlib.Omega.{arith}
-use lib.ListN.{getD}
 use Rattle.rules.specs.declared.Axis.{Axis}
 use Rattle.rules.specs.declared.Axis.the-variants.{X, Y, Z}
 use Rattle.rules.specs.declared.Point.{Point}
 use Rattle.rules.specs.declared.Place.{Place}
 use Rattle.rules.specs.Lattice.{OfGrid, sameAxis, whole, inner}
 use Rattle.rules.proofs.Boxes.{inBox→}
-use Rattle.lattice.specs.Cells.{indexOf, cornerRule, moved, cornerEdge, Cell}
-use Rattle.lattice.proofs.Laws.{edgeTable, none}
-
--- they stand first, fifth and ninth in the table
-pub corner-entry : (a : Axis) (k : ℕ) → k ≡ indexOf a → getD edgeTable (4 * k) none ≡ cornerRule a
-corner-entry a k e = ap (λ (i : ℕ). getD edgeTable (4 * i) none) e ∙ go a
-  where
-    go : (a : Axis) → getD edgeTable (4 * indexOf a) none ≡ cornerRule a
-    go X = refl
-    go Y = refl
-    go Z = refl
+use Rattle.lattice.specs.Cells.{cornerRule, moved, cornerEdge, Cell}
 
 pub corner-small : (a : Axis) (e : Place) → e ≡ cornerRule a → OfGrid 1 (e .at)
 corner-small a e q = subst (λ (x : Place). OfGrid 1 (x .at)) (sym q) (omega arith)

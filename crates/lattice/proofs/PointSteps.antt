@@ -1,14 +1,16 @@
 -- The numbers of points one step apart, and of a face or an edge of a cell. Assumes nothing.
 use mathlib.Core.Path.{_≡_, sym, ap, subst, _∙_}
-use Prim.Native.Nat.{ℕ, zero, suc, pred, _+_, _*_, _≤_}
+use Prim.Native.Nat.{ℕ, zero, suc, pred, _+_, _≤_, _<_}
 use native.Mathlib.Nat.{mul-le-mul}
 use native.Mathlib.Omega.{arith}
 use Rattle.rules.specs.declared.Axis.{Axis}
 use Rattle.rules.specs.declared.Axis.the-variants.{X, Y, Z}
 use Rattle.rules.specs.declared.Point.{Point}
 use Rattle.rules.specs.declared.Place.{Place}
-use Rattle.rules.specs.Lattice.{coord, up, down, origin, pointNumber, OfGrid}
-use Rattle.lattice.specs.Cells.{pointStep, moved}
+use Rattle.rules.specs.Lattice.{coord, up, down, origin, pointNumber, pointCount, pointOf, OfGrid}
+use Rattle.rules.proofs.PointOf.{number-pointOf}
+use Rattle.lattice.specs.Cells.{pointStep, moved, Cell}
+use Rattle.lattice.proofs.Laws.{num-below}
 
 -- one step up an axis
 pub number-up : (n : ℕ) (a : Axis) (p : Point) → pointNumber n (up a p) ≡ pointNumber n p + pointStep n a
@@ -45,6 +47,14 @@ number-down n a p h = sym (number-up n a (down a p)) ∙ ap (pointNumber n) (up-
 -- a place of the cell at (0,0,0), moved to another cell
 pub number-moved : (n : ℕ) (c : Point) (e : Place) → pointNumber n (moved c e .at) ≡ pointNumber n c + pointNumber n (e .at)
 number-moved n c e = omega arith
+
+-- what lies that many points on from the cell at point number p is a point of the grid
+pub place-below : (n p : ℕ) (e : Place) → Cell n (pointOf n p) → OfGrid 1 (e .at) → p + pointNumber n (e .at) < pointCount n
+place-below n p e c h =
+    let m = number-moved n (pointOf n p) e in
+    let q = number-pointOf n p in
+    let b = num-below n (moved (pointOf n p) e .at) (omega arith) in
+    omega arith
 
 pub step-most : (n : ℕ) (a : Axis) → n ≤ 32 → pointStep n a ≤ 1089
 step-most n X h = omega arith

@@ -1,13 +1,14 @@
 -- A cell's faces and edges, and turns of members of a set that a buffer's lowest three bits hold. Assumes nothing.
+use mathlib.Core.Bool.{Bool}
 use mathlib.Core.List.{List, [], _∷_}
-use Prim.Native.Nat.{ℕ, zero, suc, _+_, _*_, _/_, _≤_, _<_}
+use Prim.Native.Nat.{ℕ, zero, suc, _+_, _*_, _/_, _%_, _<_}
 use lib.ListN.{getD, set}
-use Rattle.rules.specs.Lists.{each}
+use Rattle.rules.specs.Lists.{_⊕_, each}
 use Rattle.rules.specs.declared.Axis.{Axis}
 use Rattle.rules.specs.declared.Axis.the-variants.{X, Y, Z}
 use Rattle.rules.specs.declared.Point.{Point}
 use Rattle.rules.specs.declared.Place.{Place}
-use Rattle.rules.specs.Lattice.{earlier, later, up, down, Set, pointNumber}
+use Rattle.rules.specs.Lattice.{earlier, later, down, pointAt, Set, isIn, pointNumber}
 use Rattle.rules.specs.Grid.{has}
 use Rattle.rules.proofs.Store.{toggle}
 
@@ -40,12 +41,9 @@ faceRule (suc (suc (suc zero))) = record { axis = X; at = at 1 0 0 }
 faceRule (suc (suc (suc (suc zero)))) = record { axis = Y; at = at 0 1 0 }
 faceRule (suc (suc (suc (suc (suc f))))) = record { axis = Z; at = at 0 0 1 }
 
--- the four edges of its face f
-unfoldable pub faceEdge : Place → ℕ → Place
-faceEdge f zero = record { axis = earlier (f .axis); at = f .at }
-faceEdge f (suc zero) = record { axis = earlier (f .axis); at = up (later (f .axis)) (f .at) }
-faceEdge f (suc (suc zero)) = record { axis = later (f .axis); at = f .at }
-faceEdge f (suc (suc (suc s))) = record { axis = later (f .axis); at = up (earlier (f .axis)) (f .at) }
+-- its edges: four along each axis, at 0 or 1 on the earlier and then on the later of the two other axes
+unfoldable pub edgeRule : ℕ → Place
+edgeRule k = record { axis = axisOf (k / 4); at = pointAt (axisOf (k / 4)) 0 (k % 2) (k % 4 / 2) }
 
 -- the edge along a at its lowest corner
 abbrev pub cornerRule : Axis → Place
@@ -58,9 +56,6 @@ moved c e = record { axis = e .axis; at = at (c .i + e .at .i) (c .j + e .at .j)
 unfoldable pub faceOf : ℕ → Point → Place
 faceOf f c = moved c (faceRule f)
 
-unfoldable pub edgeOf : ℕ → ℕ → Point → Place
-edgeOf f s c = moved c (faceEdge (faceRule f) s)
-
 -- edge x(i,j,k) is the edge along x at the lowest corner of the cell (i,j,k); y and z likewise
 abbrev pub cornerEdge : Axis → Point → Place
 cornerEdge a c = record { axis = a; at = c }
@@ -70,6 +65,14 @@ pub record Cell (n : ℕ) (p : Point) : Type 0 where
   pub i : p .i < n
   pub j : p .j < n
   pub k : p .k < n
+
+-- the set that the lowest three bits of each byte hold, as it looks from point number p
+abbrev pub bitsFrom : ℕ → List ℕ → ℕ → Set
+bitsFrom n g p a o = has a (getD g (p + pointNumber n o) 0)
+
+-- an odd number of four edges is in the set
+abbrev pub oddOf : Set → Place → Place → Place → Place → Bool
+oddOf E e f g h = (isIn E e ⊕ isIn E f) ⊕ (isIn E g ⊕ isIn E h)
 
 -- the set that three bits of each byte hold, from the bit of value d on: layer 1 as it is now, layer 8 as it came
 abbrev pub layer : ℕ → ℕ → List ℕ → Set

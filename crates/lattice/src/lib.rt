@@ -6,16 +6,13 @@ use rules::Axis;
 use rules::Place;
 use rules::Point;
 ghost use mathlib.Core.Path.{_≡_};
-ghost use Prim.Native.Nat.{_≤_, _<_, _+_, _*_, _/_};
+ghost use Prim.Native.Nat.{_≤_, _<_};
 ghost use lib.ListN.{length, getD};
 ghost use Rattle.rules.specs.Lists.{_⊕_};
-ghost use Rattle.rules.specs.declared.Axis.the-variants.{X, Y, Z};
-ghost use Rattle.rules.specs.Lattice.{earlier, later, up, origin, pointNumber, pointCount};
+ghost use Rattle.rules.specs.Lattice.{earlier, later, up, origin, isIn, pointNumber, pointCount, pointOf, OfGrid};
 ghost use Rattle.rules.specs.Grid.{has, weight};
-ghost use Rattle.rules.specs.Cell.{oddFace};
 ghost use Rattle.rules.proofs.Store.{toggle};
-ghost use Rattle.lattice.specs.Cells.{indexOf, faceRule, faceEdge, cornerRule, moved, faceOf, edgeOf, cornerEdge, Cell, layer, turnAt, turnOne, pointStep};
-ghost use Rattle.rules.specs.Lattice.{OfGrid};
+ghost use Rattle.lattice.specs.Cells.{indexOf, faceRule, edgeRule, cornerRule, moved, cornerEdge, Cell, bitsFrom, oddOf, turnAt, turnOne, pointStep};
 
 // The cell's six faces: the three lower ones, then the three upper ones.
 const FACES: [Place; 6] = [
@@ -95,34 +92,6 @@ const EDGES: [Place; 12] = [
         axis: Axis::Z,
         at: Point { i: 1, j: 1, k: 0 },
     },
-];
-
-// The four edges of each face, by their place in EDGES.
-const FACE_EDGES: [usize; 24] = [
-    4,
-    6,
-    8,
-    10,
-    0,
-    2,
-    8,
-    9,
-    0,
-    1,
-    4,
-    5,
-    5,
-    7,
-    9,
-    11,
-    1,
-    3,
-    10,
-    11,
-    2,
-    3,
-    6,
-    7,
 ];
 
 // The number of a point.
@@ -240,16 +209,6 @@ pub fn member(n: usize, s: &[u8], f: Place) -> bool
     bit(s[at], a)
 }
 
-// Whether an edge is marked in layer d of the grid's bytes.
-pub fn marked(n: usize, grid: &[u8], d: u8, e: Place) -> bool
-    requires { ⌜ (n ≤ 32) × (pointCount n ≤ length (now grid)) × OfGrid n (e .at) × (1 ≤ d) ⌝ }
-    ensures { λ r. ⌜ r ≡ layer d n (now (grid .entry)) (e .axis) (e .at) ⌝ }
-{
-    let at = number_of(n, e.at);
-    let a = e.axis;
-    bit(grid[at] / d, a)
-}
-
 // Face f of the cell at (0,0,0), from the table.
 pub fn face_rule(f: usize) -> Place
     requires { ⌜ f < 6 ⌝ }
@@ -258,11 +217,11 @@ pub fn face_rule(f: usize) -> Place
     FACES[f]
 }
 
-fn edge_rule(f: usize, s: usize) -> Place
-    requires { ⌜ (f < 6) × (s < 4) ⌝ }
-    ensures { λ r. ⌜ r ≡ faceEdge (faceRule f) s ⌝ }
+// Edge k of the cell at (0,0,0), from the table.
+pub fn edge_rule(k: usize) -> Place
+    requires { ⌜ k < 12 ⌝ }
+    ensures { λ r. ⌜ r ≡ edgeRule k ⌝ }
 {
-    let k = FACE_EDGES[f * 4 + s];
     EDGES[k]
 }
 
@@ -280,27 +239,14 @@ fn move_to(n: usize, c: Point, e: Place) -> Place
     Place { axis: a, at: p }
 }
 
-// Face f of the cell c.
-pub fn face(n: usize, c: Point, f: usize) -> Place
-    requires { ⌜ (n ≤ 32) × OfGrid n c × (f < 6) ⌝ }
-    ensures { λ r. ⌜ r ≡ faceOf f c ⌝ }
-{
-    move_to(n, c, face_rule(f))
-}
-
-// Edge s of the face f of the cell c.
-pub fn edge(n: usize, c: Point, f: usize, s: usize) -> Place
-    requires { ⌜ (n ≤ 32) × OfGrid n c × (f < 6) × (s < 4) ⌝ }
-    ensures { λ r. ⌜ r ≡ edgeOf f s c ⌝ }
-{
-    move_to(n, c, edge_rule(f, s))
-}
-
 fn corner_rule(a: Axis) -> Place
     ensures { λ r. ⌜ r ≡ cornerRule a ⌝ }
 {
-    let k = index(a);
-    EDGES[4 * k]
+    match a {
+        Axis::X => edge_rule(0),
+        Axis::Y => edge_rule(4),
+        Axis::Z => edge_rule(8),
+    }
 }
 
 // The edge along a at the lowest corner of the cell c. Every inner edge is such an edge of exactly one cell.
@@ -311,7 +257,7 @@ pub fn corner_edge(n: usize, c: Point, a: Axis) -> Place
     move_to(n, c, corner_rule(a))
 }
 
-pub fn differ(a: bool, b: bool) -> bool
+fn differ(a: bool, b: bool) -> bool
     ensures { λ r. ⌜ r ≡ a ⊕ b ⌝ }
 {
     if a {
@@ -320,14 +266,24 @@ pub fn differ(a: bool, b: bool) -> bool
     b
 }
 
-// Whether face f of the cell c is odd in layer d of the grid's bytes.
-pub fn odd(n: usize, grid: &[u8], d: u8, c: Point, f: usize) -> bool
-    requires { ⌜ (n ≤ 32) × (pointCount n ≤ length (now grid)) × Cell n c × (f < 6) × (1 ≤ d) ⌝ }
-    ensures { λ r. ⌜ r ≡ oddFace (layer d n (now (grid .entry))) (faceOf f c .axis) (faceOf f c .at) ⌝ }
+// Whether edge e of the table is marked at the cell whose lowest corner has number `at`.
+fn marked(n: usize, grid: &[u8], at: usize, e: Place) -> bool
+    requires { ⌜ (n ≤ 32) × (pointCount n ≤ length (now grid)) × Cell n (pointOf n at) × OfGrid 1 (e .at) ⌝ }
+    ensures { λ r. ⌜ r ≡ isIn (bitsFrom n (now (grid .entry)) at) e ⌝ }
 {
-    let p = marked(n, grid, d, edge(n, c, f, 0));
-    let q = marked(n, grid, d, edge(n, c, f, 1));
-    let r = marked(n, grid, d, edge(n, c, f, 2));
-    let s = marked(n, grid, d, edge(n, c, f, 3));
+    let p = at + number_of(n, e.at);
+    let a = e.axis;
+    bit(grid[p], a)
+}
+
+// Whether a face of the cell at point number `at` is odd, from its four edges in the table.
+pub fn odd(n: usize, grid: &[u8], at: usize, e: Place, f: Place, g: Place, h: Place) -> bool
+    requires { ⌜ (n ≤ 32) × (pointCount n ≤ length (now grid)) × Cell n (pointOf n at) × OfGrid 1 (e .at) × OfGrid 1 (f .at) × OfGrid 1 (g .at) × OfGrid 1 (h .at) ⌝ }
+    ensures { λ r. ⌜ r ≡ oddOf (bitsFrom n (now (grid .entry)) at) e f g h ⌝ }
+{
+    let p = marked(n, grid, at, e);
+    let q = marked(n, grid, at, f);
+    let r = marked(n, grid, at, g);
+    let s = marked(n, grid, at, h);
     differ(differ(p, q), differ(r, s))
 }

@@ -1,16 +1,18 @@
 // What every scan of the points needs: the point after a point, inner edges, "is a grid", "no face is odd".
 use crate::bit;
-use crate::differ;
+use crate::edge_rule;
 use crate::level::point_count;
 use crate::number_of;
+use crate::odd;
 use rules::Axis;
 use rules::Point;
 ghost use mathlib.Core.Path.{_≡_};
 ghost use mathlib.Core.Bool.{true, not, _||_};
 ghost use Prim.Native.Nat.{_≤_};
 ghost use lib.ListN.{length};
-ghost use Rattle.rules.specs.Lists.{_⊕_, between};
-ghost use Rattle.rules.specs.Lattice.{inner, pointCount};
+ghost use Rattle.rules.specs.Lists.{between};
+ghost use Rattle.rules.specs.Lattice.{inner, pointCount, pointOf};
+ghost use Rattle.rules.specs.Cell.{oddFace};
 ghost use Rattle.rules.specs.Grid.{has, byteFits, isGrid, marks};
 ghost use Rattle.rules.specs.Lattice.{OfGrid};
 ghost use Rattle.rules.specs.Rims.{evenFaces};
@@ -140,34 +142,55 @@ pub fn is_grid(n: usize, grid: &[u8]) -> bool
     true
 }
 
-// Whether a face is odd, from the bytes at its lowest corner, one step along its later axis c and one along its earlier axis b.
-fn odd_by_bytes(here: u8, later: u8, earlier: u8, b: Axis, c: Axis) -> bool
-    ensures { λ r. ⌜ r ≡ ((has b here ⊕ has b later) ⊕ (has c here ⊕ has c earlier)) ⌝ }
+// Whether the lower face square to a of the cell at point number `at` is odd. By literals, since a table read by a variable is laid out at each use.
+fn lower_odd(n: usize, grid: &[u8], at: usize, a: Axis) -> bool
+    requires { ⌜ (n ≤ 32) × (pointCount n ≤ length (now grid)) × (isGrid n (now grid) ≡ true) × Cell n (pointOf n at) ⌝ }
+    ensures { λ r. ⌜ r ≡ oddFace (marks n (now (grid .entry))) a (pointOf n at) ⌝ }
 {
-    differ(
-        differ(bit(here, b), bit(later, b)),
-        differ(bit(here, c), bit(earlier, c)),
-    )
+    match a {
+        Axis::X => odd(
+            n,
+            grid,
+            at,
+            edge_rule(4),
+            edge_rule(6),
+            edge_rule(8),
+            edge_rule(10),
+        ),
+        Axis::Y => odd(
+            n,
+            grid,
+            at,
+            edge_rule(0),
+            edge_rule(2),
+            edge_rule(8),
+            edge_rule(9),
+        ),
+        Axis::Z => odd(
+            n,
+            grid,
+            at,
+            edge_rule(0),
+            edge_rule(1),
+            edge_rule(4),
+            edge_rule(5),
+        ),
+    }
 }
 
-// Whether none of a cell's three lower faces is odd: four bytes tell.
+// Whether none of a cell's three lower faces is odd.
 fn lower_even(n: usize, grid: &[u8], c: Point) -> bool
     requires { ⌜ (n ≤ 32) × (pointCount n ≤ length (now grid)) × (isGrid n (now grid) ≡ true) × Cell n c ⌝ }
     ensures { λ r. ⌜ r ≡ lowerEven (marks n (now (grid .entry))) c ⌝ }
 {
-    let w = n + 1;
-    let p = number_of(n, c);
-    let here = grid[p];
-    let x = grid[p + 1];
-    let y = grid[p + w];
-    let z = grid[p + w * w];
-    if odd_by_bytes(here, z, y, Axis::Y, Axis::Z) {
+    let at = number_of(n, c);
+    if lower_odd(n, grid, at, Axis::X) {
         return false;
     }
-    if odd_by_bytes(here, z, x, Axis::X, Axis::Z) {
+    if lower_odd(n, grid, at, Axis::Y) {
         return false;
     }
-    !odd_by_bytes(here, y, x, Axis::X, Axis::Y)
+    !lower_odd(n, grid, at, Axis::Z)
 }
 
 // Whether no face of a grid is odd. Each face that can be is a lower face of one cell.

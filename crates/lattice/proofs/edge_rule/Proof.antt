@@ -1,31 +1,20 @@
-use Rattle.lattice.proofs.edge_rule.Tie as tie
+-- `edge_rule` reads the table, whose twelve entries are those of the rule. Assumes nothing.
+use mathlib.Core.Path.{refl}
+use Rattle.lattice.specs.Cells.{edgeRule}
+use Rattle.lattice.proofs.Laws.{entry}
 use borrow.Author.Needs.{needs}
 use Rattle.lattice.proofs.edge_rule.Statement.{statement}
-use Prim.Native.Nat.{_+_, _*_}
-use native.Mathlib.Omega.{arith}
-use Rattle.lattice.proofs.Laws.{table-small, table-rule}
-
-mul-k : tie.Need-mul-k
-mul-k c = search needs
-
-add-k : tie.Need-add-k
-add-k c = search needs
-
-mul-k-2 : tie.Need-mul-k-2
-mul-k-2 c = search needs
-
-array-read-k : tie.Need-array-read-k
-array-read-k c = search needs
+use Rattle.lattice.proofs.edge_rule.Tie as tie
 
 mul-result : tie.Need-mul-result
-mul-result c = omega (arith, table-small (c .args .f * 4 + c .args .s) (omega arith))
+mul-result c = search needs
 
 array-copy-out-result : tie.Need-array-copy-out-result
-array-copy-out-result c = table-small (c .args .f * 4 + c .args .s) (omega arith)
+array-copy-out-result c = search needs
 
 returns : tie.Need-returns
-returns c = table-rule _ _ (c .before .pre .0) (c .before .pre .1)
+unfolding edgeRule
+returns c = entry edgeRule _ 12 _ _ refl (c .before .pre)
 
 pub edge-rule-spec : {M : Type 1} → statement M
-edge-rule-spec =
-    tie.close (tie.spec mul-k add-k mul-k-2 array-read-k mul-result array-copy-out-result returns)
+edge-rule-spec = tie.close (tie.spec mul-result array-copy-out-result returns)

@@ -1,88 +1,69 @@
+-- `lower_even` asks each of the cell's three lower faces. Assumes nothing.
 use mathlib.Core.Path.{sym, ap, _∙_}
 use mathlib.Core.Bool.{not}
-use native.Mathlib.Numerals.{add-one}
-use borrow.Author.Needs.{needs}
 use Rattle.rules.specs.declared.Axis.the-variants.{X, Y, Z}
+use Rattle.rules.specs.Grid.{marks}
 use Rattle.rules.proofs.Bits.{&&-true}
-use Rattle.lattice.proofs.GridFacts.{odd-at, read-fits}
+use Rattle.lattice.proofs.GridFacts.{cell-at, odd-told}
+use borrow.Author.Needs.{needs}
 use Rattle.lattice.proofs.scan.lower_even.Statement.{statement}
 use Rattle.lattice.proofs.scan.lower_even.Tie as tie
-
-add-w : tie.Need-add-w
-add-w c = search needs
 
 number-of-requires : tie.Need-number-of-requires
 number-of-requires c κs = search needs
 
-shared-slice-read-here : tie.Need-shared-slice-read-here
-shared-slice-read-here c = search needs
-
-add-x : tie.Need-add-x
-add-x c = search needs
-
-shared-slice-read-x : tie.Need-shared-slice-read-x
-shared-slice-read-x c = read-fits (c .before .before .before .before .args .n) (c .before .before .before .before .args .grid .now) (c .before .before .before .before .pre .1) (c .before .before .before .before .pre .2) X (c .before .before .before .before .args .c) (c .before .before .before .before .pre .3) _ _ (add-one (c .before .before .before .before .args .n)) (c .before .before .number-of .ensures .0)
-
-add-y : tie.Need-add-y
-add-y c = search needs
-
-shared-slice-read-y : tie.Need-shared-slice-read-y
-shared-slice-read-y c = read-fits (c .before .before .before .before .before .args .n) (c .before .before .before .before .before .args .grid .now) (c .before .before .before .before .before .pre .1) (c .before .before .before .before .before .pre .2) Y (c .before .before .before .before .before .args .c) (c .before .before .before .before .before .pre .3) _ _ (add-one (c .before .before .before .before .before .args .n)) (c .before .before .before .number-of .ensures .0)
-
-mul-z : tie.Need-mul-z
-mul-z c = search needs
-
-add-z : tie.Need-add-z
-add-z c = search needs
-
-shared-slice-read-z : tie.Need-shared-slice-read-z
-shared-slice-read-z c = read-fits (c .before .before .before .before .before .before .args .n) (c .before .before .before .before .before .before .args .grid .now) (c .before .before .before .before .before .before .pre .1) (c .before .before .before .before .before .before .pre .2) Z (c .before .before .before .before .before .before .args .c) (c .before .before .before .before .before .before .pre .3) _ _ (add-one (c .before .before .before .before .before .before .args .n)) (c .before .before .before .before .number-of .ensures .0)
-
-odd-by-bytes-requires : tie.Need-odd-by-bytes-requires
-odd-by-bytes-requires c κs = search needs
+lower-odd-requires : tie.Need-lower-odd-requires
+lower-odd-requires c κs =
+    let s = c .before .before in
+    (s .pre .0, s .pre .1, s .pre .2, cell-at (s .args .n) _ (s .args .c) (s .pre .3) (c .number-of .ensures .0))
 
 returns : tie.Need-returns
-returns c = rw (sym (c .before .odd-by-bytes .ensures ∙ odd-at (c .before .before .before .before .before .before .before .before .args .n) (c .before .before .before .before .before .before .before .before .args .grid .now) (c .before .before .before .before .before .before .before .before .pre .1) (c .before .before .before .before .before .before .before .before .pre .2) X (c .before .before .before .before .before .before .before .before .args .c) (c .before .before .before .before .before .before .before .before .pre .3) _ _ (add-one (c .before .before .before .before .before .before .before .before .args .n)) (c .before .before .before .before .before .before .number-of .ensures .0)) ∙ c .if1 .taken)
+returns c =
+    let s = c .before .before .before .before in
+    let E = marks (s .args .n) (s .args .grid .now) in
+    let e = c .before .before .number-of .ensures .0 in
+    rw (odd-told (s .args .n) E X _ (s .args .c) (s .pre .3) e (c .before .lower-odd .ensures) ∙ c .if1 .taken)
 
-odd-by-bytes-requires-2 : tie.Need-odd-by-bytes-requires-2
-odd-by-bytes-requires-2 c κs = search needs
+lower-odd-requires-2 : tie.Need-lower-odd-requires-2
+lower-odd-requires-2 c κs =
+    let s = c .before .before .before .before in
+    (s .pre .0, s .pre .1, s .pre .2, cell-at (s .args .n) _ (s .args .c) (s .pre .3) (c .before .before .number-of .ensures .0))
 
 returns-2 : tie.Need-returns-2
 returns-2 c =
+    let s = c .before .before .before .before .before .before in
+    let E = marks (s .args .n) (s .args .grid .now) in
+    let e = c .before .before .before .before .number-of .ensures .0 in
     rw (
-      sym (c .before .before .before .odd-by-bytes .ensures ∙ odd-at (c .before .before .before .before .before .before .before .before .before .before .args .n) (c .before .before .before .before .before .before .before .before .before .before .args .grid .now) (c .before .before .before .before .before .before .before .before .before .before .pre .1) (c .before .before .before .before .before .before .before .before .before .before .pre .2) X (c .before .before .before .before .before .before .before .before .before .before .args .c) (c .before .before .before .before .before .before .before .before .before .before .pre .3) _ _ (add-one (c .before .before .before .before .before .before .before .before .before .before .args .n)) (c .before .before .before .before .before .before .before .before .number-of .ensures .0)) ∙ c .before .before .if1 .left,
-      sym (c .before .odd-by-bytes2 .ensures ∙ odd-at (c .before .before .before .before .before .before .before .before .before .before .args .n) (c .before .before .before .before .before .before .before .before .before .before .args .grid .now) (c .before .before .before .before .before .before .before .before .before .before .pre .1) (c .before .before .before .before .before .before .before .before .before .before .pre .2) Y (c .before .before .before .before .before .before .before .before .before .before .args .c) (c .before .before .before .before .before .before .before .before .before .before .pre .3) _ _ (add-one (c .before .before .before .before .before .before .before .before .before .before .args .n)) (c .before .before .before .before .before .before .before .before .number-of .ensures .0)) ∙ c .if2 .taken,
+      odd-told (s .args .n) E X _ (s .args .c) (s .pre .3) e (c .before .before .before .lower-odd .ensures) ∙ c .before .before .if1 .left,
+      odd-told (s .args .n) E Y _ (s .args .c) (s .pre .3) e (c .before .lower-odd2 .ensures) ∙ c .if2 .taken,
     )
 
-odd-by-bytes-requires-3 : tie.Need-odd-by-bytes-requires-3
-odd-by-bytes-requires-3 c κs = search needs
+lower-odd-requires-3 : tie.Need-lower-odd-requires-3
+lower-odd-requires-3 c κs =
+    let s = c .before .before .before .before .before .before in
+    (s .pre .0, s .pre .1, s .pre .2, cell-at (s .args .n) _ (s .args .c) (s .pre .3) (c .before .before .before .before .number-of .ensures .0))
 
 returns-3 : tie.Need-returns-3
 returns-3 c =
+    let s = c .before .before .before .before .before .before .before in
+    let E = marks (s .args .n) (s .args .grid .now) in
+    let e = c .before .before .before .before .before .number-of .ensures .0 in
     rw (
-      sym (c .before .before .before .before .odd-by-bytes .ensures ∙ odd-at (c .before .before .before .before .before .before .before .before .before .before .before .args .n) (c .before .before .before .before .before .before .before .before .before .before .before .args .grid .now) (c .before .before .before .before .before .before .before .before .before .before .before .pre .1) (c .before .before .before .before .before .before .before .before .before .before .before .pre .2) X (c .before .before .before .before .before .before .before .before .before .before .before .args .c) (c .before .before .before .before .before .before .before .before .before .before .before .pre .3) _ _ (add-one (c .before .before .before .before .before .before .before .before .before .before .before .args .n)) (c .before .before .before .before .before .before .before .before .before .number-of .ensures .0)) ∙ c .before .before .before .if1 .left,
-      sym (c .before .before .odd-by-bytes2 .ensures ∙ odd-at (c .before .before .before .before .before .before .before .before .before .before .before .args .n) (c .before .before .before .before .before .before .before .before .before .before .before .args .grid .now) (c .before .before .before .before .before .before .before .before .before .before .before .pre .1) (c .before .before .before .before .before .before .before .before .before .before .before .pre .2) Y (c .before .before .before .before .before .before .before .before .before .before .before .args .c) (c .before .before .before .before .before .before .before .before .before .before .before .pre .3) _ _ (add-one (c .before .before .before .before .before .before .before .before .before .before .before .args .n)) (c .before .before .before .before .before .before .before .before .before .number-of .ensures .0)) ∙ c .before .if2 .left,
+      odd-told (s .args .n) E X _ (s .args .c) (s .pre .3) e (c .before .before .before .before .lower-odd .ensures) ∙ c .before .before .before .if1 .left,
+      odd-told (s .args .n) E Y _ (s .args .c) (s .pre .3) e (c .before .before .lower-odd2 .ensures) ∙ c .before .if2 .left,
       &&-true,
     )
-    (ap not (c .odd-by-bytes3 .ensures ∙ odd-at (c .before .before .before .before .before .before .before .before .before .before .before .args .n) (c .before .before .before .before .before .before .before .before .before .before .before .args .grid .now) (c .before .before .before .before .before .before .before .before .before .before .before .pre .1) (c .before .before .before .before .before .before .before .before .before .before .before .pre .2) Z (c .before .before .before .before .before .before .before .before .before .before .before .args .c) (c .before .before .before .before .before .before .before .before .before .before .before .pre .3) _ _ (add-one (c .before .before .before .before .before .before .before .before .before .before .before .args .n)) (c .before .before .before .before .before .before .before .before .before .number-of .ensures .0)))
+    (ap not (sym (odd-told (s .args .n) E Z _ (s .args .c) (s .pre .3) e (c .lower-odd3 .ensures))))
 
 pub lower-even-spec : {M : Type 1} → statement M
 lower-even-spec =
     tie.close
     (tie.spec
-    add-w
     number-of-requires
-    shared-slice-read-here
-    add-x
-    shared-slice-read-x
-    add-y
-    shared-slice-read-y
-    mul-z
-    add-z
-    shared-slice-read-z
-    odd-by-bytes-requires
+    lower-odd-requires
     returns
-    odd-by-bytes-requires-2
+    lower-odd-requires-2
     returns-2
-    odd-by-bytes-requires-3
+    lower-odd-requires-3
     returns-3)
