@@ -2,7 +2,9 @@ pub mod PaintLaws
 pub mod Flips
 pub mod Odd
 pub mod Rim
+pub mod Tallies
 pub mod Next
+pub mod Point
 pub mod Cover
 pub mod Begins
 pub mod Ends

@@ -1,120 +1,42 @@
 -- From one rim to the next: what holds between two rims. Assumes nothing.
 use mathlib.Core.Path.{_≡_, refl, sym, ap, ap₂, _∙_, subst}
 use mathlib.Core.Bool.{Bool, true, false, not, _&&_, _||_, cond, true≢false}
-use mathlib.Core.List.{List, [], _∷_}
+use mathlib.Core.List.{List}
 use mathlib.Core.Logic.{_⊎_, inl, inr}
-use Prim.Native.Nat.{ℕ, suc, _+_, _/_, _%_, _≤_, _<_}
+use Prim.Native.Nat.{ℕ, _+_, _/_, _≤_}
 use native.Mathlib.Omega.{arith}
 use lib.ListN.{length, getD}
 use Rattle.rules.specs.Lists.{_⊕_, anyOf, parity, each, All, count}
-use Rattle.rules.proofs.Bits.{⊕-self, &&-false, xors, same-test, eqb-yes, eqb-no}
+use Rattle.rules.proofs.Bits.{⊕-self, xors, same-test}
 use Rattle.rules.proofs.Lists.{all-weaken, all-pair, all-swap, all-kept}
 use Rattle.rules.specs.declared.Axis.{Axis}
-use Rattle.rules.specs.declared.Axis.the-variants.{X, Y, Z}
+use Rattle.rules.specs.declared.Axis.the-variants.{X}
 use Rattle.rules.specs.declared.Point.{Point}
 use Rattle.rules.specs.declared.Place.{Place}
 use Rattle.rules.specs.declared.Box.{Box}
-use Rattle.rules.specs.Lattice.{up, down, Set, pointNumber, samePlace, samePoint, setOf, edgeIn, faceIn, whole, OfGrid, places, isIn, pointCount, pointOf}
+use Rattle.rules.specs.Lattice.{up, down, Set, pointNumber, samePlace, samePoint, setOf, edgeIn, whole, places, isIn, pointCount}
 use Rattle.rules.specs.Cell.{oddFace, ofCell}
 use Rattle.rules.specs.Rims.{neighbours, oddFaces, rims, elem}
 use Rattle.rules.specs.Patch.{patchRim}
-use Rattle.rules.specs.Grid.{has, value}
+use Rattle.rules.specs.Grid.{has}
 use Rattle.rules.proofs.Cuts.{samePoint→, samePlace→}
 use Rattle.rules.proofs.Rims.{neighbours-cell, touch, apart}
-use Rattle.rules.proofs.Chains.{same-point, own-upper, own-lower, members, find, any-mono, rim-closed, one-rim, any-rims, or-no-left, or-no-right}
+use Rattle.rules.proofs.Chains.{same-point, own-upper, own-lower, members, find, any-mono, rim-closed, one-rim, any-rims}
 use Rattle.rules.proofs.OddList.{elem-odd}
 use Rattle.rules.proofs.Scan.{count-or-one}
 use Rattle.rules.proofs.Patched.{odd-in, rims-all}
-use Rattle.rules.proofs.Numbers.{small-byte}
-use Rattle.rules.proofs.PointOf.{number-pointOf, pointOf-grid}
 use Rattle.rules.proofs.Store.{stored}
 use Rattle.rules.proofs.PatchOf.{patchOf}
-use Rattle.lattice.specs.Cells.{Cell, layer, turns, works, facesOf}
-use Rattle.walking.specs.Walks.{oddIn, Fine, seenB, New, Found}
-use Rattle.walking.proofs.Faces.{cell-grid, face-cell}
-use Rattle.walking.proofs.Bytes.{has-low, zero-has, odd-face, odd-same, seen-same}
+use Rattle.lattice.specs.Cells.{Cell, turns, works, facesOf}
+use Rattle.walking.specs.Walks.{seenB, New, Found}
+use Rattle.walking.proofs.Faces.{cell-grid}
+use Rattle.walking.proofs.Bytes.{odd-same, seen-same}
 use Rattle.halving.proofs.Turns.{turns-length, turns-high, turns-past, stored-turns, stored-works, low-edges, low-faces}
 use Rattle.halving.proofs.Boxes.{patch-edged}
 use Rattle.halving.specs.Halving.{Fits, Edged}
-use Rattle.patching.specs.Between.{owns, Between, Moves}
-use Rattle.patching.proofs.Rim.{newB, S, fits, Result, results, stored-is, face-cells, fits-of, cell-whole}
-
-module _ {R : Type 0} where
-  none-sum : (x y z : R → Bool) (rs : List R) → All (λ r. x r ≡ false) rs → parity (λ r. (x r || y r) && z r) rs ≡ parity (λ r. y r && z r) rs
-  none-sum x y z [] h = refl
-  none-sum x y z (r ∷ rs) h = ap₂ (λ (a b : Bool). ((a || y r) && z r) ⊕ b) (h .0) (none-sum x y z rs (h .1))
-
-  none-any : (x y z : R → Bool) (rs : List R) → All (λ r. x r ≡ false) rs → anyOf (λ r. (x r || y r) && z r) rs ≡ anyOf (λ r. y r && z r) rs
-  none-any x y z [] h = refl
-  none-any x y z (r ∷ rs) h = ap₂ (λ (a b : Bool). ((a || y r) && z r) || b) (h .0) (none-any x y z rs (h .1))
-
-  count-none : (x : R → Bool) (rs : List R) → count x rs ≡ 0 → All (λ r. x r ≡ false) rs
-  count-none x [] h = tt
-  count-none x (r ∷ rs) h = go (x r) refl h (count-none x rs)
-    where
-      go : (b : Bool) → x r ≡ b → cond b (suc (count x rs)) (count x rs) ≡ 0 → (count x rs ≡ 0 → All (λ s. x s ≡ false) rs) → All (λ s. x s ≡ false) (r ∷ rs)
-      go true e k i = absurd (omega arith)
-      go false e k i = (e, i k)
-
-  -- one more, which was not there
-  join-sum : (x y z : R → Bool) (v : Bool) (rs : List R) → All (λ r. x r ≡ true → y r ≡ false) rs → All (λ r. x r ≡ true → z r ≡ v) rs → count x rs ≡ 1 → parity (λ r. (x r || y r) && z r) rs ≡ parity (λ r. y r && z r) rs ⊕ v
-  join-sum x y z v [] h k c = absurd (omega arith)
-  join-sum x y z v (r ∷ rs) h k c = go (x r) refl c (join-sum x y z v rs (h .1) (k .1))
-    where
-      go : (b : Bool) → x r ≡ b → cond b (suc (count x rs)) (count x rs) ≡ 1 → (count x rs ≡ 1 → parity (λ s. (x s || y s) && z s) rs ≡ parity (λ s. y s && z s) rs ⊕ v) →
-          ((x r || y r) && z r) ⊕ parity (λ s. (x s || y s) && z s) rs ≡ ((y r && z r) ⊕ parity (λ s. y s && z s) rs) ⊕ v
-      go true e d i =
-          let n = none-sum x y z rs (count-none x rs (omega arith)) in
-          ap₂ (λ (a b : Bool). ((a || y r) && z r) ⊕ b) e n ∙ ap (λ (a : Bool). a ⊕ parity (λ s. y s && z s) rs) (k .0 e)
-          ∙ swap v (parity (λ s. y s && z s) rs) ∙ sym (ap (λ (a : Bool). ((a && z r) ⊕ parity (λ s. y s && z s) rs) ⊕ v) (h .0 e))
-        where
-          swap : (p q : Bool) → p ⊕ q ≡ (false ⊕ q) ⊕ p
-          swap true true = refl
-          swap true false = refl
-          swap false true = refl
-          swap false false = refl
-      go false e d i = ap₂ (λ (a b : Bool). ((a || y r) && z r) ⊕ b) e (i d) ∙ assoc (y r && z r) (parity (λ s. y s && z s) rs) v
-        where
-          assoc : (p q s : Bool) → p ⊕ (q ⊕ s) ≡ (p ⊕ q) ⊕ s
-          assoc p q s = simp xors
-
-  join-any : (x y z : R → Bool) (v : Bool) (rs : List R) → All (λ r. x r ≡ true → y r ≡ false) rs → All (λ r. x r ≡ true → z r ≡ v) rs → count x rs ≡ 1 → anyOf (λ r. (x r || y r) && z r) rs ≡ anyOf (λ r. y r && z r) rs || v
-  join-any x y z v [] h k c = absurd (omega arith)
-  join-any x y z v (r ∷ rs) h k c = go (x r) refl c (join-any x y z v rs (h .1) (k .1))
-    where
-      go : (b : Bool) → x r ≡ b → cond b (suc (count x rs)) (count x rs) ≡ 1 → (count x rs ≡ 1 → anyOf (λ s. (x s || y s) && z s) rs ≡ anyOf (λ s. y s && z s) rs || v) →
-          ((x r || y r) && z r) || anyOf (λ s. (x s || y s) && z s) rs ≡ ((y r && z r) || anyOf (λ s. y s && z s) rs) || v
-      go true e d i =
-          let n = none-any x y z rs (count-none x rs (omega arith)) in
-          ap₂ (λ (a b : Bool). ((a || y r) && z r) || b) e n ∙ ap (λ (a : Bool). a || anyOf (λ s. y s && z s) rs) (k .0 e)
-          ∙ swap v (anyOf (λ s. y s && z s) rs) ∙ sym (ap (λ (a : Bool). ((a && z r) || anyOf (λ s. y s && z s) rs) || v) (h .0 e))
-        where
-          swap : (p q : Bool) → p || q ≡ (false || q) || p
-          swap true true = refl
-          swap true false = refl
-          swap false true = refl
-          swap false false = refl
-      go false e d i = ap₂ (λ (a b : Bool). ((a || y r) && z r) || b) e (i d) ∙ assoc (y r && z r) (anyOf (λ s. y s && z s) rs) v
-        where
-          assoc : (p q s : Bool) → p || (q || s) ≡ (p || q) || s
-          assoc true q s = refl
-          assoc false q s = refl
-
-  count-same : (x y : R → Bool) (rs : List R) → All (λ r. x r ≡ y r) rs → count x rs ≡ count y rs
-  count-same x y [] h = refl
-  count-same x y (r ∷ rs) h = ap₂ (λ (b : Bool) (k : ℕ). cond b (suc k) k) (h .0) (count-same x y rs (h .1))
-
-  any-same : (x y : R → Bool) (rs : List R) → All (λ r. x r ≡ y r) rs → anyOf x rs ≡ anyOf y rs
-  any-same x y [] h = refl
-  any-same x y (r ∷ rs) h = ap₂ (λ (a b : Bool). a || b) (h .0) (any-same x y rs (h .1))
-
-  any-no : (x : R → Bool) (rs : List R) → anyOf x rs ≡ false → All (λ r. x r ≡ false) rs
-  any-no x [] h = tt
-  any-no x (r ∷ rs) h = (or-no-left (x r) (anyOf x rs) h, any-no x rs (or-no-right (x r) (anyOf x rs) h))
-
-  no-any : (x : R → Bool) (rs : List R) → All (λ r. x r ≡ false) rs → anyOf x rs ≡ false
-  no-any x [] h = refl
-  no-any x (r ∷ rs) h = ap₂ (λ (a b : Bool). a || b) (h .0) (no-any x rs (h .1))
+use Rattle.patching.specs.Between.{owns, Between}
+use Rattle.patching.proofs.Rim.{newB, S, fits, Result, results, stored-is, face-cells}
+use Rattle.patching.proofs.Tallies.{join-sum, join-any, count-same, any-same, any-no, no-any, parity-all, one-hit}
 
 -- ---- the rim that has f is the one that touches f's cells
 module _ (n : ℕ) (E : Set) (inner : (a : Axis) (p : Point) → E a p ≡ true → edgeIn (whole n) a p ≡ true) (f : Place) (o : oddFace E (f .axis) (f .at) ≡ true) where
@@ -248,37 +170,6 @@ module _ (n : ℕ) (E : Set) (inner : (a : Axis) (p : Point) → E a p ≡ true 
       the = find (elem (record { axis = a₀; at = c })) _ (rims n E) got (any-has n E inner (record { axis = a₀; at = c }) o₀)
 
 -- ---- no rim is patched
-module _ {R : Type 0} where
-  parity-all : (x y : R → Bool) (rs : List R) → All (λ r. x r ≡ y r) rs → parity x rs ≡ parity y rs
-  parity-all x y [] h = refl
-  parity-all x y (r ∷ rs) h = ap₂ (λ (a b : Bool). a ⊕ b) (h .0) (parity-all x y rs (h .1))
-
-  one-hit : (x y : R → Bool) (rs : List R) → count x rs ≤ 1 → anyOf (λ r. y r && x r) rs ≡ true → All (λ r. x r ≡ true → y r ≡ true) rs
-  one-hit x y [] h e = tt
-  one-hit x y (r ∷ rs) h e = go (x r) refl h e (one-hit x y rs)
-    where
-      absent : (s : R) → x s ≡ false → x s ≡ true → y s ≡ true
-      absent s f t = absurd (true≢false (sym t ∙ f))
-
-      and-no : (p q : Bool) → q ≡ false → p && q ≡ false
-      and-no true q k = k
-      and-no false q k = refl
-
-      go : (b : Bool) → x r ≡ b → cond b (suc (count x rs)) (count x rs) ≤ 1 → (y r && x r) || anyOf (λ s. y s && x s) rs ≡ true → (count x rs ≤ 1 → anyOf (λ s. y s && x s) rs ≡ true → All (λ s. x s ≡ true → y s ≡ true) rs) → All (λ s. x s ≡ true → y s ≡ true) (r ∷ rs)
-      go true q c a i =
-          let n = count-none x rs (omega arith) in
-          let z = no-any (λ s. y s && x s) rs (all-weaken _ _ (λ s f. and-no (y s) (x s) f) rs n) in
-          ((λ t. pick (y r) (x r) (anyOf (λ s. y s && x s) rs) z a), all-weaken _ _ absent rs n)
-        where
-          pick : (p q b : Bool) → b ≡ false → (p && q) || b ≡ true → p ≡ true
-          pick true q b f t = refl
-          pick false q b f t = absurd (true≢false (sym t ∙ f))
-      go false q c a i = (absent r q, i c (skip (y r) (x r) (anyOf (λ s. y s && x s) rs) q a))
-        where
-          skip : (p q b : Bool) → q ≡ false → (p && q) || b ≡ true → b ≡ true
-          skip true q b f t = subst (λ (z : Bool). z || b ≡ true) f t
-          skip false q b f t = t
-
 module _ (n : ℕ) (E : Set) (hit : List Place → Bool) (g₀ w₀ g w : List ℕ) (k : ℕ) (B : Between n E hit g₀ w₀ g w k) (c : Point) where
   same-hit : All (λ r. owns c r ≡ true → hit r ≡ true) (rims n E) → Between n E (λ s. owns c s || hit s) g₀ w₀ g w (k + 0)
   same-hit h = record {
@@ -314,82 +205,3 @@ module _ (n : ℕ) (E : Set) (hit : List Place → Bool) (g₀ w₀ g w : List �
       let x = find (λ y. samePoint (y .at) c) (λ y. isIn (oddFace E) y ≡ true) r f o in
       absurd (true≢false (sym (x .2) ∙ ap (oddFace E (x .0 .axis)) (samePoint→ (x .0 .at) c (x .1)) ∙ z (x .0 .axis)))) (rims n E)
       (rims-all (λ x. isIn (oddFace E) x ≡ true) (oddFaces n E) (all-kept (isIn (oddFace E)) (places n))))
-
--- ---- what a byte tells of the point's lower faces
-pub none-low : (n : ℕ) (w : List ℕ) (c : Point) → getD w (pointNumber n c) 0 / 8 % 8 ≡ 0 → (a : Axis) → layer 8 n w a c ≡ false
-none-low n w c e a = sym (has-low a (getD w (pointNumber n c) 0 / 8)) ∙ ap (has a) e ∙ zero-has a
-
-pub some-low : (n : ℕ) (w : List ℕ) (c : Point) → (getD w (pointNumber n c) 0 / 8 % 8 ≡ 0 → ⊥) → (a : Axis) × (layer 8 n w a c ≡ true)
-some-low n w c h =
-    let x = go (has X m) refl (has Y m) refl (has Z m) refl in
-    (x .0, sym (has-low (x .0) (getD w (pointNumber n c) 0 / 8)) ∙ x .1)
-  where
-    m : ℕ
-    m = getD w (pointNumber n c) 0 / 8 % 8
-
-    go : (x : Bool) → has X (getD w (pointNumber n c) 0 / 8 % 8) ≡ x → (y : Bool) → has Y (getD w (pointNumber n c) 0 / 8 % 8) ≡ y → (z : Bool) → has Z (getD w (pointNumber n c) 0 / 8 % 8) ≡ z →
-        (a : Axis) × (has a (getD w (pointNumber n c) 0 / 8 % 8) ≡ true)
-    go true e y f z i = (X, e)
-    go false e true f z i = (Y, f)
-    go false e false f true i = (Z, i)
-    go false e false f false i = absurd (h (sym (small-byte (getD w (pointNumber n c) 0 / 8 % 8) (omega arith)) ∙ ap₂ (λ (p : Bool) (q : ℕ). value p 1 + q) e (ap₂ (λ (p q : Bool). value p 2 + value q 4) f i)))
-
--- a point with an odd lower face is a cell
-pub low-cell : (n : ℕ) (w : List ℕ) (c : Point) → Fine n w → OfGrid n c → (getD w (pointNumber n c) 0 / 8 % 8 ≡ 0 → ⊥) → Cell n c
-low-cell n w c f g h = let s = some-low n w c h in face-cell n (s .0) c (f .between (s .0) c g (s .1)) .0
-
-pub fit-of : (n : ℕ) (F : Set) (w v : List ℕ) (c : Point) (b : Box) → Found n F w v c b → Fits n b
-fit-of n F w v c b f = fits-of n b c (f .least (whole n) (λ q h. cell-whole n q (h .cell))) (f .holds c (f .first))
-
--- ---- one point of the scan, as code does it
-module _ (n : ℕ) (g w : List ℕ) (c : Point) where
-  pub move-none : getD w (pointNumber n c) 0 / 8 % 8 ≡ 0 → Moves n c g w g w 0
-  unfolding oddIn
-  move-none e E inner hit g₀ w₀ k B =
-      none-skip n E hit g₀ w₀ g w k B c
-      (λ a. sym (ap (λ (F : Set). F a c) (B .odd-now)) ∙ ap (λ (x : Bool). faceIn (whole n) a c && x) (none-low n w c e a) ∙ &&-false (faceIn (whole n) a c))
-
-  pub move-seen : Cell n c → seenB n w c ≡ true → Moves n c g w g w 0
-  move-seen cell e E inner hit g₀ w₀ k B = seen-skip n E hit g₀ w₀ g w k B c cell e
-
-  pub move-rim : pointCount n ≤ length g → pointCount n ≤ length w → Fine n w → Cell n c → (getD w (pointNumber n c) 0 / 8 % 8 ≡ 0 → ⊥) → seenB n w c ≡ false → (v : List ℕ) (b : Box) → Found n (oddIn n w) w v c b →
-      (g₂ w₂ : List ℕ) → (g₂ ≡ turns n (patchOf b (stored n v)) g) × (w₂ ≡ works n (patchOf b (stored n v)) v) → Moves n c g w g₂ w₂ 1
-  move-rim lg lw fine cell z dark v b F g₂ w₂ e E inner hit g₀ w₀ k B =
-      let s = some-low n w c z in
-      let o : oddFace E (s .0) c ≡ true = sym (ap (λ (G : Set). G (s .0) c) (B .odd-now)) ∙ sym (odd-face n w fine (s .0) c (cell-grid n c cell)) ∙ s .1 in
-      rim-next n E inner hit g₀ w₀ g w k B lg lw c cell dark (s .0) o v b (subst (λ (G : Set). Found n G w v c b) (B .odd-now) F) g₂ w₂ (e .0) (e .1)
-
-  pub fine-after : pointCount n ≤ length w → Fine n w → (v : List ℕ) (b : Box) → Found n (oddIn n w) w v c b → (w₂ : List ℕ) → w₂ ≡ works n (patchOf b (stored n v)) v → Fine n w₂
-  fine-after lw f v b F w₂ e = record { between = λ a p l o. f .between a p l (sym (F .odds a p l) ∙ sym (same a p) ∙ o) }
-    where
-      same : (a : Axis) (p : Point) → layer 8 n w₂ a p ≡ layer 8 n v a p
-      same a p = ap (has a) (ap (λ (s : List ℕ). getD s (pointNumber n p) 0 / 8) e
-          ∙ turns-high n (each facesOf (patchOf b (stored n v))) v (pointNumber n p) (low-faces n (patchOf b (stored n v)) (patch-edged n b (stored n v) (fit-of n (oddIn n w) w v c b F))) (let z = F .long in omega arith))
-
--- ---- one point of the scan, told by its number and its byte
-module _ (n : ℕ) (g w : List ℕ) (p : ℕ) (below : p < pointCount n) where
-  byte-at : getD w (pointNumber n (pointOf n p)) 0 ≡ getD w p 0
-  byte-at = ap (λ (i : ℕ). getD w i 0) (number-pointOf n p)
-
-  some-at : (getD w p 0 / 8 % 8 ≡ 0 → ⊥) → getD w (pointNumber n (pointOf n p)) 0 / 8 % 8 ≡ 0 → ⊥
-  some-at h e = h (sym (ap (λ (b : ℕ). b / 8 % 8) byte-at) ∙ e)
-
-  pub at-none : getD w p 0 / 8 % 8 ≡ 0 → Moves n (pointOf n p) g w g w 0
-  at-none e = move-none n g w (pointOf n p) (ap (λ (b : ℕ). b / 8 % 8) byte-at ∙ e)
-
-  pub at-cell : Fine n w → (getD w p 0 / 8 % 8 ≡ 0 → ⊥) → Cell n (pointOf n p)
-  at-cell f h = low-cell n w (pointOf n p) f (pointOf-grid n p below) (some-at h)
-
-  pub at-seen : Fine n w → (getD w p 0 / 8 % 8 ≡ 0 → ⊥) → getD w p 0 / 64 % 2 ≡ 1 → Moves n (pointOf n p) g w g w 0
-  unfolding seenB
-  at-seen f h e = move-seen n g w (pointOf n p) (at-cell f h) (ap (λ (b : ℕ). has X (b / 64)) byte-at ∙ eqb-yes (getD w p 0 / 64 % 2) 1 e)
-
-  pub at-dark : (getD w p 0 / 64 % 2 ≡ 1 → ⊥) → seenB n w (pointOf n p) ≡ false
-  unfolding seenB
-  at-dark e = ap (λ (b : ℕ). has X (b / 64)) byte-at ∙ eqb-no (getD w p 0 / 64 % 2) 1 e
-
-  pub at-rim : pointCount n ≤ length g → pointCount n ≤ length w → Fine n w → (getD w p 0 / 8 % 8 ≡ 0 → ⊥) → (getD w p 0 / 64 % 2 ≡ 1 → ⊥) → (seed : Point) → seed ≡ pointOf n p → (v : List ℕ) (b : Box) → Found n (oddIn n w) w v seed b →
-      (g₂ w₂ : List ℕ) → (g₂ ≡ turns n (patchOf b (stored n v)) g) × (w₂ ≡ works n (patchOf b (stored n v)) v) → Moves n (pointOf n p) g w g₂ w₂ 1 × Fine n w₂
-  at-rim lg lw f h d seed es v b F g₂ w₂ e =
-      let G = subst (λ (q : Point). Found n (oddIn n w) w v q b) es F in
-      (move-rim n g w (pointOf n p) lg lw f (at-cell f h) (some-at h) (at-dark d) v b G g₂ w₂ e, fine-after n g w (pointOf n p) lw f v b G w₂ (e .1))
