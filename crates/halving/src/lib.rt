@@ -1,10 +1,12 @@
 // The patch of a box, by halving it.
+use lattice::coordinate;
 use lattice::earlier;
 use lattice::later;
 use lattice::member;
 use lattice::number_of;
 use lattice::step;
 use lattice::turn;
+use lattice::up;
 use rules::Axis;
 use rules::Box;
 use rules::Place;
@@ -54,26 +56,6 @@ fn flip(n: usize, grid: &mut [u8], work: &mut [u8], e: Place)
     turn_faces(n, work, at, a);
 }
 
-// The point one step up an axis.
-fn step_up(n: usize, p: Point, a: Axis) -> Point
-    requires { ⌜ (n ≤ 32) × (coord a p ≤ n) ⌝ }
-    ensures { λ r. ⌜ r ≡ up a p ⌝ }
-{
-    let mut q = p;
-    match a {
-        Axis::X => {
-            q.i = p.i + 1;
-        }
-        Axis::Y => {
-            q.j = p.j + 1;
-        }
-        Axis::Z => {
-            q.k = p.k + 1;
-        }
-    }
-    q
-}
-
 // The edge after an edge in a row along b.
 fn next_edge(n: usize, e: Place, b: Axis) -> Place
     requires { ⌜ (n ≤ 32) × (coord b (e .at) ≤ n) ⌝ }
@@ -81,7 +63,7 @@ fn next_edge(n: usize, e: Place, b: Axis) -> Place
 {
     let p = e.at;
     let a = e.axis;
-    let q = step_up(n, p, b);
+    let q = up(p, b);
     Place { axis: a, at: q }
 }
 
@@ -177,17 +159,6 @@ fn pair_row(
         u += 1;
     }
     h
-}
-
-// The coordinate of a point on an axis.
-fn coordinate(p: Point, a: Axis) -> usize
-    ensures { λ r. ⌜ r ≡ coord a p ⌝ }
-{
-    match a {
-        Axis::X => p.i,
-        Axis::Y => p.j,
-        Axis::Z => p.k,
-    }
 }
 
 // Takes the working faces in the plane m of a box in pairs, by rising point number, and joins each pair.

@@ -12,6 +12,12 @@ use Rattle.rules.proofs.PointOf.{number-pointOf}
 use Rattle.lattice.specs.Cells.{pointStep, moved, Cell}
 use Rattle.lattice.proofs.Laws.{num-below}
 
+-- a coordinate of a point of the grid
+pub coord-most : (n : ℕ) (a : Axis) (p : Point) → OfGrid n p → coord a p ≤ n
+coord-most n X p h = omega arith
+coord-most n Y p h = omega arith
+coord-most n Z p h = omega arith
+
 -- one step up an axis
 pub number-up : (n : ℕ) (a : Axis) (p : Point) → pointNumber n (up a p) ≡ pointNumber n p + pointStep n a
 number-up n X p = omega arith

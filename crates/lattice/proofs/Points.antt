@@ -8,7 +8,7 @@ use native.Mathlib.Omega.{arith}
 use native.Mathlib.Decide.{decLe}
 use borrow.Author.Tests.{ltb-true, ltb-false}
 use lib.Dec.{ltb}
-use lib.ListN.{length, getD, drop}
+use lib.ListN.{length, drop}
 use lib.Seq.{drop-cons}
 use Rattle.rules.specs.declared.Axis.{Axis}
 use Rattle.rules.specs.declared.Axis.the-variants.{X, Y, Z}
@@ -17,7 +17,7 @@ use Rattle.rules.specs.Lists.{allOf, between}
 use Rattle.rules.specs.Lattice.{points, pointNumber, pointCount, inner, sameAxis, raise, whole}
 use Rattle.rules.specs.Lattice.{OfGrid}
 use Rattle.rules.proofs.Boxes.{inBox←}
-use Rattle.rules.proofs.Bits.{three→, between→, Bounds, &&-left, &&-assoc, &&-comm, &&-self, &&-again, ands}
+use Rattle.rules.proofs.Bits.{three→, between→, Bounds, &&-left, ands}
 use Rattle.rules.proofs.Numbers.{points-at, points-length, number-below}
 use Rattle.lattice.specs.Scans.{nextPoint, innerAlong, deep}
 

@@ -7,9 +7,10 @@ use rules::Place;
 use rules::Point;
 ghost use mathlib.Core.Path.{_≡_};
 ghost use Prim.Native.Nat.{_≤_, _<_};
-ghost use lib.ListN.{length, getD};
+ghost use mathlib.Core.List.{_++_};
+ghost use lib.ListN.{length, getD, drop, replicate};
 ghost use Rattle.rules.specs.Lists.{_⊕_};
-ghost use Rattle.rules.specs.Lattice.{earlier, later, up, origin, isIn, pointNumber, pointCount, pointOf, OfGrid};
+ghost use Rattle.rules.specs.Lattice.{coord, earlier, later, up, origin, isIn, pointNumber, pointCount, pointOf, OfGrid};
 ghost use Rattle.rules.specs.Grid.{has, weight};
 ghost use Rattle.rules.proofs.Store.{toggle};
 ghost use Rattle.lattice.specs.Cells.{indexOf, faceRule, edgeRule, cornerRule, moved, cornerEdge, Cell, bitsFrom, oddOf, turnAt, turnOne, pointStep};
@@ -113,6 +114,37 @@ fn upper_face(a: Axis) -> Point
     }
 }
 
+// The coordinate of a point on an axis.
+pub fn coordinate(p: Point, a: Axis) -> usize
+    ensures { λ r. ⌜ r ≡ coord a p ⌝ }
+{
+    match a {
+        Axis::X => p.i,
+        Axis::Y => p.j,
+        Axis::Z => p.k,
+    }
+}
+
+// The point one step up an axis.
+pub fn up(p: Point, a: Axis) -> Point
+    requires { ⌜ coord a p ≤ 32 ⌝ }
+    ensures { λ r. ⌜ r ≡ up a p ⌝ }
+{
+    let mut q = p;
+    match a {
+        Axis::X => {
+            q.i = p.i + 1;
+        }
+        Axis::Y => {
+            q.j = p.j + 1;
+        }
+        Axis::Z => {
+            q.k = p.k + 1;
+        }
+    }
+    q
+}
+
 // By how much a point's number rises with one step along an axis.
 pub fn step(n: usize, a: Axis) -> usize
     requires { ⌜ (1 ≤ n) × (n ≤ 32) ⌝ }
@@ -159,6 +191,18 @@ pub fn bit(b: u8, a: Axis) -> bool
         Axis::X => b % 2 == 1,
         Axis::Y => b / 2 % 2 == 1,
         Axis::Z => b / 4 % 2 == 1,
+    }
+}
+
+// Sets the first bytes of a buffer to 0.
+pub fn clear(count: usize, s: &mut [u8])
+    requires { ⌜ count ≤ length (now s) ⌝ }
+    ensures { λ _. ⌜ now (s .exit) ≡ replicate count 0 ++ drop count (now (s .entry)) ⌝ }
+{
+    let mut p: usize = 0;
+    while p < count {
+        s[p] = 0;
+        p += 1;
     }
 }
 

@@ -3,7 +3,6 @@ pub mod Ranges
 pub mod Outside
 pub mod Adding
 pub mod Scanning
-pub mod Clearing
 pub mod Written
 pub mod Marks
 pub mod Calls

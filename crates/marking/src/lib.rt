@@ -5,13 +5,11 @@ pub mod scan;
 use crate::range::all_in_range;
 use crate::range::triangle_of;
 use crate::scan::mark_grid;
+use lattice::clear;
 use lattice::level::Level;
 use lattice::level::LevelRead;
 use lattice::scan::is_grid;
 ghost use mathlib.Core.Path.{_≡_};
-ghost use mathlib.Core.List.{_++_};
-ghost use Prim.Native.Nat.{_≤_};
-ghost use lib.ListN.{length, drop, replicate};
 ghost use Rattle.marking.specs.Open.{openTold, openCall};
 ghost use Rattle.marking.specs.Mark.{markTold, markAt, markCall};
 
@@ -32,18 +30,6 @@ pub enum MarkAnswer {
     NoGrid,
 }
 
-// Sets the first bytes of a buffer to 0.
-fn clear(grid: &mut [u8], count: usize)
-    requires { ⌜ count ≤ length (now grid) ⌝ }
-    ensures { λ _. ⌜ now (grid .exit) ≡ replicate count 0 ++ drop count (now (grid .entry)) ⌝ }
-{
-    let mut p: usize = 0;
-    while p < count {
-        grid[p] = 0;
-        p += 1;
-    }
-}
-
 // The call open: makes an empty grid of the level in the buffer's first P bytes.
 pub fn open(level: u32, grid: &mut [u8]) -> OpenAnswer
     ensures { λ r. ⌜ openTold r (now (grid .exit)) ≡ openCall level (now (grid .entry)) ⌝ }
@@ -55,7 +41,7 @@ pub fn open(level: u32, grid: &mut [u8]) -> OpenAnswer
     if grid.len() < count {
         return OpenAnswer::ShortBuffer;
     }
-    clear(grid, count);
+    clear(count, grid);
     OpenAnswer::Done
 }
 

@@ -5,6 +5,7 @@ use lattice::corner_edge;
 use lattice::level::Level;
 use lattice::member;
 use lattice::turn_place;
+use lattice::up;
 use rules::Axis;
 use rules::Box;
 use rules::Place;
@@ -49,30 +50,6 @@ fn place_of(l: Level, p: Point) -> Vector
     }
 }
 
-// Answers the point one step up an axis.
-fn up(a: Axis, p: Point) -> Point
-    requires { ⌜ OfGrid 32 p ⌝ }
-    ensures { λ r. ⌜ r ≡ up a p ⌝ }
-{
-    match a {
-        Axis::X => Point {
-            i: p.i + 1,
-            j: p.j,
-            k: p.k,
-        },
-        Axis::Y => Point {
-            i: p.i,
-            j: p.j + 1,
-            k: p.k,
-        },
-        Axis::Z => Point {
-            i: p.i,
-            j: p.j,
-            k: p.k + 1,
-        },
-    }
-}
-
 // Answers an edge's two ends on the lattice.
 fn ends_of(l: Level, e: Place) -> Ends
     requires { ⌜ OfGrid (cellsOf l) (e .at) × OfGrid (cellsOf l) (up (e .axis) (e .at)) ⌝ }
@@ -82,7 +59,7 @@ fn ends_of(l: Level, e: Place) -> Ends
     let p = e.at;
     Ends {
         from: place_of(l, p),
-        to: place_of(l, up(a, p)),
+        to: place_of(l, up(p, a)),
     }
 }
 

@@ -1,14 +1,13 @@
 -- The table of refusals, line by line. Assumes nothing.
-use mathlib.Core.Path.{_≡_, sym, ap, _∙_}
-use mathlib.Core.Bool.{Bool, true, false, not, cond}
+use mathlib.Core.Path.{_≡_}
+use mathlib.Core.Bool.{true, false}
 use mathlib.Core.List.{List}
 use Prim.Native.Nat.{ℕ, _≤_, _<_}
 use borrow.Author.Tests.{lt-ltb, le-ltb}
-use lib.Dec.{ltb}
 use lib.ListN.{length}
 use Rattle.rules.specs.Lattice.{pointCount}
 use Rattle.rules.specs.Grid.{isGrid}
-use Rattle.patching.specs.Call.{Outcome, refused, patchDone, patchSized}
+use Rattle.patching.specs.Call.{refused, patchDone, patchSized}
 
 module _ (n : ℕ) (g w : List ℕ) where
   -- a grid buffer shorter than P

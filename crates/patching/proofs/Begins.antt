@@ -8,9 +8,9 @@ use lib.ListN.{length, getD}
 use Rattle.rules.specs.Lists.{_⊕_, anyOf, parity, count}
 use Rattle.rules.proofs.Bits.{⊕-false, is-false}
 use Rattle.rules.specs.declared.Axis.{Axis}
-use Rattle.rules.specs.declared.Axis.the-variants.{X, Y, Z}
+use Rattle.rules.specs.declared.Axis.the-variants.{X}
 use Rattle.rules.specs.declared.Point.{Point}
-use Rattle.rules.specs.Lattice.{Set, OfGrid, pointNumber, pointOf, faceIn, whole, setOf, pointCount}
+use Rattle.rules.specs.Lattice.{OfGrid, pointNumber, pointOf, faceIn, whole, setOf, pointCount}
 use Rattle.rules.specs.Cell.{oddFace}
 use Rattle.rules.specs.Grid.{has, marks, isGrid}
 use Rattle.rules.specs.Rims.{rims}
@@ -20,7 +20,7 @@ use Rattle.rules.proofs.Numbers.{marks-inner}
 use Rattle.rules.proofs.Patched.{odd-in}
 use Rattle.rules.proofs.PointOf.{number-pointOf, pointOf-grid}
 use Rattle.rules.proofs.Store.{stored}
-use Rattle.lattice.specs.Cells.{layer, works, Cell}
+use Rattle.lattice.specs.Cells.{layer, works}
 use Rattle.lattice.proofs.Laws.{num-below}
 use Rattle.lattice.proofs.GridFacts.{grid-byte, grid-marks}
 use Rattle.walking.specs.Walks.{oddIn, Fine, seenB}

@@ -24,7 +24,6 @@ use Rattle.rules.proofs.Chains.{same-point, or-left-true, find, any-mono}
 use Rattle.rules.proofs.Patched.{odd-in, rims-all}
 use Rattle.rules.proofs.Scan.{hit, rim-some}
 use Rattle.rules.proofs.Store.{stored}
-use Rattle.lattice.specs.Cells.{Cell}
 use Rattle.lattice.proofs.Laws.{num-below}
 use Rattle.walking.specs.Walks.{Fine}
 use Rattle.walking.proofs.Faces.{cell-grid}

@@ -2,7 +2,7 @@
 use mathlib.Core.Path.{_≡_, refl, sym, ap, ap₂, _∙_, subst}
 use mathlib.Core.Bool.{Bool, true}
 use mathlib.Core.List.{List, [], _∷_, _++_, map, map-map}
-use Prim.Native.Nat.{ℕ, suc, _+_, _-_, _*_, _/_, _%_, _≤_}
+use Prim.Native.Nat.{ℕ, suc, _+_, _-_, _%_, _≤_}
 use native.Mathlib.Omega.{arith}
 use lib.ListN.{length, getD, take, drop, take-append-drop, length-drop, replicate, length-replicate, getD-replicate}
 use lib.Seq.{ext-getD, getD-take, getD-drop, length-take-le}
@@ -23,7 +23,7 @@ use Rattle.lattice.proofs.Laws.{num-below}
 use Rattle.walking.proofs.Bytes.{has-low}
 use Rattle.patching.specs.Paint.{paint, nine, eight, low, nought, gaps}
 use Rattle.patching.specs.Marked.{marksFrom}
-use Rattle.patching.specs.Between.{none, Between, Finished, AllPatched}
+use Rattle.patching.specs.Between.{Finished, AllPatched}
 use Rattle.patching.specs.Call.{counted, patchDone}
 use Rattle.patching.proofs.PaintLaws.{paint-at, paint-past, paint-length}
 use Rattle.patching.proofs.Flips.{gaps-count}

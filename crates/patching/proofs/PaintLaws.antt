@@ -1,6 +1,6 @@
 -- Laws of paint. Assumes nothing.
 use mathlib.Core.Path.{_≡_, refl, sym, ap, ap₂, _∙_}
-use mathlib.Core.List.{List}
+use mathlib.Core.List.{List, _++_}
 use mathlib.Core.Bool.{Bool, true, false}
 use Prim.Native.Nat.{ℕ, zero, suc, _+_, _*_, _/_, _%_, _≤_, _<_}
 use lib.Dec.{eqb}
@@ -10,9 +10,10 @@ use Rattle.rules.specs.Grid.{has, value}
 use native.Mathlib.Omega.{arith}
 use native.Mathlib.Numerals.{add-one}
 use native.Mathlib.Decide.{ℕ-discrete}
-use lib.ListN.{length, getD, set, length-set}
+use lib.ListN.{length, getD, set, drop, replicate, length-set}
 use lib.Seq.{getD-set-same, getD-set-other}
-use Rattle.patching.specs.Paint.{paint, gap, gaps}
+use Rattle.lattice.proofs.Clearing.{cleared-more}
+use Rattle.patching.specs.Paint.{paint, nought, gap, gaps}
 
 pub paint-length : (f : ℕ → ℕ) (k : ℕ) (s : List ℕ) → length (paint f k s) ≡ length s
 unfolding paint
@@ -49,6 +50,14 @@ paint-kept f p s t e = ap length e ∙ paint-length f p s
 
 pub paint-read : (f : ℕ → ℕ) (k : ℕ) (s t : List ℕ) → t ≡ paint f k s → getD t k 0 ≡ getD s k 0
 paint-read f k s t e = ap (λ (u : List ℕ). getD u k 0) e ∙ paint-past f k s k (omega arith)
+
+-- bytes set to 0 are painted with zeros
+pub cleared-paint : (k : ℕ) (s : List ℕ) → k ≤ length s → replicate k 0 ++ drop k s ≡ paint nought k s
+unfolding paint
+cleared-paint zero s h = refl
+cleared-paint (suc k) s h =
+    ap (λ (j : ℕ). replicate j 0 ++ drop j s) (sym (add-one k)) ∙ sym (cleared-more k s (omega arith))
+    ∙ ap (λ (t : List ℕ). set t k 0) (cleared-paint k s (omega arith))
 
 bit-most : (x : Bool) → value x 1 ≤ 1
 bit-most true = omega arith

@@ -2,6 +2,7 @@
 use halving::patch_box;
 use halving::turn_faces;
 use lattice::bit;
+use lattice::clear;
 use lattice::level::Level;
 use lattice::level::LevelRead;
 use lattice::level::point_count;
@@ -84,18 +85,6 @@ pub fn patch_grid(n: usize, grid: &mut [u8], work: &mut [u8]) -> Counts
     Counts {
         rims: rims,
         flips: flips,
-    }
-}
-
-// Clears the first bytes of a buffer.
-fn clear(count: usize, work: &mut [u8])
-    requires { ⌜ count ≤ length (now work) ⌝ }
-    ensures { λ _. ⌜ now (work .exit) ≡ paint nought count (now (work .entry)) ⌝ }
-{
-    let mut p: usize = 0;
-    while p < count {
-        work[p] = 0;
-        p += 1;
     }
 }
 

@@ -10,7 +10,7 @@ use lib.Seq.{take-at, drop-at}
 use Rattle.rules.specs.declared.Axis.{Axis}
 use Rattle.rules.specs.declared.Axis.the-variants.{X, Y, Z}
 use Rattle.rules.specs.declared.Point.{Point}
-use Rattle.rules.specs.Lists.{_⊕_, All, upto}
+use Rattle.rules.specs.Lists.{_⊕_, All}
 use Rattle.rules.specs.Lattice.{up, origin, pointNumber, pointCount, points, OfGrid, Set}
 use Rattle.rules.specs.Grid.{value, marks, isGrid}
 use Rattle.rules.specs.Rims.{evenFaces}

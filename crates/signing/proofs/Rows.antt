@@ -1,5 +1,5 @@
 -- The signs by rising point number: along a row they follow the x marks, and each row begins and ends outside. Assumes nothing.
-use mathlib.Core.Path.{_≡_, refl, sym, ap, ap₂, _∙_}
+use mathlib.Core.Path.{_≡_, sym, ap, ap₂, _∙_}
 use mathlib.Core.Bool.{Bool, true, false}
 use mathlib.Core.Logic.{inl, inr}
 use mathlib.Core.List.{List, map, map-map}
@@ -8,9 +8,7 @@ use native.Mathlib.Nat.{add-mul-mod-self-left, mod-add-div, zero-mod}
 use native.Mathlib.Omega.{arith}
 use native.Mathlib.Decide.{decLt}
 use lib.ListN.{length, getD, length-map}
-use Rattle.rules.specs.declared.Axis.{Axis}
-use Rattle.rules.specs.declared.Axis.the-variants.{X, Y, Z}
-use Rattle.rules.specs.declared.Point.{Point}
+use Rattle.rules.specs.declared.Axis.the-variants.{X}
 use Rattle.rules.specs.Lists.{_⊕_, upto}
 use Rattle.rules.specs.Lattice.{up, pointNumber, pointCount, pointOf, OfGrid, points, Set, whole}
 use Rattle.rules.specs.Grid.{value, has, marks, isGrid}

@@ -2,7 +2,6 @@
 use mathlib.Core.Path.{_≡_, refl}
 use mathlib.Core.List.{List, [], _∷_}
 use Prim.Native.Nat.{ℕ}
-use Rattle.rules.specs.Lists.{each, upto}
 use Rattle.streaming.specs.declared.text.Repaired.{Repaired}
 use Rattle.streaming.specs.Text.{ascii, digits, decimal, refusedLine, listing}
 

@@ -1,14 +1,13 @@
 -- Laws of the triangles of a stream: one triangle taken, each refusal, and blocks one behind another. Assumes nothing.
 use mathlib.Core.Path.{_≡_, refl, sym, ap, _∙_}
-use mathlib.Core.Bool.{Bool, true, false, not, cond}
+use mathlib.Core.Bool.{true, false}
 use mathlib.Core.List.{List, [], _∷_, _++_, append-nil, append-assoc}
 use Prim.Native.Nat.{ℕ, zero, suc, _+_, _-_, _%_, _≤_, _<_}
-use native.Mathlib.Nat.{add-comm}
 use native.Mathlib.Numerals.{add-one}
 use native.Mathlib.Omega.{arith}
 use lib.ListN.{length, drop, length-append, length-drop}
 use lib.Seq.{drop-append-le, drop-drop}
-use borrow.Author.Tests.{lt-ltb, le-ltb, eq-eqb, ne-eqb}
+use borrow.Author.Tests.{lt-ltb, le-ltb, ne-eqb}
 use Rattle.rules.specs.Lattice.{Set}
 use Rattle.rules.specs.Grid.{marks}
 use Rattle.lattice.specs.declared.level.Level.{Level}
@@ -18,7 +17,7 @@ use Rattle.marking.specs.Met.{met, added}
 use Rattle.streaming.specs.declared.feed.Fed.{Fed}
 use Rattle.streaming.specs.declared.feed.Fed.the-variants.{Marked}
 use Rattle.streaming.specs.Words.{numbers}
-use Rattle.streaming.specs.Stream.{Taken, marked, refusedBy, taken, mostTriangles}
+use Rattle.streaming.specs.Stream.{marked, refusedBy, taken, mostTriangles}
 use Rattle.streaming.specs.Feed.{Whole, Feeding}
 use Rattle.streaming.specs.Read.{Came, Streamed}
 use Rattle.streaming.proofs.Numbers.{numbers-ahead}

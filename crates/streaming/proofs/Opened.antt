@@ -12,7 +12,7 @@ use Rattle.lattice.proofs.Ahead.{open-marks, open-grid}
 use Rattle.streaming.specs.declared.Wanted.{Wanted}
 use Rattle.streaming.specs.declared.feed.Fed.the-variants.{Marked, Refused}
 use Rattle.streaming.specs.Text.{refusedLine}
-use Rattle.streaming.specs.Stream.{taken, marked, mostTriangles, noMarks, shown, printedTaken, printed}
+use Rattle.streaming.specs.Stream.{taken, mostTriangles, noMarks, shown, printedTaken, printed}
 use Rattle.streaming.specs.Feed.{Ready}
 use Rattle.streaming.specs.Read.{Streamed}
 use Rattle.streaming.proofs.Reports.{points-most}

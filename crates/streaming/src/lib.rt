@@ -17,7 +17,7 @@ use libc::STDIN_FILENO;
 use libc::STDOUT_FILENO;
 ghost use mathlib.Core.Path.{_≡_};
 ghost use Prim.Native.Nat.{_≤_};
-ghost use lib.ListN.{length, take, replicate};
+ghost use lib.ListN.{length, replicate};
 ghost use Rattle.rules.specs.Grid.{marks};
 ghost use Rattle.lattice.specs.Levels.{cellsOf};
 ghost use Rattle.streaming.specs.Feed.{Ready};

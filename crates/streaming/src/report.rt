@@ -11,7 +11,7 @@ use surfacing::SurfaceAnswer;
 use surfacing::list_quads;
 ghost use mathlib.Core.Path.{_≡_};
 ghost use mathlib.Core.Bool.{true};
-ghost use Prim.Native.Nat.{_≤_, _*_};
+ghost use Prim.Native.Nat.{_≤_};
 ghost use lib.ListN.{length, take};
 ghost use Rattle.rules.specs.Lattice.{pointCount};
 ghost use Rattle.rules.specs.Grid.{isGrid, marks};

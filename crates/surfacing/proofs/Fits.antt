@@ -1,6 +1,6 @@
 -- The test of an edge as code makes it. Assumes nothing.
-use mathlib.Core.Path.{_≡_, refl, sym, ap, ap₂, subst, _∙_}
-use mathlib.Core.Bool.{Bool, true, false, not, _||_, Bool·beq}
+use mathlib.Core.Path.{_≡_, sym, ap, ap₂, subst, _∙_}
+use mathlib.Core.Bool.{Bool, true, false, not, Bool·beq}
 use mathlib.Core.List.{List}
 use Prim.Native.Nat.{ℕ, suc, _+_, _*_, _≤_, _<_}
 use native.Mathlib.Omega.{arith}
@@ -11,7 +11,7 @@ use Rattle.rules.specs.declared.Axis.{Axis}
 use Rattle.rules.specs.declared.Axis.the-variants.{X, Y, Z}
 use Rattle.rules.specs.declared.Point.{Point}
 use Rattle.rules.specs.Lists.{_⊕_, allOf}
-use Rattle.rules.specs.Lattice.{coord, up, origin, pointNumber, points, Set, OfGrid}
+use Rattle.rules.specs.Lattice.{coord, origin, pointNumber, points, Set, OfGrid}
 use Rattle.rules.specs.Grid.{has, marks}
 use Rattle.rules.proofs.Bits.{&&-true}
 use Rattle.signing.specs.SignBytes.{signByte, inside}

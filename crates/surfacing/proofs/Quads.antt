@@ -13,7 +13,7 @@ use Rattle.rules.specs.declared.Axis.the-variants.{X, Y, Z}
 use Rattle.rules.specs.declared.Point.{Point}
 use Rattle.rules.specs.declared.Place.{Place}
 use Rattle.rules.specs.Lists.{count, keep, each}
-use Rattle.rules.specs.Lattice.{Set, isIn, OfGrid, pointNumber, pointCount, points, placesAt, places}
+use Rattle.rules.specs.Lattice.{Set, isIn, pointCount, points, placesAt, places}
 use Rattle.rules.specs.Grid.{value, has, marks, isGrid}
 use Rattle.rules.specs.Quads.{quad, quads}
 use Rattle.lattice.proofs.Points.{pointsFrom, points-start, points-more, points-end, At, at-grid}

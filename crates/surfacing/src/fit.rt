@@ -1,5 +1,6 @@
 // Whether signs fit a grid: none above 1, point (0,0,0) outside, and a sign change exactly where there is a mark.
 use lattice::bit;
+use lattice::coordinate;
 use lattice::level::point_count;
 use lattice::scan::next_point;
 use lattice::step;
@@ -8,24 +9,11 @@ use rules::Point;
 use signing::is_inside;
 ghost use mathlib.Core.Path.{_≡_};
 ghost use mathlib.Core.Bool.{true};
-ghost use mathlib.Core.List.{List};
-ghost use Prim.Native.Nat.{ℕ, _≤_};
-ghost use lib.ListN.{length};
-ghost use Rattle.rules.specs.Lattice.{coord, pointNumber, pointCount, OfGrid};
-ghost use Rattle.rules.specs.Grid.{marks, isGrid};
+ghost use Prim.Native.Nat.{_≤_};
+ghost use Rattle.rules.specs.Lattice.{pointNumber, OfGrid};
+ghost use Rattle.rules.specs.Grid.{marks};
 ghost use Rattle.signing.specs.SignBytes.{inside};
 ghost use Rattle.surfacing.specs.Fit.{edgeFits, pointFits, signsFit, Grids};
-
-// The coordinate of a point on an axis.
-fn coordinate(p: Point, a: Axis) -> usize
-    ensures { λ r. ⌜ r ≡ coord a p ⌝ }
-{
-    match a {
-        Axis::X => p.i,
-        Axis::Y => p.j,
-        Axis::Z => p.k,
-    }
-}
 
 // Answers whether the edge along a at the point q, of number p, has a sign change exactly when it has a mark, if it exists.
 fn edge_fits(n: usize, grid: &[u8], signs: &[u8], a: Axis, q: Point, p: usize) -> bool

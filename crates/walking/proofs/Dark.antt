@@ -1,14 +1,14 @@
 -- How many cells have not been seen. Assumes nothing.
-use mathlib.Core.Path.{_≡_, refl, sym, ap, ap₂, _∙_, subst}
+use mathlib.Core.Path.{_≡_, refl, sym, ap, ap₂, _∙_}
 use mathlib.Core.Bool.{Bool, true, false, cond, true≢false}
 use mathlib.Core.List.{List}
 use Prim.Native.Nat.{ℕ, zero, suc, _+_, _*_, _/_, _%_, _≤_, _<_}
 use native.Mathlib.Decide.{ℕ-discrete}
 use native.Mathlib.Nat.{mod-lt, div-lt-iff-lt-mul, mod-add-div, add-mul-mod-self-left, add-mul-div-left, mod-eq-of-lt, div-eq-of-lt}
 use native.Mathlib.Omega.{arith}
-use lib.ListN.{length, getD}
+use lib.ListN.{length}
 use Rattle.rules.specs.declared.Point.{Point}
-use Rattle.rules.specs.Lattice.{OfGrid, pointCount, cellNumber, pointNumber}
+use Rattle.rules.specs.Lattice.{pointCount, cellNumber, pointNumber}
 use Rattle.rules.proofs.Numbers.{number-below}
 use Rattle.rules.proofs.Store.{number-inj}
 use Rattle.lattice.specs.Cells.{Cell}

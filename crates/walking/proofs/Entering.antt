@@ -17,7 +17,7 @@ use Rattle.rules.specs.Lattice.{OfGrid, Set, pointNumber, faceIn, whole, samePo
 use Rattle.rules.specs.Grid.{has}
 use Rattle.rules.specs.Rims.{joinBox}
 use Rattle.rules.proofs.Bits.{and-left, and-right}
-use Rattle.rules.proofs.Chains.{same-point, or-no-left, or-no-right}
+use Rattle.rules.proofs.Chains.{or-no-left, or-no-right}
 use Rattle.rules.proofs.RimBox.{Sub}
 use Rattle.walking.specs.Walks.{seenB, lightOf, oddAt, acrossOf, opposite, backOf, openB, cellBox, Walked, pushOf, over, New}
 use Rattle.walking.specs.Bound.{darkCells}

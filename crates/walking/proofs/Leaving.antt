@@ -14,7 +14,6 @@ use Rattle.rules.specs.Lattice.{OfGrid, Set, pointNumber, faceIn, whole, samePo
 use Rattle.rules.specs.Grid.{has}
 use Rattle.rules.proofs.Bits.{both}
 use Rattle.rules.proofs.Cuts.{samePoint→}
-use Rattle.rules.proofs.Chains.{same-point}
 use Rattle.rules.proofs.RimBox.{Sub}
 use Rattle.rules.proofs.Store.{stored}
 use Rattle.lattice.specs.Cells.{layer}

@@ -3,21 +3,21 @@ use mathlib.Core.Path.{_≡_, refl, sym, ap, ap₂, _∙_, subst}
 use mathlib.Core.Bool.{Bool, true, false, not, _&&_, cond}
 use mathlib.Core.List.{List}
 use mathlib.Core.Logic.{_⊎_, inl, inr}
-use Prim.Native.Nat.{ℕ, suc, _+_, _-_, _*_, _/_, _≤_, _<_}
+use Prim.Native.Nat.{ℕ, _+_, _-_, _*_, _/_, _≤_, _<_}
 use native.Mathlib.Omega.{arith}
 use lib.Dec.{ltb}
-use lib.ListN.{length, getD}
+use lib.ListN.{getD}
 use borrow.Author.Tests.{le-ltb}
 use Rattle.rules.specs.declared.Axis.{Axis}
 use Rattle.rules.specs.declared.Axis.the-variants.{X}
 use Rattle.rules.specs.declared.Point.{Point}
 use Rattle.rules.specs.declared.Place.{Place}
-use Rattle.rules.specs.Lattice.{OfGrid, coord, down, faceIn, whole, pointNumber, pointCount, pointOf}
+use Rattle.rules.specs.Lattice.{OfGrid, down, faceIn, whole, pointNumber, pointCount, pointOf}
 use Rattle.rules.specs.Grid.{has, value}
 use Rattle.rules.proofs.PointOf.{number-pointOf}
-use Rattle.lattice.specs.Cells.{faceRule, faceOf, indexOf, moved, pointStep, layer, Cell}
+use Rattle.lattice.specs.Cells.{faceRule, faceOf, indexOf, moved, pointStep, Cell}
 use Rattle.lattice.proofs.Laws.{face-small, num-below}
-use Rattle.lattice.proofs.PointSteps.{number-moved, number-down, step-most}
+use Rattle.lattice.proofs.PointSteps.{number-moved, number-down}
 use Rattle.walking.specs.Walks.{oddIn, Fine, seenB, oddAt, acrossOf, openB}
 use Rattle.walking.proofs.Faces.{face-lower, across-lower, which, face-cell, face-grid}
 use Rattle.walking.proofs.Bytes.{odd-face, odd-inside, bit-less}

@@ -8,15 +8,14 @@ use native.Mathlib.Nat.{mul-le-mul}
 use lib.Dec.{ltb, eqb}
 use lib.ListN.{length}
 use borrow.Author.Tests.{lt-ltb, le-ltb, eq-eqb, ne-eqb}
-use Rattle.rules.specs.declared.Axis.{Axis}
 use Rattle.rules.specs.declared.Point.{Point}
 use Rattle.rules.specs.declared.Box.{Box}
 use Rattle.rules.specs.Lattice.{OfGrid, Set, pointNumber, pointCount, pointOf}
 use Rattle.rules.specs.Rims.{joinBox}
 use Rattle.rules.proofs.Bits.{and-left}
 use Rattle.rules.proofs.PointOf.{pointOf-number}
-use Rattle.lattice.specs.Cells.{layer, Cell}
-use Rattle.walking.specs.Walks.{oddIn, Fine, seenB, lightOf, wayOf, leaveOf, oddAt, Inside, acrossOf, opposite, backOf, firstOpen, cellBox, Walked, stepOf, Found}
+use Rattle.lattice.specs.Cells.{Cell}
+use Rattle.walking.specs.Walks.{oddIn, Fine, seenB, lightOf, wayOf, leaveOf, oddAt, Inside, acrossOf, opposite, backOf, firstOpen, cellBox, Walked, stepOf}
 use Rattle.walking.specs.Bound.{darkCells}
 use Rattle.walking.specs.declared.Walk.{Walk}
 use Rattle.walking.proofs.Faces.{crossed, cell-grid}

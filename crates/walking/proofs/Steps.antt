@@ -1,5 +1,5 @@
 -- The walk from its first cell on, step by step. Assumes nothing.
-use mathlib.Core.Path.{_≡_, refl, sym, ap, _∙_, subst}
+use mathlib.Core.Path.{_≡_, refl, sym, _∙_, subst}
 use mathlib.Core.Bool.{Bool, true, false, cond, true≢false, false≢true}
 use mathlib.Core.List.{List}
 use mathlib.Core.Logic.{_⊎_, inl, inr}
@@ -12,7 +12,7 @@ use Rattle.rules.specs.declared.Axis.{Axis}
 use Rattle.rules.specs.declared.Point.{Point}
 use Rattle.rules.specs.declared.Box.{Box}
 use Rattle.rules.specs.Lattice.{OfGrid, Set, faceIn, whole, samePoint, pointCount}
-use Rattle.rules.proofs.Chains.{same-point, or-no-left}
+use Rattle.rules.proofs.Chains.{or-no-left}
 use Rattle.rules.proofs.RimBox.{Sub}
 use Rattle.lattice.specs.Cells.{layer, Cell}
 use Rattle.walking.specs.Walks.{seenB, lightOf, firstOpen, cellBox, Walked, pushOf, popOf, stopOf, stepOf, here, New}

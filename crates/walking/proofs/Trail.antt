@@ -5,7 +5,6 @@ use mathlib.Core.List.{List, [], _∷_}
 use mathlib.Core.Logic.{_⊎_, inl, inr}
 use Prim.Native.Nat.{ℕ, zero, suc, _%_, _≤_, _<_}
 use native.Mathlib.Decide.{ℕ-discrete}
-use native.Mathlib.Omega.{arith}
 use lib.ListN.{length, getD}
 use Rattle.rules.specs.Lists.{anyOf}
 use Rattle.rules.specs.declared.Axis.{Axis}
@@ -14,7 +13,7 @@ use Rattle.rules.specs.Lattice.{OfGrid, Set, pointNumber, faceIn, whole, samePo
 use Rattle.rules.proofs.Cuts.{samePoint→}
 use Rattle.rules.proofs.Chains.{same-point, or-no-left, or-no-right}
 use Rattle.rules.proofs.Bits.{is-false}
-use Rattle.rules.proofs.Store.{stored, number-inj}
+use Rattle.rules.proofs.Store.{number-inj}
 use Rattle.lattice.specs.Cells.{Cell}
 use Rattle.walking.specs.Walks.{seenB, lightOf, wayOf, oddAt, acrossOf, opposite, backOf, New, Done}
 use Rattle.walking.proofs.Faces.{crossed, cell-grid}

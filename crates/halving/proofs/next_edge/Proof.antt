@@ -2,11 +2,11 @@ use Rattle.halving.proofs.next_edge.Tie as tie
 use borrow.Author.Needs.{needs}
 use Rattle.halving.proofs.next_edge.Statement.{statement}
 
-step-up-requires : tie.Need-step-up-requires
-step-up-requires c κs = search needs
+up-requires : tie.Need-up-requires
+up-requires c κs = search needs
 
 returns : tie.Need-returns
-returns c = rw (c .step-up .ensures)
+returns c = rw (c .up .ensures)
 
 pub next-edge-spec : {M : Type 1} → statement M
-next-edge-spec = tie.close (tie.spec step-up-requires returns)
+next-edge-spec = tie.close (tie.spec up-requires returns)

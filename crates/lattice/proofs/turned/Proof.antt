@@ -1,6 +1,5 @@
 -- `turned` turns one bit. Assumes nothing.
-use mathlib.Core.Path.{_≡_, ap, _∙_}
-use Prim.Native.Nat.{ℕ}
+use mathlib.Core.Path.{ap, _∙_}
 use lib.Bits.{bitXor}
 use borrow.Author.Needs.{needs}
 use Rattle.lattice.proofs.Laws.{xor-toggle}

@@ -1,10 +1,12 @@
 -- `patch_grid` finds the odd faces, patches every rim, and settles and counts the marks. Assumes nothing.
-use mathlib.Core.Path.{sym, ap, _∙_, subst}
+use mathlib.Core.Path.{_≡_, sym, _∙_, subst}
 use mathlib.Core.List.{List}
 use Prim.Native.Nat.{ℕ, _≤_, _<_}
-use lib.ListN.{length, getD}
+use lib.ListN.{getD}
 use Rattle.walking.specs.Walks.{Fine}
 use Rattle.patching.proofs.Odd.{marks-edged}
+use Rattle.patching.specs.Paint.{paint, nought}
+use Rattle.patching.proofs.PaintLaws.{cleared-paint}
 use Rattle.patching.proofs.Begins.{grid-small, found-small, fine-start}
 use Rattle.patching.proofs.Ends.{found-is, work-is, ends-well}
 use native.Mathlib.Omega.{arith}
@@ -18,6 +20,10 @@ point-count-requires c κs = search needs
 clear-requires : tie.Need-clear-requires
 clear-requires c κs = omega (arith, c .before .point-count .ensures .0, c .before .before .before .before .pre .3)
 
+-- what clear leaves is painted with zeros
+painted : (c : tie.After-clear) → c .clear .last .1 .0 ≡ paint nought (c .before .before .point-count .result) (c .before .before .before .before .before .args .work .now)
+painted c = c .clear .ensures ∙ cleared-paint _ _ (clear-requires (c .before) (c .clear .lifetimes))
+
 find-odd-requires : tie.Need-find-odd-requires
 find-odd-requires c κs =
     let s = c .before .before .before .before .before .before .before .before .before in
@@ -27,7 +33,7 @@ put-by-requires : tie.Need-put-by-requires
 put-by-requires c κs =
     let s = c .before .before .before .before .before .before .before .before .before .before .before .before .before .before in
     let k = c .before .before .before .before .before .before .before .before .before .before .before .point-count .ensures .0 in
-    let o = found-is (s .args .n) (s .args .grid .now) (s .args .work .now) (s .pre .2) (s .pre .3) (s .pre .4) _ k _ _ (c .before .before .before .before .before .before .before .before .before .clear .ensures) (c .before .before .before .before .find-odd .ensures) in (
+    let o = found-is (s .args .n) (s .args .grid .now) (s .args .work .now) (s .pre .2) (s .pre .3) (s .pre .4) _ k _ _ (painted (c .before .before .before .before .before .before .before .before .before)) (c .before .before .before .before .find-odd .ensures) in (
       rw k (s .pre .2),
       rw (c .before .before .before .before .find-odd .kept .1 .1 .0, c .before .before .before .before .before .before .before .before .before .clear .kept .1 .0, k) (s .pre .3),
       (λ i l. grid-small (s .args .n) (s .args .grid .now) (s .args .work .now) (s .pre .2) (s .pre .3) (s .pre .4) i (subst (λ (j : ℕ). i < j) k l)),
@@ -42,7 +48,7 @@ all-rims-requires c κs =
       s .pre .1,
       rw (p .kept .1 .0) (s .pre .2),
       rw (p .kept .1 .1 .0, c .before .before .before .before .before .before .before .before .before .before .before .find-odd .kept .1 .1 .0, c .before .before .before .before .before .before .before .before .before .before .before .before .before .before .before .before .clear .kept .1 .0) (s .pre .3),
-      subst (Fine (s .args .n)) (sym (work-is (s .args .n) (s .args .grid .now) (s .args .work .now) (s .pre .2) (s .pre .3) (s .pre .4) _ (c .before .before .before .before .before .before .before .before .before .before .before .before .before .before .before .before .before .before .point-count .ensures .0) _ _ _ _ (c .before .before .before .before .before .before .before .before .before .before .before .before .before .before .before .before .clear .ensures) (c .before .before .before .before .before .before .before .before .before .before .before .find-odd .ensures) (e .0) (e .1))) (fine-start (s .args .n) (s .args .grid .now) (s .args .work .now) (s .pre .2) (s .pre .3) (s .pre .4)),
+      subst (Fine (s .args .n)) (sym (work-is (s .args .n) (s .args .grid .now) (s .args .work .now) (s .pre .2) (s .pre .3) (s .pre .4) _ (c .before .before .before .before .before .before .before .before .before .before .before .before .before .before .before .before .before .before .point-count .ensures .0) _ _ _ _ (painted (c .before .before .before .before .before .before .before .before .before .before .before .before .before .before .before .before)) (c .before .before .before .before .before .before .before .before .before .before .before .find-odd .ensures) (e .0) (e .1))) (fine-start (s .args .n) (s .args .grid .now) (s .args .work .now) (s .pre .2) (s .pre .3) (s .pre .4)),
     )
 
 finish-requires : tie.Need-finish-requires
@@ -59,7 +65,7 @@ returns c =
     let s = c .before .before .before .before .before .before .before .before .before .before .before .before .before .before .before .before .before .before .before .before .before .before .before .before .before .before .before .before .before .before .before .before .before in
     let p = c .before .before .before .before .before .before .before .before .before .before .before .before .before .before .before .before .before .before .put-by .ensures in
     let f = c .before .before .before .before .finish .ensures in
-    ends-well (s .args .n) (s .args .grid .now) (s .args .work .now) (s .pre .2) (s .pre .3) (s .pre .4) _ (c .before .before .before .before .before .before .before .before .before .before .before .before .before .before .before .before .before .before .before .before .before .before .before .before .before .before .before .before .before .before .point-count .ensures .0) _ _ _ _ (c .before .before .before .before .before .before .before .before .before .before .before .before .before .before .before .before .before .before .before .before .before .before .before .before .before .before .before .before .clear .ensures) (c .before .before .before .before .before .before .before .before .before .before .before .before .before .before .before .before .before .before .before .before .before .before .before .find-odd .ensures) (p .0) (p .1) _ _ _ (c .before .before .before .before .before .before .before .before .before .before .before .all-rims .ensures) _ _ _ (f .0) (f .1) (f .2)
+    ends-well (s .args .n) (s .args .grid .now) (s .args .work .now) (s .pre .2) (s .pre .3) (s .pre .4) _ (c .before .before .before .before .before .before .before .before .before .before .before .before .before .before .before .before .before .before .before .before .before .before .before .before .before .before .before .before .before .before .point-count .ensures .0) _ _ _ _ (painted (c .before .before .before .before .before .before .before .before .before .before .before .before .before .before .before .before .before .before .before .before .before .before .before .before .before .before .before .before)) (c .before .before .before .before .before .before .before .before .before .before .before .before .before .before .before .before .before .before .before .before .before .before .before .find-odd .ensures) (p .0) (p .1) _ _ _ (c .before .before .before .before .before .before .before .before .before .before .before .all-rims .ensures) _ _ _ (f .0) (f .1) (f .2)
 
 pub patch-grid-spec : {M : Type 1} → statement M
 patch-grid-spec =

@@ -1,7 +1,5 @@
 -- `patch_sized` gives the first line of the table that applies. Assumes nothing.
-use mathlib.Core.Path.{_∙_, subst, sym}
-use Prim.Native.Nat.{ℕ, _≤_, _<_}
-use lib.ListN.{length}
+use mathlib.Core.Path.{_∙_}
 use borrow.Author.Needs.{needs}
 use Rattle.lattice.proofs.Tests.{fails, holds}
 use Rattle.patching.proofs.Answers.{grid-short, work-short, no-grid, all-done}

@@ -1,8 +1,5 @@
 -- `rim_at` hits the rims that have a face at its point. Assumes nothing.
-use mathlib.Core.Path.{sym, subst}
 use native.Mathlib.Omega.{arith}
-use Rattle.lattice.specs.Cells.{Cell}
-use Rattle.walking.specs.Walks.{seenB}
 use Rattle.patching.proofs.Point.{fit-of, at-none, at-cell, at-seen, at-dark, at-rim}
 use borrow.Author.Needs.{needs}
 use Rattle.patching.proofs.rim_at.Statement.{statement}

@@ -1,16 +1,15 @@
 -- `signing::sign_grid` meets its contract. The loop's invariant: `inside` is the sign of point p, and with the signs from p on written
 -- the buffer is as with all of them written. Assumes nothing.
 use mathlib.Core.Path.{_≡_, refl, sym, ap, _∙_}
-use mathlib.Core.Bool.{false}
 use mathlib.Core.List.{List, map}
-use Prim.Native.Nat.{ℕ, suc, _-_, _≤_, _<_}
+use Prim.Native.Nat.{ℕ, _-_, _≤_, _<_}
 use native.Mathlib.Numerals.{add-one}
 use native.Mathlib.Omega.{arith}
 use lib.ListN.{length, length-set}
 use lib.Seq.{sets}
 use Rattle.rules.specs.Lists.{upto}
 use Rattle.rules.specs.Lattice.{pointCount, pointOf}
-use Rattle.rules.specs.Grid.{value, marks}
+use Rattle.rules.specs.Grid.{marks}
 use Rattle.rules.specs.Signs.{sign, signBytes}
 use Rattle.signing.proofs.Written.{written, write-more, write-end}
 use Rattle.signing.proofs.Rows.{signOf, signs-by-number, signs-length, first-outside, sign-next}

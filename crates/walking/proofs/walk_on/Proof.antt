@@ -1,5 +1,5 @@
 -- `walk_on` takes the step of the definition. Assumes nothing.
-use mathlib.Core.Path.{_≡_, sym, ap, _∙_, subst}
+use mathlib.Core.Path.{sym, ap, _∙_, subst}
 use Prim.Native.Nat.{ℕ, _<_}
 use Rattle.lattice.specs.Cells.{Cell}
 use Rattle.walking.specs.Walks.{Inside, acrossOf, opposite}

@@ -1,15 +1,14 @@
-use mathlib.Core.Path.{_≡_, refl, sym, ap, _∙_, subst}
+use mathlib.Core.Path.{_≡_, sym, ap, _∙_}
 use mathlib.Core.List.{List}
-use Prim.Native.Nat.{ℕ, _+_, _-_, _≤_, _<_}
+use Prim.Native.Nat.{ℕ, _-_, _≤_, _<_}
 use native.Mathlib.Omega.{arith}
 use native.Mathlib.Numerals.{add-one}
 use lib.ListN.{getD}
 use borrow.Author.Needs.{needs}
 use Rattle.rules.specs.declared.Point.{Point}
 use Rattle.rules.specs.Lists.{allOf}
-use Rattle.rules.specs.Lattice.{pointCount, pointNumber}
+use Rattle.rules.specs.Lattice.{pointCount}
 use Rattle.rules.specs.Grid.{byteFits, goodByte, isGrid}
-use Rattle.lattice.specs.Scans.{nextPoint}
 use Rattle.lattice.proofs.Tests.{fails, holds}
 use Rattle.lattice.proofs.Points.{pointsFrom, At, at-start, at-grid, at-next, all-start, all-more, all-fails, all-end}
 use Rattle.lattice.proofs.scan.is_grid.Statement.{statement}

@@ -2,6 +2,7 @@
 use native.Mathlib.Omega.{arith}
 use borrow.Author.Needs.{needs}
 use Rattle.lattice.proofs.LevelFacts.{cells-most}
+use Rattle.lattice.proofs.PointSteps.{coord-most}
 use Rattle.marking.specs.Met.{endsOf}
 use Rattle.marking.proofs.scan.ends_of.Statement.{statement}
 use Rattle.marking.proofs.scan.ends_of.Tie as tie
@@ -10,7 +11,9 @@ place-of-requires : tie.Need-place-of-requires
 place-of-requires c κs = search needs
 
 up-requires : tie.Need-up-requires
-up-requires c κs = let m = cells-most (c .before .before .args .l) in omega arith
+up-requires c κs =
+    let s = c .before .before in
+    omega (arith, cells-most (s .args .l), coord-most _ (s .args .e .axis) (s .args .e .at) (s .pre .0))
 
 place-of-requires-2 : tie.Need-place-of-requires-2
 place-of-requires-2 c κs = rw (c .up .ensures) (c .before .before .before .pre .1)

@@ -1,5 +1,4 @@
 use borrow.Author.Needs.{needs}
-use native.Mathlib.Omega.{arith}
 use Rattle.lattice.proofs.LevelFacts.{side-most}
 use Rattle.lattice.proofs.level.Level.highest.Statement.{statement}
 use Rattle.lattice.proofs.level.Level.highest.Tie as tie

@@ -4,22 +4,22 @@ use mathlib.Core.List.{_++_}
 use Prim.Native.Nat.{ℕ, _+_, _-_, _≤_}
 use native.Mathlib.Omega.{arith}
 use lib.ListN.{length, drop, replicate}
-use Rattle.marking.proofs.Clearing.{cleared-more, cleared-length}
-use Rattle.marking.proofs.clear.Statement.{statement}
-use Rattle.marking.proofs.clear.Tie as tie
+use Rattle.lattice.proofs.Clearing.{cleared-more, cleared-length}
+use Rattle.lattice.proofs.clear.Statement.{statement}
+use Rattle.lattice.proofs.clear.Tie as tie
 
 abbrev Inv-loop : tie.InvT-loop
-Inv-loop grid₀ count p₀ grid p = (p ≤ count) × (grid ≡ replicate p 0 ++ drop p grid₀)
+Inv-loop count s₀ p₀ s p = (p ≤ count) × (s ≡ replicate p 0 ++ drop p s₀)
 
 abbrev μ-loop : tie.MeasureT-loop
-μ-loop grid₀ count p₀ grid p = count - p
+μ-loop count s₀ p₀ s p = count - p
 
 loop-holds : tie.Need-loop-holds Inv-loop μ-loop
 loop-holds c = (omega arith, refl)
 
-slice-write-grid : tie.Need-slice-write-grid Inv-loop μ-loop
-slice-write-grid c =
-    let h = cleared-length (c .before .loop .p) (c .before .before .args .grid .now) (omega arith) in
+slice-write-s : tie.Need-slice-write-s Inv-loop μ-loop
+slice-write-s c =
+    let h = cleared-length (c .before .loop .p) (c .before .before .args .s .now) (omega arith) in
     let e = ap length (c .before .loop .inv .1) in
     omega arith
 
@@ -30,15 +30,15 @@ loop-less : tie.Need-loop-less Inv-loop μ-loop
 loop-less c = omega arith
 
 loop-again : tie.Need-loop-again Inv-loop μ-loop
-loop-again c = (omega arith, rw (c .before .loop .inv .1) (cleared-more (c .before .loop .p) (c .before .before .args .grid .now) (omega arith)))
+loop-again c = (omega arith, rw (c .before .loop .inv .1) (cleared-more (c .before .loop .p) (c .before .before .args .s .now) (omega arith)))
 
 same-length : tie.Need-same-length Inv-loop μ-loop
-same-length c = ap length (c .before .loop .inv .1) ∙ cleared-length (c .before .loop .p) (c .before .before .args .grid .now) (omega arith)
+same-length c = ap length (c .before .loop .inv .1) ∙ cleared-length (c .before .loop .p) (c .before .before .args .s .now) (omega arith)
 
 returns : tie.Need-returns Inv-loop μ-loop
 returns c =
     let e : c .before .loop .p ≡ c .before .before .args .count = omega arith in
-    c .before .loop .inv .1 ∙ ap (λ (k : ℕ). replicate k 0 ++ drop k (c .before .before .args .grid .now)) e
+    c .before .loop .inv .1 ∙ ap (λ (k : ℕ). replicate k 0 ++ drop k (c .before .before .args .s .now)) e
 
 pub clear-spec : {M : Type 1} → statement M
 clear-spec =
@@ -47,7 +47,7 @@ clear-spec =
     Inv-loop
     μ-loop
     loop-holds
-    slice-write-grid
+    slice-write-s
     add-p
     loop-less
     loop-again
