@@ -159,6 +159,9 @@ fn show_examples() {
     show_nine(b"786433", 786_433);
     show_nine(b"the least i32", -2_147_483_648);
     show_nine(b"the greatest i32", 2_147_483_647);
+}
+
+fn show_byte_eight() {
     show_put(
         b"a byte of 8, a coordinate of 0",
         2,
@@ -176,10 +179,10 @@ fn show_examples() {
             524_288,
         ],
     );
-    show_put(b"a byte of 8, mended", 2, 62, 8, &nine);
+    show_put(b"a byte of 8, mended", 2, 62, 8, &[524_288; 9]);
 }
 
-fn show_flat() {
+fn show_points() {
     show(b"the range's lowest point", &[262_144; 9]);
     show(b"the range's highest point", &[786_432; 9]);
     show(b"a point in a cell", &[600_000; 9]);
@@ -197,6 +200,9 @@ fn show_flat() {
             524_288,
         ],
     );
+}
+
+fn show_lines() {
     show(
         b"a line from A to B and back",
         &[
@@ -225,6 +231,9 @@ fn show_flat() {
             700_000,
         ],
     );
+}
+
+fn show_plane() {
     show(
         b"the plane between two cells",
         &[
@@ -270,6 +279,9 @@ fn main() {
     show_open(b"level 3, short", 3);
     show_open_short();
     show_examples();
-    show_flat();
+    show_byte_eight();
+    show_points();
+    show_lines();
+    show_plane();
     show_refusals();
 }
