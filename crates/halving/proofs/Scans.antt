@@ -157,9 +157,6 @@ row-step u k v h =
     let q : k ≡ suc (k - 1) = omega arith in
     ap (λ (j : ℕ). rowOf u j v) q ∙ ap (λ (i : ℕ). record { u = u; v = v } ∷ rowOf i (k - 1) v) (sym (add-one u))
 
-pub row-none : (u v : ℕ) → rowOf u 0 v ≡ []
-row-none u v = refl
-
 scan-append : (n : ℕ) (a : Axis) (m : ℕ) (l k : List Spot) (s : Scan) → scanAll n a m (l ++ k) s ≡ scanAll n a m k (scanAll n a m l s)
 scan-append n a m [] k s = refl
 scan-append n a m (q ∷ l) k s = scan-append n a m l k (pairOf n a m q s)

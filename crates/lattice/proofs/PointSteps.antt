@@ -1,7 +1,6 @@
 -- The numbers of points one step apart, and of a face or an edge of a cell. Assumes nothing.
 use mathlib.Core.Path.{_≡_, sym, ap, subst, _∙_}
 use Prim.Native.Nat.{ℕ, zero, suc, pred, _+_, _≤_, _<_}
-use native.Mathlib.Nat.{mul-le-mul}
 use native.Mathlib.Omega.{arith}
 use Rattle.rules.specs.declared.Axis.{Axis}
 use Rattle.rules.specs.declared.Axis.the-variants.{X, Y, Z}
@@ -61,8 +60,3 @@ place-below n p e c h =
     let q = number-pointOf n p in
     let b = num-below n (moved (pointOf n p) e .at) (omega arith) in
     omega arith
-
-pub step-most : (n : ℕ) (a : Axis) → n ≤ 32 → pointStep n a ≤ 1089
-step-most n X h = omega arith
-step-most n Y h = omega arith
-step-most n Z h = let w : suc n ≤ 33 = omega arith in mul-le-mul w w

@@ -124,14 +124,7 @@ with-coord X m p = (refl, refl, refl)
 with-coord Y m p = (refl, refl, refl)
 with-coord Z m p = (refl, refl, refl)
 
--- a point one step up an axis
-pub up-own-coord : (a : Axis) (p : Point) →
-    (coord a (up a p) ≡ suc (coord a p)) × (coord (earlier a) (up a p) ≡ coord (earlier a) p) ×
-    (coord (later a) (up a p) ≡ coord (later a) p)
-up-own-coord X p = (refl, refl, refl)
-up-own-coord Y p = (refl, refl, refl)
-up-own-coord Z p = (refl, refl, refl)
-
+-- a point one step up an axis of a plane
 pub up-earlier-coord : (a : Axis) (p : Point) →
     (coord a (up (earlier a) p) ≡ coord a p) × (coord (earlier a) (up (earlier a) p) ≡ suc (coord (earlier a) p)) ×
     (coord (later a) (up (earlier a) p) ≡ coord (later a) p)

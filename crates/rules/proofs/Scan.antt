@@ -4,7 +4,6 @@ use mathlib.Core.List.{List, [], _∷_}
 use mathlib.Core.Path.{ap, refl, sym, _∙_, _≡_}
 use Prim.Native.Nat.{suc, _+_}
 use native.Mathlib.Omega.{arith}
-use lib.ListN.{length}
 use Rattle.rules.specs.Lists.{_⊕_, parity, count, keep, anyOf, All, each}
 use Rattle.rules.specs.Lattice.{samePlace, setOf, Place}
 use Rattle.rules.specs.Rims.{elem, joins, joined, rimsOf}
@@ -52,15 +51,6 @@ module _ {R : Type 0} where
 abbrev pub hit : List Place → List Place → Bool
 hit done r = anyOf (λ f. elem f r) done
 
--- the scan's step: a face that no earlier rim has begins a new one
-pub scan-step : (l : List Place) (done : List Place) (f : Place) → elem f l ≡ true →
-    count (hit (f ∷ done)) (rimsOf l) ≡ count (hit done) (rimsOf l) + cond (anyOf (λ r. hit done r && elem f r) (rimsOf l)) 0 1
-scan-step l done f e = count-or-one (elem f) (hit done) (rimsOf l) (one-rim l f e)
-
-all-length : (w : List Place → Bool) (rs : List (List Place)) → All (λ r. w r ≡ true) rs → count w rs ≡ length rs
-all-length w [] h = refl
-all-length w (r ∷ rs) h = rw (h .0) (ap suc (all-length w rs (h .1)))
-
 -- a rim has a face, and it is one of the list
 pub rim-some : (l : List Place) → All (λ r. hit l r ≡ true) (rimsOf l)
 rim-some [] = tt
@@ -70,10 +60,6 @@ rim-some (f ∷ l) = (
   all-keep (λ r. hit (f ∷ l) r ≡ true) (λ r. not (joins f r)) (rimsOf l)
       (all-weaken _ _ (λ r e. or-true (elem f r) (hit l r) e) (rimsOf l) (rim-some l)),
 )
-
--- at the end every rim has been hit
-pub scan-end : (l : List Place) → count (hit l) (rimsOf l) ≡ length (rimsOf l)
-scan-end l = all-length (hit l) (rimsOf l) (rim-some l)
 
 -- ---- a rim's members, as a set
 module _ {R : Type 0} where

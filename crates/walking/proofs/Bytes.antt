@@ -16,7 +16,6 @@ use Rattle.rules.specs.Lattice.{OfGrid, Set, pointNumber, pointCount, faceIn, w
 use Rattle.rules.specs.Grid.{has, value, byteAt}
 use Rattle.rules.proofs.Bits.{and-left, and-right, both, same-test, eqb-yes}
 use Rattle.rules.proofs.Boxes.{faceIn→}
-use Rattle.rules.proofs.Numbers.{has-bit, three-of}
 use Rattle.rules.proofs.Store.{stored, number-inj}
 use Rattle.lattice.specs.Cells.{indexOf, layer}
 use Rattle.lattice.proofs.Laws.{num-below}
@@ -37,9 +36,6 @@ bit-most false w = omega arith
 
 pub byte-most : (F : Set) (p : Point) → byteAt F p ≤ 7
 byte-most F p = let x = bit-most (F X p) 1 in let y = bit-most (F Y p) 2 in let z = bit-most (F Z p) 4 in omega arith
-
-pub has-byte : (F : Set) (a : Axis) (p : Point) → has a (byteAt F p) ≡ F a p
-has-byte F a p = has-bit a (F X p) (F Y p) (F Z p) ∙ three-of a F p
 
 pub zero-has : (a : Axis) → has a 0 ≡ false
 zero-has X = refl

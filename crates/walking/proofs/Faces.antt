@@ -74,13 +74,6 @@ which (suc (suc (suc (suc zero)))) h = inr (Y, refl)
 which (suc (suc (suc (suc (suc zero))))) h = inr (Z, refl)
 which (suc (suc (suc (suc (suc (suc f)))))) h = absurd (omega arith)
 
-pub opposite-small : (f : ℕ) → f < 6 → opposite f < 6
-opposite-small f h = go (which f h)
-  where
-    go : ((a : Axis) × (f ≡ indexOf a)) ⊎ ((a : Axis) × (f ≡ indexOf a + 3)) → opposite f < 6
-    go (inl e) = subst (λ (g : ℕ). g < 6) (sym (ap opposite (e .1) ∙ opposite-lower (e .0))) (index-small (e .0) .1)
-    go (inr e) = let i = index-small (e .0) in subst (λ (g : ℕ). g < 6) (sym (ap opposite (e .1) ∙ opposite-upper (e .0))) (omega arith)
-
 -- ---- points and cells around a cell
 pred-is : (k : ℕ) → pred (suc k) ≡ k
 pred-is k = omega arith
