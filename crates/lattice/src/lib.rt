@@ -13,7 +13,7 @@ ghost use Rattle.rules.specs.Lists.{_⊕_};
 ghost use Rattle.rules.specs.Lattice.{coord, earlier, later, up, origin, isIn, pointNumber, pointCount, pointOf, OfGrid};
 ghost use Rattle.rules.specs.Grid.{has, weight};
 ghost use Rattle.rules.proofs.Store.{toggle};
-ghost use Rattle.lattice.specs.Cells.{indexOf, faceRule, edgeRule, cornerRule, moved, cornerEdge, Cell, bitsFrom, oddOf, turnAt, turnOne, pointStep};
+ghost use Rattle.lattice.specs.Cells.{indexOf, faceRule, edgeRule, cornerRule, moved, cornerEdge, Cell, bitsFrom, oddOf, turnAt, pointStep};
 
 // The cell's six faces: the three lower ones, then the three upper ones.
 const FACES: [Place; 6] = [
@@ -231,16 +231,6 @@ pub fn turn(s: &mut [u8], at: usize, a: Axis)
 {
     let v = turned(s[at], a);
     s[at] = v;
-}
-
-// Turns one member of the set that a buffer's lowest three bits hold.
-pub fn turn_place(n: usize, s: &mut [u8], f: Place)
-    requires { ⌜ (n ≤ 32) × (pointCount n ≤ length (now s)) × OfGrid n (f .at) ⌝ }
-    ensures { λ _. ⌜ now (s .exit) ≡ turnOne n f (now (s .entry)) ⌝ }
-{
-    let at = number_of(n, f.at);
-    let a = f.axis;
-    turn(s, at, a);
 }
 
 // Whether the set that a buffer's lowest three bits hold has a member.

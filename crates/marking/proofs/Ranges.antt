@@ -90,7 +90,7 @@ within-inside l t w =
 up-to : {m : ℕ} → m ≤ 2 ^ 20 → UpTo latticeMost (pos m)
 up-to h = record { low = pos-le zero-le; high = pos-le h }
 
-place-inside : (l : Level) (p : Point) → OfGrid (cellsOf l) p → OnLattice (placeOf l p)
+pub place-inside : (l : Level) (p : Point) → OfGrid (cellsOf l) p → OnLattice (placeOf l p)
 unfolding placeOf
 place-inside l p h =
     record { on-x = up-to (place-most l (h .i)); on-y = up-to (place-most l (h .j)); on-z = up-to (place-most l (h .k)) }

@@ -1,16 +1,17 @@
 // The marking scan: only the cells that the triangle's own box touches, and at each the three table edges at its lowest corner.
 use crate::range::plain;
 use crate::range::signed;
+use lattice::bit;
 use lattice::corner_edge;
 use lattice::level::Level;
-use lattice::member;
-use lattice::turn_place;
-use lattice::up;
+use lattice::number_of;
+use lattice::turn;
 use rules::Axis;
 use rules::Box;
 use rules::Place;
 use rules::Point;
 use triangles::Ends;
+use triangles::Ready;
 use triangles::Span;
 use triangles::Triangle;
 use triangles::Vector;
@@ -21,11 +22,13 @@ ghost use Prim.Native.Nat.{_*_, _≤_};
 ghost use lib.IntN.{pos};
 ghost use lib.Signed.{_≤ℤ_};
 ghost use lib.ListN.{length};
-ghost use Rattle.rules.specs.Lattice.{up, OfGrid};
+ghost use Rattle.rules.specs.declared.Point.{Point};
+ghost use Rattle.rules.specs.Lattice.{up, OfGrid, pointNumber};
 ghost use Rattle.rules.specs.Grid.{isGrid};
 ghost use Rattle.lattice.specs.Levels.{cellsOf, sideOf, pointsOf};
 ghost use Rattle.lattice.specs.Cells.{Cell};
-ghost use Rattle.triangles.specs.Meets.{Inside};
+ghost use Rattle.triangles.specs.Vectors.{OnLattice};
+ghost use Rattle.triangles.specs.Meets.{Inside, readyOf};
 ghost use Rattle.marking.specs.Ranges.{Within, TriangleWithin};
 ghost use Rattle.marking.specs.Met.{placeOf, endsOf, met, marked};
 ghost use Rattle.marking.specs.Scan.{Touches, Covers, nextCell, Added, atEdge, atCell};
@@ -50,45 +53,57 @@ fn place_of(l: Level, p: Point) -> Vector
     }
 }
 
-// Answers an edge's two ends on the lattice.
-fn ends_of(l: Level, e: Place) -> Ends
-    requires { ⌜ OfGrid (cellsOf l) (e .at) × OfGrid (cellsOf l) (up (e .axis) (e .at)) ⌝ }
-    ensures { λ r. ⌜ r ≡ endsOf l (e .axis) (e .at) ⌝ }
+// Answers an edge's two ends on the lattice, from its lower end: the upper one lies a cell's side further.
+fn ends_from(l: Level, from: Vector, a: Axis) -> Ends
+    requires { ⌜ OnLattice from ⌝ }
+    ensures { λ r. ⌜ ((p : Point) → from ≡ placeOf l p → r ≡ endsOf l a p) ⌝ }
 {
-    let a = e.axis;
-    let p = e.at;
-    Ends {
-        from: place_of(l, p),
-        to: place_of(l, up(p, a)),
+    let s = signed(l.side());
+    let mut to = from;
+    match a {
+        Axis::X => {
+            to.x = from.x + s;
+        }
+        Axis::Y => {
+            to.y = from.y + s;
+        }
+        Axis::Z => {
+            to.z = from.z + s;
+        }
     }
+    Ends { from: from, to: to }
 }
 
-// Adds the mark of an edge if the triangle meets it. An edge that is marked already is not tested.
-fn mark_edge(l: Level, grid: &mut [u8], t: Triangle, e: Place)
-    requires { ⌜ Inside t ⌝ }
+// Adds the mark of an edge, whose point has number `at` and lies at `from`, if the triangle meets it. An edge that is
+// marked already is not tested.
+fn mark_edge(l: Level, grid: &mut [u8], r: Ready, at: usize, from: Vector, e: Place)
+    requires { ⌜ Inside (r .t) × (r ≡ readyOf (r .t)) ⌝ }
     requires { ⌜ (pointsOf l ≤ length (now grid)) × OfGrid (cellsOf l) (e .at) × OfGrid (cellsOf l) (up (e .axis) (e .at)) ⌝ }
-    ensures { λ _. ⌜ Added (cellsOf l) (atEdge e (met l t)) (now (grid .entry)) (now (grid .exit)) ⌝ }
+    requires { ⌜ (at ≡ pointNumber (cellsOf l) (e .at)) × (from ≡ placeOf l (e .at)) ⌝ }
+    ensures { λ _. ⌜ Added (cellsOf l) (atEdge e (met l (r .t))) (now (grid .entry)) (now (grid .exit)) ⌝ }
 {
-    let n = l.cells();
-    if member(n, grid, e) {
+    let a = e.axis;
+    if bit(grid[at], a) {
         return;
     }
-    if !meets(t, ends_of(l, e)) {
+    if !meets(r, ends_from(l, from, a)) {
         return;
     }
-    turn_place(n, grid, e);
+    turn(grid, at, a);
 }
 
 // Adds the marks of the edges met at the lowest corner of a cell.
-fn mark_cell(l: Level, grid: &mut [u8], t: Triangle, c: Point)
-    requires { ⌜ Inside t ⌝ }
+fn mark_cell(l: Level, grid: &mut [u8], r: Ready, c: Point)
+    requires { ⌜ Inside (r .t) × (r ≡ readyOf (r .t)) ⌝ }
     requires { ⌜ (pointsOf l ≤ length (now grid)) × Cell (cellsOf l) c ⌝ }
-    ensures { λ _. ⌜ Added (cellsOf l) (atCell c (met l t)) (now (grid .entry)) (now (grid .exit)) ⌝ }
+    ensures { λ _. ⌜ Added (cellsOf l) (atCell c (met l (r .t))) (now (grid .entry)) (now (grid .exit)) ⌝ }
 {
     let n = l.cells();
-    mark_edge(l, grid, t, corner_edge(n, c, Axis::X));
-    mark_edge(l, grid, t, corner_edge(n, c, Axis::Y));
-    mark_edge(l, grid, t, corner_edge(n, c, Axis::Z));
+    let at = number_of(n, c);
+    let from = place_of(l, c);
+    mark_edge(l, grid, r, at, from, corner_edge(n, c, Axis::X));
+    mark_edge(l, grid, r, at, from, corner_edge(n, c, Axis::Y));
+    mark_edge(l, grid, r, at, from, corner_edge(n, c, Axis::Z));
 }
 
 // Answers the cell after a cell of a box.
@@ -160,15 +175,15 @@ fn box_of(l: Level, t: Triangle) -> Box
 }
 
 // Adds the marks of the edges that a triangle meets.
-fn mark_box(l: Level, grid: &mut [u8], t: Triangle, b: Box)
-    requires { ⌜ Inside t × Covers l t b ⌝ }
+fn mark_box(l: Level, grid: &mut [u8], r: Ready, b: Box)
+    requires { ⌜ Inside (r .t) × (r ≡ readyOf (r .t)) × Covers l (r .t) b ⌝ }
     requires { ⌜ pointsOf l ≤ length (now grid) ⌝ }
-    ensures { λ _. ⌜ Added (cellsOf l) (met l t) (now (grid .entry)) (now (grid .exit)) ⌝ }
+    ensures { λ _. ⌜ Added (cellsOf l) (met l (r .t)) (now (grid .entry)) (now (grid .exit)) ⌝ }
 {
     let last = b.hi.k;
     let mut c = b.lo;
     while c.k < last {
-        mark_cell(l, grid, t, c);
+        mark_cell(l, grid, r, c);
         c = next_cell(b, c);
     }
 }
@@ -180,5 +195,5 @@ pub fn mark_grid(l: Level, grid: &mut [u8], t: Triangle)
     ensures { λ _. ⌜ now (grid .exit) ≡ marked l t (now (grid .entry)) ⌝ }
 {
     let b = box_of(l, t);
-    mark_box(l, grid, t, b);
+    mark_box(l, grid, t.ready(), b);
 }

@@ -1,7 +1,7 @@
 -- The lists of axes as the code walks them. Assumes nothing.
-use mathlib.Core.Path.{_≡_, refl, sym, ap, _∙_}
+use mathlib.Core.Path.{_≡_, sym, ap, _∙_}
 use mathlib.Core.Bool.{Bool, true, false, cond}
-use mathlib.Core.List.{List, [], _∷_, _++_}
+use mathlib.Core.List.{List, [], _∷_}
 use Prim.Native.Nat.{ℕ, zero, suc, _+_, _/_, _%_, _<_}
 use native.Mathlib.Nat.{add-zero, zero-add, add-suc, suc-add, le-of-suc-le-suc, not-suc-le-zero}
 use lib.ListN.{length, getD, drop}
@@ -9,9 +9,11 @@ use lib.Seq.{drop-cons}
 use Rattle.triangles.specs.declared.Vector.{Vector}
 use Rattle.triangles.specs.declared.Triangle.{Triangle}
 use Rattle.triangles.specs.declared.Ends.{Ends}
+use Rattle.triangles.specs.declared.Ready.{Ready}
 use Rattle.triangles.specs.Vectors.{nought, cross}
-use Rattle.triangles.specs.Axes.{units, sides, normal, crossEach, crossed, axes}
-use Rattle.triangles.specs.Meets.{separates, noneSeparates, edgeMet}
+use Rattle.triangles.specs.Spans.{apart}
+use Rattle.triangles.specs.Axes.{units, sides, crossEach, crossed, axes}
+use Rattle.triangles.specs.Meets.{edgeSpan, separates, noneSeparates, edgeMet, readyOf}
 
 -- a function's values at i, i + 1, .. as a list
 abbrev listed : (ℕ → Vector) → ℕ → ℕ → List Vector
@@ -32,20 +34,17 @@ pub nine : (t : Triangle) {k : ℕ} → k < 9 → k < length (crossed t)
 unfolding crossed crossEach units sides
 nine t h = h
 
--- a list of axes by its parts
-pub none-append : (l m : List Vector) (t : Triangle) (e : Ends) → noneSeparates (l ++ m) t e ≡ cond (noneSeparates l t e) (noneSeparates m t e) false
-unfolding noneSeparates
-none-append [] m t e = refl
-none-append (n ∷ l) m t e = first (separates n t e) (none-append l m t e)
-  where
-    first : (s : Bool) → noneSeparates (l ++ m) t e ≡ cond (noneSeparates l t e) (noneSeparates m t e) false → cond s false (noneSeparates (l ++ m) t e) ≡ cond (cond s false (noneSeparates l t e)) (noneSeparates m t e) false
-    first true h = refl
-    first false h = h
+-- the thirteen axes tried one after the other, the triangle's spans on the first four read from what was worked out once
+abbrev tried : Ready → Triangle → Ends → Bool
+tried r t e =
+    cond (apart (r .x) (edgeSpan (getD units 0 nought) e)) false
+    (cond (apart (r .y) (edgeSpan (getD units 1 nought) e)) false
+    (cond (apart (r .z) (edgeSpan (getD units 2 nought) e)) false
+    (cond (apart (r .span) (edgeSpan (r .n) e)) false (noneSeparates (crossed t) t e))))
 
--- an edge is met by the three parts of the list
-pub met-parts : (t : Triangle) (e : Ends) → edgeMet t e ≡ cond (noneSeparates units t e) (cond (separates (normal t) t e) false (noneSeparates (crossed t) t e)) false
-unfolding edgeMet axes noneSeparates
-met-parts t e = none-append units (normal t ∷ crossed t) t e
+pub met-ready : (r : Ready) (e : Ends) → r ≡ readyOf (r .t) → edgeMet (r .t) e ≡ tried r (r .t) e
+unfolding edgeMet axes units noneSeparates separates readyOf
+met-ready r e h = ap (λ (q : Ready). tried q (r .t) e) (sym h)
 
 module _ (l : List Vector) (t : Triangle) (e : Ends) (k : ℕ) (h : k < length l) where
   -- from number k on: an axis that separates decides

@@ -6,7 +6,7 @@ ghost use lib.ListN.{getD};
 ghost use Rattle.triangles.specs.Vectors.{Each, Size, OnLattice, latticeMost, axisMost, nought, along, minus, cross, dot};
 ghost use Rattle.triangles.specs.Spans.{lesser, greater, spanAt, spanWith, before, apart};
 ghost use Rattle.triangles.specs.Axes.{units, sides, normal, crossed};
-ghost use Rattle.triangles.specs.Meets.{Inside, EndsInside, triangleSpan, edgeSpan, separates, noneSeparates, edgeMet};
+ghost use Rattle.triangles.specs.Meets.{Inside, EndsInside, triangleSpan, edgeSpan, separates, noneSeparates, edgeMet, readyOf};
 
 // A place on the lattice, or a direction.
 pub struct Vector {
@@ -212,6 +212,32 @@ impl Triangle {
         let r = self.c.along(d);
         Span::at(p).with(q).with(r)
     }
+
+    // Answers it made ready: what every edge would have to work out anew.
+    pub fn ready(self) -> Ready
+        requires { ⌜ Inside self ⌝ }
+        ensures { λ r. ⌜ r ≡ readyOf self ⌝ }
+    {
+        let n = self.normal();
+        Ready {
+            t: self,
+            x: self.along(0),
+            y: self.along(1),
+            z: self.along(2),
+            n: n,
+            span: self.span(n),
+        }
+    }
+}
+
+// A triangle made ready for many edges: its spans on the three unit vectors, its normal N, and its span on N.
+pub struct Ready {
+    pub t: Triangle,
+    pub x: Span,
+    pub y: Span,
+    pub z: Span,
+    pub n: Vector,
+    pub span: Span,
 }
 
 // Answers the unit vector along x, y or z.
@@ -226,14 +252,6 @@ fn unit(d: usize) -> Vector
     }
 }
 
-// Answers whether a unit vector separates.
-fn unit_separates(d: usize, t: Triangle, e: Ends) -> bool
-    requires { ⌜ d < 3 ⌝ }
-    ensures { λ r. ⌜ r ≡ separates (getD units d nought) t e ⌝ }
-{
-    t.along(d).apart(e.along(d))
-}
-
 // Answers whether an axis separates.
 pub fn separates(n: Vector, t: Triangle, e: Ends) -> bool
     requires { ⌜ Inside t ⌝ }
@@ -242,22 +260,6 @@ pub fn separates(n: Vector, t: Triangle, e: Ends) -> bool
     ensures { λ r. ⌜ r ≡ separates n t e ⌝ }
 {
     t.span(n).apart(e.span(n))
-}
-
-// Answers whether no unit vector separates.
-fn units_clear(t: Triangle, e: Ends) -> bool
-    ensures { λ r. ⌜ r ≡ noneSeparates units t e ⌝ }
-{
-    if unit_separates(0, t, e) {
-        return false;
-    }
-    if unit_separates(1, t, e) {
-        return false;
-    }
-    if unit_separates(2, t, e) {
-        return false;
-    }
-    true
 }
 
 // Answers whether no unit vector crossed with a side separates; each is built when it is reached.
@@ -277,16 +279,23 @@ fn crossed_clear(t: Triangle, e: Ends) -> bool
 }
 
 // Answers whether the triangle meets the edge: none of the thirteen axes separates.
-pub fn meets(t: Triangle, e: Ends) -> bool
-    requires { ⌜ Inside t ⌝ }
+pub fn meets(r: Ready, e: Ends) -> bool
+    requires { ⌜ Inside (r .t) ⌝ }
     requires { ⌜ EndsInside e ⌝ }
-    ensures { λ r. ⌜ r ≡ edgeMet t e ⌝ }
+    requires { ⌜ r ≡ readyOf (r .t) ⌝ }
+    ensures { λ b. ⌜ b ≡ edgeMet (r .t) e ⌝ }
 {
-    if !units_clear(t, e) {
+    if r.x.apart(e.along(0)) {
         return false;
     }
-    if separates(t.normal(), t, e) {
+    if r.y.apart(e.along(1)) {
         return false;
     }
-    crossed_clear(t, e)
+    if r.z.apart(e.along(2)) {
+        return false;
+    }
+    if r.span.apart(e.span(r.n)) {
+        return false;
+    }
+    crossed_clear(r.t, e)
 }
