@@ -40,26 +40,18 @@ module _ {A : Type 0} where
   rules f g d n k e h = sym (entry f d n k (tab f 0 n) refl h) ∙ entry g d n k (tab f 0 n) e h
 
 -- ---- the cell's table
-small-face : (f : ℕ) → OfGrid 1 (faceRule f .at)
-unfolding faceRule
-small-face zero = omega arith
-small-face (suc zero) = omega arith
-small-face (suc (suc zero)) = omega arith
-small-face (suc (suc (suc zero))) = omega arith
-small-face (suc (suc (suc (suc zero)))) = omega arith
-small-face (suc (suc (suc (suc (suc f))))) = omega arith
+small : (a : Axis) (m u v : ℕ) → m ≤ 1 → u ≤ 1 → v ≤ 1 → OfGrid 1 (pointAt a m u v)
+small X m u v h k l = omega arith
+small Y m u v h k l = omega arith
+small Z m u v h k l = omega arith
 
 pub face-small : (f : ℕ) (e : Place) → e ≡ faceRule f → OfGrid 1 (e .at)
-face-small f e q = subst (λ (x : Place). OfGrid 1 (x .at)) (sym q) (small-face f)
+unfolding faceRule
+face-small f e q = subst (λ (x : Place). OfGrid 1 (x .at)) (sym q) (small (axisOf (f % 3)) (f / 3 % 2) 0 0 (omega arith) (omega arith) (omega arith))
 
 pub edge-small : (k : ℕ) (e : Place) → e ≡ edgeRule k → OfGrid 1 (e .at)
 unfolding edgeRule
-edge-small k e q = subst (λ (x : Place). OfGrid 1 (x .at)) (sym q) (go (axisOf (k / 4)))
-  where
-    go : (a : Axis) → OfGrid 1 (pointAt a 0 (k % 2) (k % 4 / 2))
-    go X = omega arith
-    go Y = omega arith
-    go Z = omega arith
+edge-small k e q = subst (λ (x : Place). OfGrid 1 (x .at)) (sym q) (small (axisOf (k / 4)) 0 (k % 2) (k % 4 / 2) (omega arith) (omega arith) (omega arith))
 
 -- each of the twelve edges lies in exactly two of the six faces
 pub in-two-faces :

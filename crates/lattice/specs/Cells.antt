@@ -32,14 +32,9 @@ pointStep n Z = suc n * suc n
 abbrev pub at : ℕ → ℕ → ℕ → Point
 at x y z = record { i = x; j = y; k = z }
 
--- the faces of the cell at (0,0,0): the three lower ones, then the three upper ones
+-- the faces of the cell at (0,0,0): the three lower ones, then the three upper ones, one step along their axis
 unfoldable pub faceRule : ℕ → Place
-faceRule zero = record { axis = X; at = at 0 0 0 }
-faceRule (suc zero) = record { axis = Y; at = at 0 0 0 }
-faceRule (suc (suc zero)) = record { axis = Z; at = at 0 0 0 }
-faceRule (suc (suc (suc zero))) = record { axis = X; at = at 1 0 0 }
-faceRule (suc (suc (suc (suc zero)))) = record { axis = Y; at = at 0 1 0 }
-faceRule (suc (suc (suc (suc (suc f))))) = record { axis = Z; at = at 0 0 1 }
+faceRule f = record { axis = axisOf (f % 3); at = pointAt (axisOf (f % 3)) (f / 3 % 2) 0 0 }
 
 -- its edges: four along each axis, at 0 or 1 on the earlier and then on the later of the two other axes
 unfoldable pub edgeRule : ℕ → Place
