@@ -101,7 +101,7 @@ parity-of l F inside even rest =
 
 -- ---- the promised stage
 -- the marks that patch leaves are the patched marks
-marks-left : (n : ℕ) (g w : List ℕ) → marks n (patchDone n g w .grid) ≡ patched n (marks n g)
+pub marks-left : (n : ℕ) (g w : List ℕ) → marks n (patchDone n g w .grid) ≡ patched n (marks n g)
 unfolding patchDone
 marks-left n g w = bytes-have-marks n (patched n (marks n g)) (patched-inner n (marks n g) (marks-inner n g)) (drop (pointCount n) g)
 

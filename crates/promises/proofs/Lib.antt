@@ -5,5 +5,6 @@ pub mod Numbers
 pub mod OneOutcome
 pub mod Done
 pub mod Condition
+pub mod Again
 pub mod TurnedAway
 pub mod Examples

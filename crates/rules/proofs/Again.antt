@@ -51,7 +51,7 @@ module _ (n : ℕ) (E : Set) (inside : (a : Axis) (p : Point) → E a p ≡ true
   pub read-back : marks n (bytes n E) ≡ E
   read-back = fun-ext (λ a. fun-ext (λ p. marks-bytes n E inside a p))
 
-no-flips : (n : ℕ) (E : Set) → patched n E ≡ E → flipCount n E ≡ 0
+pub no-flips : (n : ℕ) (E : Set) → patched n E ≡ E → flipCount n E ≡ 0
 unfolding flipCount
 no-flips n E e =
     count-none (λ f. isIn E f ⊕ isIn (patched n E) f) (λ f. ap (λ (F : Set). isIn E f ⊕ isIn F f) e ∙ ⊕-self (isIn E f)) (places (suc n))

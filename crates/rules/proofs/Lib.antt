@@ -20,6 +20,7 @@ pub mod Rims
 pub mod RimBox
 pub mod Listed
 pub mod Patched
+pub mod OneByOne
 pub mod Chains
 pub mod Scan
 pub mod OddList

@@ -1,16 +1,14 @@
--- No order can be seen from outside: of joining and listing in a plane, of the two halves, of the rims. Assumes nothing.
+-- No order can be seen from outside: of joining and listing in a plane, of the two halves. Assumes nothing.
 use mathlib.Core.Bool.{Bool, false, false≢true, not, true, _&&_}
-use mathlib.Core.List.{List, [], _++_, _∷_}
-use mathlib.Core.Path.{ap, ap₂, refl, sym, _∙_, _≡_}
+use mathlib.Core.List.{List, _++_}
+use mathlib.Core.Path.{ap, ap₂, sym, _∙_, _≡_}
 use Prim.Native.Nat.{suc, ℕ, _≤_}
 use lib.Dec.{ltb}
-use Rattle.rules.specs.Lists.{_⊕_, parity}
-use Rattle.rules.specs.Lattice.{coord, samePlace, Set, setOf, symdiff, faceIn, Axis, Point, Place, Box, Spot}
+use Rattle.rules.specs.Lists.{_⊕_}
+use Rattle.rules.specs.Lattice.{coord, Set, setOf, symdiff, faceIn, Axis, Point, Place, Box, Spot}
 use Rattle.rules.specs.Cell.{oddFace, oddCell}
-use Rattle.rules.specs.Rims.{rims}
-use Rattle.rules.specs.Patch.{inPlane, lower, upper, path, after, patch, size, patchRim, flips, patched}
-use Rattle.rules.proofs.Bits.{⊕-false, ⊕-self, ⊕-comm, ⊕-assoc, ⊕-left, Bounds, and-left, is-false}
-use Rattle.rules.proofs.Sums.{parity-each}
+use Rattle.rules.specs.Patch.{inPlane, lower, upper, path, after, patch, size}
+use Rattle.rules.proofs.Bits.{⊕-false, ⊕-self, ⊕-comm, Bounds, and-left, is-false}
 use Rattle.rules.proofs.Oddness.{setOf-append}
 use Rattle.rules.proofs.Paths.{sameSpot, path-ends}
 use Rattle.rules.proofs.Boxes.{within}
@@ -72,38 +70,3 @@ pub box-cleared : (n : ℕ) (b : Box) (W : Set) → size b ≤ n → ((p : Point
     faceIn b a p ≡ true →
     symdiff W (oddFace (setOf (patch n b W))) a p ≡ false
 box-cleared n b W s h a p e = ap (λ (x : Bool). W a p ⊕ x) (patch-ends n b W s h a p ∙ ap (λ (x : Bool). x && W a p) e) ∙ ⊕-self (W a p)
-
--- ---- the rims
--- the same rims in another order
-pub data Perm : List (List Place) → List (List Place) → Type 0 where
-  none : Perm [] []
-  keepHead : {r : List Place} {s t : List (List Place)} → Perm s t → Perm (r ∷ s) (r ∷ t)
-  swap : {r q : List Place} {s : List (List Place)} → Perm (r ∷ (q ∷ s)) (q ∷ (r ∷ s))
-  chain : {s t u : List (List Place)} → Perm s t → Perm t u → Perm s u
-
--- a parity does not see the order
-pub parity-perm : (g : List Place → Bool) (s t : List (List Place)) → Perm s t → parity g s ≡ parity g t
-parity-perm g s t none = refl
-parity-perm g s t (keepHead {r = r} {s = s₁} {t = t₁} p) = ap (λ (b : Bool). g r ⊕ b) (parity-perm g s₁ t₁ p)
-parity-perm g s t (swap {r = r} {q = q} {s = u}) = ⊕-left (g r) (g q) (parity g u)
-parity-perm g s t (chain {t = m} p q) = parity-perm g s m p ∙ parity-perm g m t q
-
--- one rim's flips after another's
-abbrev pub oneByOne : Set → List (List Place) → Set
-oneByOne E [] = E
-oneByOne E (r ∷ rs) = oneByOne (symdiff E (setOf (patchRim r))) rs
-
--- which adds up each rim's flips
-pub by-one : (E : Set) (rs : List (List Place)) (a : Axis) (p : Point) → oneByOne E rs a p ≡ E a p ⊕ parity (λ r. setOf (patchRim r) a p) rs
-by-one E [] a p = sym (⊕-false (E a p))
-by-one E (r ∷ rs) a p =
-    by-one (symdiff E (setOf (patchRim r))) rs a p ∙ ⊕-assoc (E a p) (setOf (patchRim r) a p) (parity (λ s. setOf (patchRim s) a p) rs)
-
--- in whatever order the rims are patched, the patched grid is the same
-pub any-order : (n : ℕ) (E : Set) (rs : List (List Place)) → Perm rs (rims n E) → (a : Axis) (p : Point) →
-    oneByOne E rs a p ≡ patched n E a p
-unfolding patched flips
-any-order n E rs h a p =
-    by-one E rs a p
-    ∙ ap (λ (b : Bool). E a p ⊕ b) (parity-perm (λ r. setOf (patchRim r) a p) rs (rims n E) h
-    ∙ sym (parity-each (λ e. samePlace e (record { axis = a; at = p })) patchRim (rims n E)))

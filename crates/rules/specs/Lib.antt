@@ -4,6 +4,7 @@ pub mod Cell
 pub mod Grid
 pub mod Rims
 pub mod Patch
+pub mod OneByOne
 pub mod Signs
 pub mod Quads
 pub mod Condition
