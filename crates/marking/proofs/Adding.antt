@@ -135,6 +135,10 @@ corner-grid n c X h = (omega arith, omega arith)
 corner-grid n c Y h = (omega arith, omega arith)
 corner-grid n c Z h = (omega arith, omega arith)
 
+-- what an edge at a cell's lowest corner asks for, its axis read off the edge
+pub corner-asks : (n : ℕ) (c : Point) (a : Axis) (e : Place) → Cell n c → e ≡ cornerEdge a c → OfGrid n c × OfGrid n (up a c)
+corner-asks n c a e h q = corner-grid n c a h
+
 abbrev corners : Set → Point → Set
 corners E c = added (added (atEdge (cornerEdge X c) E) (atEdge (cornerEdge Y c) E)) (atEdge (cornerEdge Z c) E)
 

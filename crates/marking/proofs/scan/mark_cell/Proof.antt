@@ -4,7 +4,7 @@ use Rattle.rules.specs.declared.Axis.the-variants.{X, Y, Z}
 use Rattle.lattice.specs.Levels.{cellsOf}
 use Rattle.lattice.proofs.LevelFacts.{cells-most}
 use Rattle.marking.specs.Met.{met}
-use Rattle.marking.proofs.Adding.{added-then, corner-grid, cell-edges}
+use Rattle.marking.proofs.Adding.{added-then, corner-grid, corner-asks, cell-edges}
 use Rattle.marking.proofs.scan.mark_cell.Statement.{statement}
 use Rattle.marking.proofs.scan.mark_cell.Tie as tie
 
@@ -27,7 +27,7 @@ corner-edge-requires c κs =
 mark-edge-requires : tie.Need-mark-edge-requires
 mark-edge-requires c κs =
     let s = c .before .before .before .before .before .before in
-    let o = corner-grid _ (s .args .c) X (s .pre .1 .1) in
+    let o = corner-asks _ (s .args .c) _ _ (s .pre .1 .1) (c .corner-edge .ensures) in
     let at = rw (c .before .before .before .before .cells .ensures) at (c .before .before .before .number-of .ensures .0) in
     rw (c .corner-edge .ensures) (s .pre .0, ((s .pre .1 .0, o .0, o .1), (at, c .before .before .place-of .ensures)))
 
@@ -39,7 +39,7 @@ corner-edge-requires-2 c κs =
 mark-edge-requires-2 : tie.Need-mark-edge-requires-2
 mark-edge-requires-2 c κs =
     let s = c .before .before .before .before .before .before .before .before .before .before .before in
-    let o = corner-grid _ (s .args .c) Y (s .pre .1 .1) in
+    let o = corner-asks _ (s .args .c) _ _ (s .pre .1 .1) (c .corner-edge2 .ensures) in
     let at = rw (c .before .before .before .before .before .before .before .before .before .cells .ensures) at (c .before .before .before .before .before .before .before .before .number-of .ensures .0) in
     let x = c .before .before .before .before .mark-edge .ensures .long in
     rw (c .corner-edge2 .ensures) (s .pre .0, ((rw x (s .pre .1 .0), o .0, o .1), (at, c .before .before .before .before .before .before .before .place-of .ensures)))
@@ -52,7 +52,7 @@ corner-edge-requires-3 c κs =
 mark-edge-requires-3 : tie.Need-mark-edge-requires-3
 mark-edge-requires-3 c κs =
     let s = c .before .before .before .before .before .before .before .before .before .before .before .before .before .before .before .before in
-    let o = corner-grid _ (s .args .c) Z (s .pre .1 .1) in
+    let o = corner-asks _ (s .args .c) _ _ (s .pre .1 .1) (c .corner-edge3 .ensures) in
     let at = rw (c .before .before .before .before .before .before .before .before .before .before .before .before .before .before .cells .ensures) at (c .before .before .before .before .before .before .before .before .before .before .before .before .before .number-of .ensures .0) in
     let y = c .before .before .before .before .mark-edge2 .ensures .long in
     let x = c .before .before .before .before .before .before .before .before .before .mark-edge .ensures .long in
