@@ -1,8 +1,6 @@
 // Runs open and mark at level 2: examples 8 to 11 of the rules, triangles of no area, numbers at the ends of the range and of
 // i32, lists of other lengths, and inputs to which several numbers apply. It prints the number and the edges marked; `kept`
 // says that nothing of the buffer changed, `rest` that the bytes behind the last point are as they were.
-use marking::MarkAnswer;
-use marking::OpenAnswer;
 use marking::mark;
 use marking::open;
 use showing::all_hold;
@@ -18,25 +16,6 @@ const LONG: usize = 130;
 // What every byte holds before a grid is opened, and every byte behind it afterwards.
 const DIRTY: u8 = 90;
 
-fn open_number(answer: OpenAnswer) -> u32 {
-    match answer {
-        OpenAnswer::Done => 0,
-        OpenAnswer::BadLevel => 1,
-        OpenAnswer::ShortBuffer => 2,
-    }
-}
-
-fn mark_number(answer: MarkAnswer) -> u32 {
-    match answer {
-        MarkAnswer::Done => 0,
-        MarkAnswer::BadLevel => 1,
-        MarkAnswer::ShortBuffer => 2,
-        MarkAnswer::NotNine => 3,
-        MarkAnswer::OutOfRange => 4,
-        MarkAnswer::NoGrid => 5,
-    }
-}
-
 // Says a number, and whether the buffer is as dirty as it was.
 fn say_opened(name: &[u8], number: u32, grid: &[u8]) {
     say(b"open, ");
@@ -51,7 +30,7 @@ fn say_opened(name: &[u8], number: u32, grid: &[u8]) {
 // Opens a grid in a buffer that is longer and dirty.
 fn show_open(name: &[u8], level: u32) {
     let mut grid = [DIRTY; LONG];
-    let number = open_number(open(level, &mut grid));
+    let number = open(level, &mut grid).number();
     say_opened(name, number, &grid);
     if number == 0 {
         if all_hold(&grid, POINTS, LONG, DIRTY) {
@@ -65,7 +44,7 @@ fn show_open(name: &[u8], level: u32) {
 // Opens a grid in a buffer that is a byte short.
 fn show_open_short() {
     let mut grid = [DIRTY; 124];
-    let number = open_number(open(2, &mut grid));
+    let number = open(2, &mut grid).number();
     say_opened(b"a byte short", number, &grid);
     say(b"\n");
 }
@@ -88,7 +67,7 @@ fn show_put(name: &[u8], level: u32, p: usize, v: u8, numbers: &[i32]) {
     let mut grid = [DIRTY; LONG];
     open(2, &mut grid);
     put(&mut grid, p, v);
-    let number = mark_number(mark(level, &mut grid, numbers));
+    let number = mark(level, &mut grid, numbers).number();
     say_marked(name, number, &grid);
 }
 
@@ -102,7 +81,7 @@ fn show_both(name: &[u8], first: &[i32], second: &[i32]) {
     let mut grid = [DIRTY; LONG];
     open(2, &mut grid);
     mark(2, &mut grid, first);
-    let number = mark_number(mark(2, &mut grid, second));
+    let number = mark(2, &mut grid, second).number();
     say_marked(name, number, &grid);
 }
 
@@ -118,7 +97,7 @@ fn number_with(k: usize, v: i32) -> u32 {
     let mut grid = [0u8; POINTS];
     let mut numbers = [524_288; 9];
     put_number(&mut numbers, k, v);
-    mark_number(mark(2, &mut grid, &numbers))
+    mark(2, &mut grid, &numbers).number()
 }
 
 // Says the number that is given when the first, .., the ninth number is v.
@@ -266,9 +245,9 @@ fn show_refusals() {
     show_put(b"a mark that is there", 2, 31, 1, &nine);
     let mut none = [0u8; 0];
     say(b"mark, level 1, no bytes: ");
-    say_number(mark_number(mark(1, &mut none, &nine)));
+    say_number(mark(1, &mut none, &nine).number());
     say(b"\nopen, level 1, no bytes: ");
-    say_number(open_number(open(1, &mut none)));
+    say_number(open(1, &mut none).number());
     say(b"\n");
 }
 

@@ -8,4 +8,3 @@ pub mod Point
 pub mod Cover
 pub mod Begins
 pub mod Ends
-pub mod Answers

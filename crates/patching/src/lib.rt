@@ -7,6 +7,7 @@ use lattice::level::Level;
 use lattice::level::LevelRead;
 use lattice::level::point_count;
 use lattice::scan::is_grid;
+use refusals::Refusal;
 use rules::Axis;
 use rules::Point;
 use walking::find_rim;
@@ -23,14 +24,12 @@ ghost use Rattle.halving.specs.Halving.{Edged};
 ghost use Rattle.patching.specs.Paint.{paint, gap, gaps, nine, eight, low, nought};
 ghost use Rattle.patching.specs.Marked.{markAt, marksAt, marksFrom};
 ghost use Rattle.patching.specs.Between.{Moves, AllPatched};
-ghost use Rattle.patching.specs.Call.{told, counted, patchDone, patchSized, patchCall};
+ghost use Rattle.patching.specs.Call.{told, counted, patchDone, patchCall};
 
 // What patch answers: the counts, or why it is refused.
 pub enum PatchAnswer {
     Done { rims: u32, flips: u32 },
-    BadLevel,
-    ShortBuffer,
-    NoGrid,
+    Refused(Refusal),
 }
 
 // The number of rims of the grid as it came, and of edges whose mark differs between entry and exit.
@@ -44,25 +43,18 @@ pub fn patch(level: u32, grid: &mut [u8], work: &mut [u8]) -> PatchAnswer
     ensures { λ r. ⌜ told r (now (grid .exit)) (now (work .exit)) ≡ patchCall level (now (grid .entry)) (now (work .entry)) ⌝ }
 {
     let LevelRead::Known(l) = Level::read(level) else {
-        return PatchAnswer::BadLevel;
+        return PatchAnswer::Refused(Refusal::BadLevel);
     };
-    patch_sized(l.cells(), grid, work)
-}
-
-// The call patch at a known number of cells a side.
-fn patch_sized(n: usize, grid: &mut [u8], work: &mut [u8]) -> PatchAnswer
-    requires { ⌜ (1 ≤ n) × (n ≤ 32) ⌝ }
-    ensures { λ r. ⌜ told r (now (grid .exit)) (now (work .exit)) ≡ patchSized n (now (grid .entry)) (now (work .entry)) ⌝ }
-{
-    let count = point_count(n);
+    let n = l.cells();
+    let count = l.points();
     if grid.len() < count {
-        return PatchAnswer::ShortBuffer;
+        return PatchAnswer::Refused(Refusal::ShortBuffer);
     }
     if work.len() < count {
-        return PatchAnswer::ShortBuffer;
+        return PatchAnswer::Refused(Refusal::ShortBuffer);
     }
     if !is_grid(n, grid) {
-        return PatchAnswer::NoGrid;
+        return PatchAnswer::Refused(Refusal::NoGrid);
     }
     let counts = patch_grid(n, grid, work);
     PatchAnswer::Done {

@@ -102,9 +102,7 @@ fn say_counts(number: u32, rims: u32, flips: u32) {
 fn say_answer(answer: PatchAnswer) {
     match answer {
         PatchAnswer::Done { rims, flips } => say_counts(0, rims, flips),
-        PatchAnswer::BadLevel => say_counts(1, 0, 0),
-        PatchAnswer::ShortBuffer => say_counts(2, 0, 0),
-        PatchAnswer::NoGrid => say_counts(5, 0, 0),
+        PatchAnswer::Refused(why) => say_counts(why.number(), 0, 0),
     }
 }
 

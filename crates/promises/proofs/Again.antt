@@ -1,26 +1,23 @@
 -- Patch on a grid that patch left: no rim, no flip, and every byte stays, whatever work buffer is lent. Assumes nothing.
 use mathlib.Core.Path.{_≡_, refl, sym, ap, ap₂, subst, _∙_}
-use mathlib.Core.Bool.{Bool, true, false, not, cond}
+use mathlib.Core.Bool.{false}
 use mathlib.Core.List.{List, _++_}
 use Prim.Native.Nat.{ℕ}
-use lib.Dec.{ltb}
 use lib.ListN.{length, drop}
 use lib.Seq.{drop-at}
 use Rattle.rules.specs.declared.Axis.{Axis}
 use Rattle.rules.specs.declared.Point.{Point}
 use Rattle.rules.specs.Lattice.{Set, pointCount}
 use Rattle.rules.specs.Cell.{oddFace}
-use Rattle.rules.specs.Grid.{marks, bytes, isGrid}
+use Rattle.rules.specs.Grid.{marks, bytes}
 use Rattle.rules.specs.Rims.{rims}
 use Rattle.rules.specs.Patch.{patched, flipCount}
 use Rattle.rules.proofs.Numbers.{marks-inner, bytes-length}
 use Rattle.rules.proofs.Patched.{patched-even, even-rims, even-still}
 use Rattle.rules.proofs.Again.{no-flips}
-use Rattle.lattice.specs.declared.level.LevelRead.{LevelRead}
-use Rattle.lattice.specs.Levels.{cellsOf}
-use Rattle.patching.specs.Call.{Outcome, refused, patchCall, patchFor, patchSized, patchDone}
+use Rattle.refusals.proofs.Answered.{answered-both}
+use Rattle.patching.specs.Call.{Outcome, refused, patchRows, patchCall, patchDone}
 use Rattle.promises.specs.Table.{cells}
-use Rattle.promises.proofs.Levels.{level-known}
 use Rattle.promises.proofs.Done.{patch-done}
 use Rattle.promises.proofs.Condition.{marks-left}
 
@@ -53,26 +50,11 @@ module _ (n : ℕ) (g w v : List ℕ) where
     same = ap₂ (λ (E : Set) (r : List ℕ). bytes n E ++ r) stays behind;
   }
 
--- ---- where it is refused nothing changes
-refused-still : (k : ℕ) (h v : List ℕ) → Still h (refused k h v)
-refused-still k h v = record { no-rim = refl; no-flip = refl; same = refl }
-
-sized-still : (n : ℕ) (h v : List ℕ) → Still h (patchDone n h v) → Still h (patchSized n h v)
-unfolding patchSized
-sized-still n h v d = go (ltb (length h) (pointCount n)) (ltb (length v) (pointCount n)) (not (isGrid n h))
-  where
-    go : (x y z : Bool) → Still h (cond x (refused 2 h v) (cond y (refused 2 h v) (cond z (refused 5 h v) (patchDone n h v))))
-    go true y z = refused-still 2 h v
-    go false true z = refused-still 2 h v
-    go false false true = refused-still 5 h v
-    go false false false = d
-
--- ---- the call
+-- ---- the call: done again, or refused, where nothing changes
 pub patch-again : (L : ℕ) (g w v : List ℕ) → patchCall L g w .number ≡ 0 → Still (patchCall L g w .grid) (patchCall L (patchCall L g w .grid) v)
 unfolding patchCall
 patch-again L g w v e =
-    let d = patch-done L g w e in
-    subst (λ (o : Outcome). Still (o .grid) (patchCall L (o .grid) v)) (sym (d .outcome))
-    (subst (λ (i : ℕ). Still (patchDone (cells i) g w .grid) (patchCall i (patchDone (cells i) g w .grid) v)) (sym (d .level))
-    (subst (λ (r : LevelRead). Still (patchDone (cellsOf (d .l)) g w .grid) (patchFor r (patchDone (cellsOf (d .l)) g w .grid) v)) (sym (level-known (d .l)))
-    (sized-still (cellsOf (d .l)) (patchDone (cellsOf (d .l)) g w .grid) v (done-again (cellsOf (d .l)) g w v))))
+    subst (λ (o : Outcome). Still (o .grid) (patchCall L (o .grid) v)) (sym (patch-done L g w e .outcome))
+    (let n = cells L in
+    let h = patchDone n g w .grid in
+    answered-both (Still h) (refused h v) (patchDone n h v) (λ k. record { no-rim = refl; no-flip = refl; same = refl }) (done-again n g w v) (patchRows L h v))

@@ -24,10 +24,9 @@ use Rattle.rules.proofs.OddList.{even-all}
 use Rattle.rules.proofs.Patched.{patched-inner}
 use Rattle.rules.proofs.Condition.{grid-repaired}
 use Rattle.lattice.proofs.Ahead.{bytes-are-grid, bytes-have-marks}
-use Rattle.lattice.specs.declared.level.Level.{Level}
-use Rattle.lattice.specs.Levels.{numberOf, cellsOf, pointsOf}
+use Rattle.refusals.specs.Columns.{badLevel}
 use Rattle.patching.specs.Call.{Outcome as Patching, patchCall, patchDone}
-use Rattle.signing.specs.Call.{Outcome as Signing, signCall}
+use Rattle.signing.specs.Call.{Outcome as Signing, done, signCall}
 use Rattle.signing.specs.SignBytes.{signByte}
 use Rattle.signing.proofs.Only.{sign-byte}
 use Rattle.promises.specs.Table.{cells, pointsAt}
@@ -49,25 +48,25 @@ bytes-differ false true = (λ h e. omega arith, λ h e. h (ap (λ (c : Bool). va
 bytes-differ false false = (λ h e. h refl, λ h e. h refl)
 
 -- ---- a grid without odd faces, at a known level
-module _ (l : Level) (h : List ℕ) (long : pointsOf l ≤ length h) (grid : isGrid (cellsOf l) h ≡ true)
-    (even : (a : Axis) (p : Point) → oddFace (marks (cellsOf l) h) a p ≡ false) (b : List ℕ) (room : pointsOf l ≤ length b) where
+module _ (L : ℕ) (good : badLevel L ≡ false) (h : List ℕ) (long : pointsAt L ≤ length h) (grid : isGrid (cells L) h ≡ true)
+    (even : (a : Axis) (p : Point) → oddFace (marks (cells L) h) a p ≡ false) (b : List ℕ) (room : pointsAt L ≤ length b) where
   -- sign takes it
-  taken : signCall (numberOf l) h b ≡ record { number = 0; signs = signBytes (cellsOf l) (marks (cellsOf l) h) ++ drop (pointsOf l) b }
-  taken = sign-taken l h b long room grid (even-all (cellsOf l) (marks (cellsOf l) h) (marks-inner (cellsOf l) h) .1 even)
+  taken : signCall L h b ≡ done (signBytes (cells L) (marks (cells L) h) ++ drop (pointsAt L) b)
+  taken = sign-taken L good h b long room grid (even-all (cells L) (marks (cells L) h) (marks-inner (cells L) h) .1 even)
 
   -- and its bytes are the signs
-  byte : (p : Point) → OfGrid (cellsOf l) p → signByte (cellsOf l) (signCall (numberOf l) h b .signs) p ≡ value (sign (marks (cellsOf l) h) p) 1
+  byte : (p : Point) → OfGrid (cells L) p → signByte (cells L) (signCall L h b .signs) p ≡ value (sign (marks (cells L) h) p) 1
   byte p o =
-      ap (λ (x : Signing). signByte (cellsOf l) (x .signs) p) taken
-      ∙ sign-byte (cellsOf l) (marks (cellsOf l) h) (drop (pointsOf l) b) p o
+      ap (λ (x : Signing). signByte (cells L) (x .signs) p) taken
+      ∙ sign-byte (cells L) (marks (cells L) h) (drop (pointsAt L) b) p o
 
   -- along any route the marks met are odd in number exactly when the bytes differ
-  route : (p q : Point) (r : List Place) → Route (cellsOf l) p q r → (parity (isIn (marks (cellsOf l) h)) r ≡ true)
-      ↔ (signByte (cellsOf l) (signCall (numberOf l) h b .signs) p ≢ signByte (cellsOf l) (signCall (numberOf l) h b .signs) q)
+  route : (p q : Point) (r : List Place) → Route (cells L) p q r → (parity (isIn (marks (cells L) h)) r ≡ true)
+      ↔ (signByte (cells L) (signCall L h b .signs) p ≢ signByte (cells L) (signCall L h b .signs) q)
   route p q r w =
-      let E = marks (cellsOf l) h in
-      let ends = route-ends (cellsOf l) p q r w in
-      let e = route-parity E even (cellsOf l) p q r w in
+      let E = marks (cells L) h in
+      let ends = route-ends (cells L) p q r w in
+      let e = route-parity E even (cells L) p q r w in
       subst₂ (λ (x y : ℕ). (parity (isIn E) r ≡ true) ↔ (x ≢ y)) (sym (byte p (ends .0))) (sym (byte q (ends .1))) (
         λ o. bytes-differ (sign E p) (sign E q) .0 (differ (sign E p) (sign E q) .0 (sym e ∙ o)),
         λ d. e ∙ differ (sign E p) (sign E q) .1 (bytes-differ (sign E p) (sign E q) .1 d),
@@ -82,21 +81,21 @@ pub record Parity (L : ℕ) (h : List ℕ) : Type 0 where
       ↔ (signByte (cells L) (signCall L h b .signs) p ≢ signByte (cells L) (signCall L h b .signs) q)
 
 -- the bytes of marks on inner edges without odd faces have it, with anything behind them
-pub parity-of : (l : Level) (F : Set) → ((a : Axis) (p : Point) → F a p ≡ true → inner (cellsOf l) a p ≡ true) →
-    ((a : Axis) (p : Point) → oddFace F a p ≡ false) → (rest : List ℕ) → Parity (numberOf l) (bytes (cellsOf l) F ++ rest)
-parity-of l F inside even rest =
-    let n = cellsOf l in
+pub parity-of : (L : ℕ) → badLevel L ≡ false → (F : Set) → ((a : Axis) (p : Point) → F a p ≡ true → inner (cells L) a p ≡ true) →
+    ((a : Axis) (p : Point) → oddFace F a p ≡ false) → (rest : List ℕ) → Parity L (bytes (cells L) F ++ rest)
+parity-of L good F inside even rest =
+    let n = cells L in
     let h = bytes n F ++ rest in
     let m = bytes-length n F in
     let k = length-append (bytes n F) rest in
-    let long : pointsOf l ≤ length h = omega arith in
+    let long : pointsAt L ≤ length h = omega arith in
     let grid = bytes-are-grid n F inside rest in
     let faces : (a : Axis) (p : Point) → oddFace (marks n h) a p ≡ false =
     λ a p. ap (λ (E : Set). oddFace E a p) (bytes-have-marks n F inside rest) ∙ even a p in
     record {
       even = faces;
-      signed = λ b room. ap (λ (o : Signing). o .number) (taken l h long grid faces b room);
-      routed = λ b room. route l h long grid faces b room;
+      signed = λ b room. ap (λ (o : Signing). o .number) (taken L good h long grid faces b room);
+      routed = λ b room. route L good h long grid faces b room;
     }
 
 -- ---- the promised stage
@@ -105,11 +104,11 @@ pub marks-left : (n : ℕ) (g w : List ℕ) → marks n (patchDone n g w .grid) 
 unfolding patchDone
 marks-left n g w = bytes-have-marks n (patched n (marks n g)) (patched-inner n (marks n g) (marks-inner n g)) (drop (pointCount n) g)
 
-parity-left : (l : Level) (g w : List ℕ) → isGrid (cellsOf l) g ≡ true → Parity (numberOf l) (patchDone (cellsOf l) g w .grid)
+parity-left : (L : ℕ) → badLevel L ≡ false → (g w : List ℕ) → isGrid (cells L) g ≡ true → Parity L (patchDone (cells L) g w .grid)
 unfolding patchDone
-parity-left l g w grid =
-    let n = cellsOf l in
-    parity-of l (patched n (marks n g)) (patched-inner n (marks n g) (marks-inner n g)) (grid-repaired n g grid .even) (drop (pointsOf l) g)
+parity-left L good g w grid =
+    let n = cells L in
+    parity-of L good (patched n (marks n g)) (patched-inner n (marks n g) (marks-inner n g)) (grid-repaired n g grid .even) (drop (pointsAt L) g)
 
 module _ (L : ℕ) (g w : List ℕ) (e : patchCall L g w .number ≡ 0) where
   left-marks : marks (cells L) (patchCall L g w .grid) ≡ patched (cells L) (marks (cells L) g)
@@ -118,9 +117,7 @@ module _ (L : ℕ) (g w : List ℕ) (e : patchCall L g w .number ≡ 0) where
   left-parity : Parity L (patchCall L g w .grid)
   left-parity =
       let d = patch-done L g w e in
-      subst (λ (o : Patching). Parity L (o .grid)) (sym (d .outcome))
-      (subst (λ (i : ℕ). isGrid (cells i) g ≡ true → Parity i (patchDone (cells i) g w .grid)) (sym (d .level))
-      (parity-left (d .l) g w) (d .grid))
+      subst (λ (o : Patching). Parity L (o .grid)) (sym (d .outcome)) (parity-left L (d .good) g w (d .grid))
 
   left-boxed : (a : Axis) (p : Point) → marks (cells L) g a p ≢ marks (cells L) (patchCall L g w .grid) a p →
       anyOf (λ r. edgeIn (boxOf r) a p) (rims (cells L) (marks (cells L) g)) ≡ true

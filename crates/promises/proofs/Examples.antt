@@ -11,19 +11,20 @@ use Rattle.rules.specs.Signs.{signBytes}
 use Rattle.rules.specs.Quads.{quads}
 use Rattle.rules.specs.Examples.{single, gap, pair}
 use Rattle.lattice.specs.Levels.{levelOf}
+use Rattle.refusals.specs.Columns.{badLevel, levelAt}
 use Rattle.triangles.specs.Vectors.{along, minus, cross, dot}
 use Rattle.triangles.specs.Spans.{lesser, greater, apart}
 use Rattle.triangles.specs.Axes.{units, sides, normal, crossEach, crossed, axes}
 use Rattle.triangles.specs.Meets.{triangleSpan, edgeSpan, separates, noneSeparates, edgeMet}
 use Rattle.marking.specs.Ranges.{inRange, latticeOf, allInRange, vertexAt, triangleOf}
 use Rattle.marking.specs.Met.{placeOf, endsOf, met, marked}
-use Rattle.marking.specs.Open.{opened, openAt, openFor, openCall}
-use Rattle.marking.specs.Mark.{markAt, markFor, markCall}
-use Rattle.patching.specs.Call.{patchDone, patchSized, patchCall}
-use Rattle.signing.specs.Call.{signSized, signFor}
+use Rattle.marking.specs.Open.{opened, openRows, openCall}
+use Rattle.marking.specs.Mark.{markRows, markCall}
+use Rattle.patching.specs.Call.{patchDone, patchRows, patchCall}
+use Rattle.signing.specs.Call.{signRows, signCall}
 use Rattle.surfacing.specs.Fit.{edgeFits, pointFits, signsFit}
 use Rattle.surfacing.specs.Listing.{quadCount}
-use Rattle.surfacing.specs.Call.{listed, surfaceSized, surfaceFor}
+use Rattle.surfacing.specs.Call.{surfaceDone, surfaceRows, surfaceCall}
 use Rattle.promises.specs.Examples.{run, right, examples, ninth, listing}
 
 -- the calls' definitions, computed
@@ -32,8 +33,8 @@ unfolding
     examples single gap pair bytes marks isGrid oddFaces evenFaces rims patchRim flips patched flipCount signBytes quads levelOf
     along minus cross dot lesser greater apart units sides normal crossEach crossed axes
     triangleSpan edgeSpan separates noneSeparates edgeMet inRange latticeOf allInRange vertexAt triangleOf placeOf endsOf met marked
-    opened openAt openFor openCall markAt markFor markCall patchDone patchSized patchCall signSized signFor
-    edgeFits pointFits signsFit quadCount listed surfaceSized surfaceFor
+    badLevel levelAt opened openRows openCall markRows markCall patchDone patchRows patchCall signRows signCall
+    edgeFits pointFits signsFit quadCount surfaceDone surfaceRows surfaceCall
 computed = (refl, refl)
 
 -- the single claim: every example of the table is right

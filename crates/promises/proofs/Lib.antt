@@ -1,6 +1,3 @@
-pub mod Lowest
-pub mod Lines
-pub mod Levels
 pub mod Numbers
 pub mod OneOutcome
 pub mod Done

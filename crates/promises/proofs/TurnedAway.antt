@@ -15,9 +15,10 @@ use Rattle.rules.specs.Patch.{patchRim, flips, patched, flipCount}
 use Rattle.rules.proofs.Bits.{eqb-yes, eqb→}
 use Rattle.rules.specs.Examples.{single}
 use Rattle.lattice.specs.Levels.{levelOf}
-use Rattle.marking.specs.Open.{openCall, openFor, openAt}
+use Rattle.refusals.specs.Columns.{badLevel, levelAt}
+use Rattle.marking.specs.Open.{openRows, openCall}
 use Rattle.patching.specs.Call as Patching
-use Rattle.patching.specs.Call.{patchCall, patchSized, patchDone}
+use Rattle.patching.specs.Call.{patchCall, patchRows, patchDone}
 use Rattle.promises.specs.Table.{cells, pointsAt, Call, Open}
 use Rattle.promises.specs.Stage.{Keeps, Done, Even, Signed, Routed, Boxed, Condition1, Condition2}
 use Rattle.promises.specs.Wrong.{refusing, withPatch, emptying, leaving, patchingFirst, inventing}
@@ -51,10 +52,10 @@ module _ (f : ℕ → List ℕ → Patching.Outcome → Patching.Outcome) (L : �
 
 -- ---- one that refuses everything breaks condition 1: a call of open with a buffer of P bytes is to be done
 pub refusing-breaks-1 : (f : ℕ → Call → ℕ) → ((L : ℕ) (c : Call) → f L c ≢ 0) → ¬ (Condition1 (refusing f))
-unfolding refusing openCall openFor openAt levelOf
-refusing-breaks-1 f never exact =
+unfolding refusing openCall openRows badLevel levelAt levelOf
+refusing-breaks-1 f never one =
     let c = Open work in
-    never 2 c (exact 2 c 0 .1 (promised-condition-1 2 c 0 .0 refl))
+    never 2 c (one .exactly 2 c 0 .1 (promised-condition-1 .exactly 2 c 0 .0 refl))
 
 -- ---- one that always yields the empty grid
 -- the wrong outcome
@@ -67,8 +68,7 @@ parity L g w d =
     let e = was-done emptied L g w d in
     let k = patch-done L g w e in
     subst (λ (o : Patching.Outcome). Parity L (o .grid)) (sym (does emptied L g w e))
-    (subst (λ (i : ℕ). Parity i (bytes (cells i) (λ a p. false) ++ drop (pointsAt L) g)) (sym (k .level))
-    (parity-of (k .l) (λ a p. false) (λ a p q. absurd (true≢false (sym q))) (λ a p. refl) (drop (pointsAt L) g)))
+    (parity-of L (k .good) (λ a p. false) (λ a p q. absurd (true≢false (sym q))) (λ a p. refl) (drop (pointsAt L) g))
 
 -- it keeps condition 3's parity: every face is even, sign takes the grid, and its bytes agree with the marks along any route
 pub emptying-keeps-parity : Even emptying × Signed emptying × Routed emptying
@@ -77,27 +77,27 @@ emptying-keeps-parity = (λ L g w d. parity L g w d .even, λ L g w d. parity L 
 
 -- it breaks condition 2, by example 2, whose marks stay
 pub emptying-breaks-2 : ¬ (Condition2 emptying)
-unfolding emptying patchCall patchSized patchDone levelOf single isGrid bytes marks rims oddFaces patched flips
+unfolding emptying patchCall patchRows patchDone badLevel levelAt levelOf single isGrid bytes marks rims oddFaces patched flips
 emptying-breaks-2 c = true≢false (sym (c .patched 2 (buffer single) work refl X (record { i = 1; j = 2; k = 2 })))
 
 -- and condition 3's box rule: example 2 has no rim, and so no box that an altered edge could lie in
 pub emptying-breaks-box : ¬ (Boxed emptying)
-unfolding emptying patchCall patchSized patchDone levelOf single isGrid bytes marks rims oddFaces
+unfolding emptying patchCall patchRows patchDone badLevel levelAt levelOf single isGrid bytes marks rims oddFaces
 emptying-breaks-box boxed = true≢false (sym (boxed 2 (buffer single) work refl X (record { i = 1; j = 2; k = 2 }) (λ e. true≢false e)))
 
 -- ---- one that leaves the grid alone breaks condition 3's even faces, by example 4
 pub leaving-breaks-even : ¬ (Even leaving)
-unfolding leaving patchCall patchSized patchDone levelOf isGrid bytes marks
+unfolding leaving patchCall patchRows patchDone badLevel levelAt levelOf isGrid bytes marks
 leaving-breaks-even even = true≢false (even 2 (buffer (xEdge 2 2 2 ∷ [])) work refl Y (record { i = 2; j = 2; k = 2 }))
 
 -- ---- one that patches its first rim and only counts the others breaks condition 3's even faces, by example 5
 pub first-rim-breaks-even : ¬ (Even patchingFirst)
-unfolding patchingFirst patchCall patchSized patchDone levelOf isGrid bytes marks rims oddFaces patchRim
+unfolding patchingFirst patchCall patchRows patchDone badLevel levelAt levelOf isGrid bytes marks rims oddFaces patchRim
 first-rim-breaks-even even = true≢false (even 2 (buffer (xEdge 0 1 1 ∷ (xEdge 2 3 3 ∷ []))) work refl Y (record { i = 2; j = 3; k = 3 }))
 
 -- ---- one that invents rims or flips breaks condition 2, by example 1
 pub inventing-breaks-2 : (r f : ℕ) → ¬ ((r ≡ 0) × (f ≡ 0)) → ¬ (Condition2 (inventing r f))
-unfolding inventing patchCall patchSized patchDone levelOf isGrid bytes marks rims oddFaces flipCount patched flips
+unfolding inventing patchCall patchRows patchDone badLevel levelAt levelOf isGrid bytes marks rims oddFaces flipCount patched flips
 inventing-breaks-2 r f some c =
     let a : 0 + r ≡ 0 = c .counted 2 (buffer []) work refl in
     let b : 0 + f ≡ 0 = c .flipped 2 (buffer []) work refl in

@@ -23,7 +23,8 @@ use Rattle.patching.specs.Call.{Outcome as Patching, patchCall}
 use Rattle.signing.specs.Call.{Outcome as Signing, signCall}
 use Rattle.signing.specs.SignBytes.{signByte}
 use Rattle.surfacing.specs.Call.{Outcome as Surfacing, surfaceCall}
-use Rattle.promises.specs.Table.{cells, pointsAt, Call, Open, Mark, Patch, Sign, Surface, table, Lowest}
+use Rattle.refusals.specs.Rows.{Given, Lowest, rising}
+use Rattle.promises.specs.Table.{cells, pointsAt, Call, Open, Mark, Patch, Sign, Surface, table}
 
 -- a stage: the outcome of each of the five calls, whatever level and buffers it is lent
 pub record Stage : Type 0 where
@@ -53,9 +54,22 @@ numberBy s L (Patch g w) = s .patches L g w .number
 numberBy s L (Sign g b) = s .signs L g b .number
 numberBy s L (Surface g b q) = s .surfaces L g b q .number
 
--- ---- condition 1: each number is given exactly when its column says, the lowest where several apply
-abbrev pub Condition1 : Stage → Type 0
-Condition1 s = (L : ℕ) (c : Call) (k : ℕ) → (numberBy s L c ≡ k) ↔ Lowest (table L c) k
+-- ---- condition 1
+-- counts of 0, and every buffer as it was lent
+abbrev pub Untouched : Stage → ℕ → Call → Type 0
+Untouched s L (Open g) = s .opens L g .grid ≡ g
+Untouched s L (Mark g t) = s .marks L g t .grid ≡ g
+Untouched s L (Patch g w) = let o = s .patches L g w in (o .rims ≡ 0) × (o .flips ≡ 0) × (o .grid ≡ g) × (o .work ≡ w)
+Untouched s L (Sign g b) = s .signs L g b .signs ≡ b
+Untouched s L (Surface g b q) = let o = s .surfaces L g b q in (o .quads ≡ 0) × (o .list ≡ q)
+
+pub record Condition1 (s : Stage) : Type 0 where
+  -- each number is given exactly when its row applies and none before it does; 0 when none applies
+  pub exactly : (L : ℕ) (c : Call) (k : ℕ) → (numberBy s L c ≡ k) ↔ Given (table L c) k
+  -- where several apply the lowest number is given, if the numbers of the rows rise
+  pub lowest : (L : ℕ) (c : Call) → rising 0 (table L c) ≡ true → (k : ℕ) → (numberBy s L c ≡ k) ↔ Lowest (table L c) k
+  -- a refusal returns counts of 0 and changes no buffer
+  pub untouched : (L : ℕ) (c : Call) → numberBy s L c ≢ 0 → Untouched s L c
 
 -- ---- what patch leaves where it is done
 -- patch is done

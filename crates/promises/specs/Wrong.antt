@@ -23,11 +23,11 @@ use Rattle.promises.specs.Stage.{Stage}
 -- a stage that refuses everything, each call by some number
 unfoldable pub refusing : (ℕ → Call → ℕ) → Stage
 refusing f = record {
-  opens = λ L g. Marking.refused (f L (Open g)) g;
-  marks = λ L g t. Marking.refused (f L (Mark g t)) g;
-  patches = λ L g w. Patching.refused (f L (Patch g w)) g w;
-  signs = λ L g b. Signing.refused (f L (Sign g b)) b;
-  surfaces = λ L g b q. Surfacing.refused (f L (Surface g b q)) q;
+  opens = λ L g. Marking.refused g (f L (Open g));
+  marks = λ L g t. Marking.refused g (f L (Mark g t));
+  patches = λ L g w. Patching.refused g w (f L (Patch g w));
+  signs = λ L g b. Signing.refused b (f L (Sign g b));
+  surfaces = λ L g b q. Surfacing.refused q (f L (Surface g b q));
 }
 
 -- the promised stage, but for what patch does where it is done

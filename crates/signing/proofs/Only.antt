@@ -1,10 +1,11 @@
 -- The bytes that sign writes are the only ones that sign the grid's marks. Assumes nothing.
 use mathlib.Core.Path.{_≡_, refl, sym, ap, ap₂, subst, _∙_}
-use mathlib.Core.Bool.{Bool, true, false, not, cond, _||_}
+use mathlib.Core.Bool.{Bool, true, false}
 use mathlib.Core.List.{List, [], _∷_, map, map-map, _++_}
 use Prim.Native.Nat.{ℕ, zero, suc, _≤_, _<_}
 use native.Mathlib.Omega.{arith}
-use lib.Dec.{eqb, ltb}
+use borrow.Author.Tests.{not-false}
+use lib.Dec.{eqb}
 use lib.ListN.{length, getD, take, drop, List·getD-append}
 use lib.Seq.{take-at, drop-at}
 use Rattle.rules.specs.declared.Axis.{Axis}
@@ -12,7 +13,7 @@ use Rattle.rules.specs.declared.Axis.the-variants.{X, Y, Z}
 use Rattle.rules.specs.declared.Point.{Point}
 use Rattle.rules.specs.Lists.{_⊕_, All}
 use Rattle.rules.specs.Lattice.{up, origin, pointNumber, pointCount, points, OfGrid, Set}
-use Rattle.rules.specs.Grid.{value, marks, isGrid}
+use Rattle.rules.specs.Grid.{value, marks}
 use Rattle.rules.specs.Rims.{evenFaces}
 use Rattle.rules.specs.Signs.{sign, Consistent, signBytes}
 use Rattle.rules.proofs.Numbers.{points-at, points-length, number-below, rising, take-upto, getD-map<, marks-inner}
@@ -20,11 +21,12 @@ use Rattle.rules.proofs.PointOf.{all-points}
 use Rattle.rules.proofs.OddList.{even-all}
 use Rattle.rules.proofs.Signs.{sign-consistent, sign-unique}
 use Rattle.lattice.specs.declared.level.Level.{Level}
-use Rattle.lattice.specs.declared.level.LevelRead.{LevelRead}
-use Rattle.lattice.specs.declared.level.LevelRead.the-variants.{Known, Unknown}
-use Rattle.lattice.specs.Levels.{levelOf, cellsOf}
+use Rattle.lattice.specs.Levels.{numberOf, cellsOf, pointsOf}
 use Rattle.signing.specs.SignBytes.{signByte, inside, Signed}
-use Rattle.signing.specs.Call.{Outcome, refused, signSized, signFor, signCall}
+use Rattle.refusals.specs.Columns.{levelAt}
+use Rattle.refusals.proofs.Answered.{answered-done}
+use Rattle.refusals.proofs.Levels.{good-number}
+use Rattle.signing.specs.Call.{Outcome, done, refused, signRows, signCall}
 use Rattle.signing.proofs.Rows.{signs-length}
 
 -- the point below an edge's upper end
@@ -88,41 +90,24 @@ module _ (n : ℕ) (E : Set) where
 -- what a call that is done leaves: the only bytes that sign the marks of the grid, and what was behind them
 pub record SignedOnly (level : ℕ) (g s after : List ℕ) : Type 0 where
   pub l : Level
-  pub known : levelOf level ≡ Known l
+  pub known : level ≡ numberOf l
   pub signed : Signed (cellsOf l) (marks (cellsOf l) g) after
   pub only : (t : List ℕ) → pointCount (cellsOf l) ≤ length t → Signed (cellsOf l) (marks (cellsOf l) g) t → take (pointCount (cellsOf l)) t ≡ take (pointCount (cellsOf l)) after
   pub behind : drop (pointCount (cellsOf l)) after ≡ drop (pointCount (cellsOf l)) s
 
--- number 0 passes every line of the table
-passed : (s : List ℕ) (a b c : Bool) (o : Outcome) → cond a (refused 2 s) (cond (not b) (refused 5 s) (cond (not c) (refused 6 s) o)) .number ≡ 0 →
-    (c ≡ true) × (cond a (refused 2 s) (cond (not b) (refused 5 s) (cond (not c) (refused 6 s) o)) ≡ o)
-passed s true b c o e = absurd (omega arith)
-passed s false false c o e = absurd (omega arith)
-passed s false true false o e = absurd (omega arith)
-passed s false true true o e = (refl, refl)
-
-done-at : (n : ℕ) (g s : List ℕ) → signSized n g s .number ≡ 0 → (evenFaces n (marks n g) ≡ true) × (signSized n g s .signs ≡ signBytes n (marks n g) ++ drop (pointCount n) s)
-unfolding signSized
-done-at n g s e =
-    let t = passed s (ltb (length g) (pointCount n) || ltb (length s) (pointCount n)) (isGrid n g) (evenFaces n (marks n g)) (record { number = 0; signs = signBytes n (marks n g) ++ drop (pointCount n) s }) e in
-    (t .0, ap (λ (o : Outcome). o .signs) (t .1))
-
 pub sign-done : (level : ℕ) (g s : List ℕ) → signCall level g s .number ≡ 0 → SignedOnly level g s (signCall level g s .signs)
-unfolding signFor
-sign-done level g s e = go (levelOf level) refl e
-  where
-    go : (v : LevelRead) → levelOf level ≡ v → signFor v g s .number ≡ 0 → SignedOnly level g s (signFor v g s .signs)
-    go Unknown k d = absurd (omega arith)
-    go (Known l) k d =
-        let n = cellsOf l in
-        let E = marks n g in
-        let t = done-at n g s d in
-        let even = even-all n E (marks-inner n g) .0 (t .0) in
-        let m = signs-length n E in
-        subst (SignedOnly level g s) (sym (t .1)) (record {
-          l = l;
-          known = k;
-          signed = signs-signed n E (sign-consistent n E (λ a p h. even a p)) (drop (pointCount n) s);
-          only = λ r long w. signs-only n E r long w ∙ sym (take-at (signBytes n E) (drop (pointCount n) s) (pointCount n) m);
-          behind = drop-at (signBytes n E) (drop (pointCount n) s) (pointCount n) m;
-        })
+unfolding signRows signCall
+sign-done level g s e =
+    let l = levelAt level in
+    let n = cellsOf l in
+    let E = marks n g in
+    let r = answered-done (λ o. o .number) (refused s) (done (signBytes n E ++ drop (pointsOf l) s)) (λ i. refl) refl (signRows level g s) refl e in
+    let even = even-all n E (marks-inner n g) .0 (not-false (evenFaces n E) (r .0 .1 .1 .1 .0)) in
+    let m = signs-length n E in
+    subst (SignedOnly level g s) (sym (ap (λ (o : Outcome). o .signs) (r .1))) (record {
+      l = l;
+      known = good-number level (r .0 .0);
+      signed = signs-signed n E (sign-consistent n E (λ a p h. even a p)) (drop (pointsOf l) s);
+      only = λ t long w. signs-only n E t long w ∙ sym (take-at (signBytes n E) (drop (pointsOf l) s) (pointsOf l) m);
+      behind = drop-at (signBytes n E) (drop (pointsOf l) s) (pointsOf l) m;
+    })

@@ -5,6 +5,8 @@ use lattice::level::LevelRead;
 use lattice::level::point_count;
 use lattice::scan::all_even;
 use lattice::scan::is_grid;
+use refusals::Answer;
+use refusals::Refusal;
 use rules::Axis;
 ghost use mathlib.Core.Path.{_≡_};
 ghost use mathlib.Core.Bool.{true};
@@ -18,16 +20,7 @@ ghost use Rattle.rules.specs.Lattice.{pointCount};
 ghost use Rattle.rules.specs.Grid.{value, has, marks, isGrid};
 ghost use Rattle.rules.specs.Rims.{evenFaces};
 ghost use Rattle.rules.specs.Signs.{signBytes};
-ghost use Rattle.signing.specs.Call.{told, signSized, signCall};
-
-// What the call answers: done, or why not.
-pub enum SignAnswer {
-    Done,
-    BadLevel,
-    ShortBuffer,
-    NoGrid,
-    OddFace,
-}
+ghost use Rattle.signing.specs.Call.{told, signCall};
 
 // The sign byte of a point: 0 outside, 1 inside.
 fn sign_byte(inside: bool) -> u8
@@ -70,34 +63,27 @@ pub fn sign_grid(n: usize, grid: &[u8], signs: &mut [u8])
     }
 }
 
-// Gives each point of a grid of n cells a side its sign.
-fn sign_sized(n: usize, grid: &[u8], signs: &mut [u8]) -> SignAnswer
-    requires { ⌜ (1 ≤ n) × (n ≤ 32) ⌝ }
-    ensures { λ r. ⌜ told r (now (signs .exit)) ≡ signSized n (now (grid .entry)) (now (signs .entry)) ⌝ }
-{
-    let count = point_count(n);
-    if grid.len() < count {
-        return SignAnswer::ShortBuffer;
-    }
-    if signs.len() < count {
-        return SignAnswer::ShortBuffer;
-    }
-    if !is_grid(n, grid) {
-        return SignAnswer::NoGrid;
-    }
-    if !all_even(n, grid) {
-        return SignAnswer::OddFace;
-    }
-    sign_grid(n, grid, signs);
-    SignAnswer::Done
-}
-
 // The call sign: fills the P sign bytes. Point (0,0,0) is outside, and signs differ across an edge exactly when it is marked.
-pub fn sign(level: u32, grid: &[u8], signs: &mut [u8]) -> SignAnswer
+pub fn sign(level: u32, grid: &[u8], signs: &mut [u8]) -> Answer
     ensures { λ r. ⌜ told r (now (signs .exit)) ≡ signCall level (now (grid .entry)) (now (signs .entry)) ⌝ }
 {
-    match Level::read(level) {
-        LevelRead::Known(l) => sign_sized(l.cells(), grid, signs),
-        LevelRead::Unknown => SignAnswer::BadLevel,
+    let LevelRead::Known(l) = Level::read(level) else {
+        return Answer::Refused(Refusal::BadLevel);
+    };
+    let n = l.cells();
+    let count = l.points();
+    if grid.len() < count {
+        return Answer::Refused(Refusal::ShortBuffer);
     }
+    if signs.len() < count {
+        return Answer::Refused(Refusal::ShortBuffer);
+    }
+    if !is_grid(n, grid) {
+        return Answer::Refused(Refusal::NoGrid);
+    }
+    if !all_even(n, grid) {
+        return Answer::Refused(Refusal::OddFace);
+    }
+    sign_grid(n, grid, signs);
+    Answer::Done
 }

@@ -1,9 +1,6 @@
 // The five calls as C functions, for the slicer to link: an answer is its number, and counts go behind references. Each promise is
 // that of the call it hands on to, read the same way: number, counts and every buffer, for all inputs.
-use marking::MarkAnswer;
-use marking::OpenAnswer;
 use patching::PatchAnswer;
-use signing::SignAnswer;
 use surfacing::SurfaceAnswer;
 ghost use mathlib.Core.Path.{_≡_};
 ghost use Rattle.marking.specs.Outcome.{Outcome as MarkOutcome};
@@ -18,11 +15,7 @@ ghost use Rattle.surfacing.specs.Call.{Outcome as SurfaceOutcome, surfaceCall};
 pub extern "C" fn omphirun_open(level: u32, grid: &mut [u8]) -> u32
     ensures { λ r. ⌜ _≡_ {A = MarkOutcome} (record { number = r; grid = now (grid .exit) }) (openCall level (now (grid .entry))) ⌝ }
 {
-    match marking::open(level, grid) {
-        OpenAnswer::Done => 0,
-        OpenAnswer::BadLevel => 1,
-        OpenAnswer::ShortBuffer => 2,
-    }
+    marking::open(level, grid).number()
 }
 
 // Mark (level, grid, triangle as nine i32): the marks of edges met are added; none is removed.
@@ -30,14 +23,7 @@ pub extern "C" fn omphirun_open(level: u32, grid: &mut [u8]) -> u32
 pub extern "C" fn omphirun_mark(level: u32, grid: &mut [u8], triangle: &[i32]) -> u32
     ensures { λ r. ⌜ _≡_ {A = MarkOutcome} (record { number = r; grid = now (grid .exit) }) (markCall level (now (grid .entry)) (now (triangle .entry))) ⌝ }
 {
-    match marking::mark(level, grid, triangle) {
-        MarkAnswer::Done => 0,
-        MarkAnswer::BadLevel => 1,
-        MarkAnswer::ShortBuffer => 2,
-        MarkAnswer::NotNine => 3,
-        MarkAnswer::OutOfRange => 4,
-        MarkAnswer::NoGrid => 5,
-    }
+    marking::mark(level, grid, triangle).number()
 }
 
 // Patch (level, grid, work buffer): the grid is patched, and the number of rims and of flips is returned.
@@ -59,9 +45,7 @@ pub extern "C" fn omphirun_patch(
             *flips = f;
             0
         }
-        PatchAnswer::BadLevel => 1,
-        PatchAnswer::ShortBuffer => 2,
-        PatchAnswer::NoGrid => 5,
+        PatchAnswer::Refused(why) => why.number(),
     }
 }
 
@@ -70,13 +54,7 @@ pub extern "C" fn omphirun_patch(
 pub extern "C" fn omphirun_sign(level: u32, grid: &[u8], signs: &mut [u8]) -> u32
     ensures { λ r. ⌜ _≡_ {A = SignOutcome} (record { number = r; signs = now (signs .exit) }) (signCall level (now (grid .entry)) (now (signs .entry))) ⌝ }
 {
-    match signing::sign(level, grid, signs) {
-        SignAnswer::Done => 0,
-        SignAnswer::BadLevel => 1,
-        SignAnswer::ShortBuffer => 2,
-        SignAnswer::NoGrid => 5,
-        SignAnswer::OddFace => 6,
-    }
+    signing::sign(level, grid, signs).number()
 }
 
 // Surface (level, grid, signs, list of u16): writes four cell numbers a quad and returns the number of quads.
@@ -96,10 +74,6 @@ pub extern "C" fn omphirun_surface(
             *quads = q;
             0
         }
-        SurfaceAnswer::BadLevel => 1,
-        SurfaceAnswer::ShortBuffer => 2,
-        SurfaceAnswer::NoGrid => 5,
-        SurfaceAnswer::SignsMisfit => 7,
-        SurfaceAnswer::ShortList => 8,
+        SurfaceAnswer::Refused(why) => why.number(),
     }
 }

@@ -2,7 +2,6 @@
 use mathlib.Core.Path.{_≡_, refl, sym, ap, _∙_}
 use mathlib.Core.Bool.{Bool, true, false, cond}
 use mathlib.Core.List.{List, [], _∷_, _++_, map}
-use mathlib.Core.Logic.{⊎-elim}
 use Prim.Native.Nat.{ℕ, suc, _+_, _*_, _≤_, _<_}
 use native.Mathlib.Numerals.{add-one}
 use native.Mathlib.Omega.{arith}
@@ -10,8 +9,6 @@ use lib.Dec.{eqb, ltb}
 use lib.ListN.{length, getD, take, drop, List·getD-append, List·getD-map}
 use lib.Seq.{take-suc, take-at}
 use borrow.Author.Tests.{ltb-false}
-use types.Run.{OneOf}
-use denote.Enum.Declared.{tagOf}
 use Rattle.rules.specs.declared.Axis.the-variants.{X, Y, Z}
 use Rattle.rules.specs.declared.Point.{Point}
 use Rattle.rules.specs.declared.Place.{Place}
@@ -31,11 +28,11 @@ use Rattle.lattice.specs.declared.level.Level.{Level}
 use Rattle.lattice.specs.Levels.{cellsOf, pointsOf}
 use Rattle.signing.specs.SignBytes.{inside}
 use Rattle.signing.proofs.Rows.{signs-length}
-use Rattle.surfacing.specs.declared.SurfaceAnswer.{SurfaceAnswer}
-use Rattle.surfacing.specs.declared.SurfaceAnswer.the-variants.{Done, BadLevel, ShortBuffer, NoGrid, SignsMisfit, ShortList}
+use Rattle.refusals.proofs.Reasons.{refusal-some}
+use Rattle.refusals.specs.declared.Refusal.{Refusal}
+use Rattle.surfacing.specs.declared.SurfaceAnswer.the-variants.{Done, Refused}
 use Rattle.surfacing.specs.Listing.{quadCount}
-use Rattle.surfacing.specs.Call.{Outcome, told, refused, listed}
-use Rattle.surfacing.proofs.SurfaceAnswer.{the-type}
+use Rattle.surfacing.specs.Call.{Outcome, told, refused, surfaceDone, listed}
 use Rattle.surfacing.proofs.Quads.{quads-length}
 use Rattle.streaming.specs.declared.text.Repaired.{Repaired}
 use Rattle.streaming.specs.Text.{quadLine, refusedLine, listing}
@@ -108,39 +105,28 @@ quads-same n E s t h =
 
 -- ---- what a list of quads tells
 module _ (n : ℕ) (E : Set) (s : Point → Bool) (l l′ : List ℕ) where
-  other : (r : SurfaceAnswer) → OneOf (1 ∷ (2 ∷ (3 ∷ (4 ∷ (5 ∷ []))))) (tagOf the-type r) → told r l′ .number ≡ 0 → ⊥
-  other (Done q) h z =
-      ⊎-elim (λ e. omega arith)
-      (⊎-elim (λ e. omega arith) (⊎-elim (λ e. omega arith) (⊎-elim (λ e. omega arith) (λ e. omega arith)))) h
-  other BadLevel h z = omega arith
-  other ShortBuffer h z = omega arith
-  other NoGrid h z = omega arith
-  other SignsMisfit h z = omega arith
-  other ShortList h z = omega arith
-
   abbrev whole : Outcome
   whole = record { number = 0; quads = quadCount n E; list = quads n E s ++ drop (4 * quadCount n E) l }
 
   -- a surface that is not listed has too many quads
-  not-listed : (r : SurfaceAnswer) → told r l′ ≡ listed n E s l → OneOf (1 ∷ (2 ∷ (3 ∷ (4 ∷ (5 ∷ []))))) (tagOf the-type r)
-      → ltb (length l) (4 * quadCount n E) ≡ true
-  unfolding listed
-  not-listed r e h = go (ltb (length l) (4 * quadCount n E)) e
+  not-listed : (r : Refusal) → told (Refused r) l′ ≡ listed n E s l → ltb (length l) (4 * quadCount n E) ≡ true
+  unfolding listed surfaceDone
+  not-listed r e = go (ltb (length l) (4 * quadCount n E)) e
     where
-      go : (b : Bool) → told r l′ ≡ cond b (refused 8 l) whole → b ≡ true
+      go : (b : Bool) → told (Refused r) l′ ≡ cond b (refused l 8) whole → b ≡ true
       go true e = refl
-      go false e = absurd (other r h (ap (λ (o : Outcome). o .number) e))
+      go false e = absurd (refusal-some r (ap (λ (o : Outcome). o .number) e))
 
   -- one that is listed has room, and its quads stand at the beginning of the list
   is-listed : (q : ℕ) → told (Done q) l′ ≡ listed n E s l
       → (ltb (length l) (4 * quadCount n E) ≡ false) × (q ≡ quadCount n E) × (l′ ≡ quads n E s ++ drop (4 * quadCount n E) l)
-  unfolding listed
+  unfolding listed surfaceDone
   is-listed q e = go (ltb (length l) (4 * quadCount n E)) e
     where
       never : _≡_ {A = ℕ} 0 8 → ⊥
       never z = omega arith
 
-      go : (b : Bool) → told (Done q) l′ ≡ cond b (refused 8 l) whole
+      go : (b : Bool) → told (Done q) l′ ≡ cond b (refused l 8) whole
           → (b ≡ false) × (q ≡ quadCount n E) × (l′ ≡ quads n E s ++ drop (4 * quadCount n E) l)
       go true e = absurd (never (ap (λ (o : Outcome). o .number) e))
       go false e = (refl, ap (λ (o : Outcome). o .quads) e, ap (λ (o : Outcome). o .list) e)
@@ -155,10 +141,9 @@ module _ (level : ℕ) (l : Level) (t : ℕ) (E : Set) (rims flips : ℕ) (g s l
   F = patched n E
 
   -- a surface without room is refused by 8
-  pub refused-is : (r : SurfaceAnswer) → told r list′ ≡ listed n (marks n g) (inside n s) list
-      → OneOf (1 ∷ (2 ∷ (3 ∷ (4 ∷ (5 ∷ []))))) (tagOf the-type r) → refusedLine 8 ≡ repaired level l t E
+  pub refused-is : (r : Refusal) → told (Refused r) list′ ≡ listed n (marks n g) (inside n s) list → refusedLine 8 ≡ repaired level l t E
   unfolding repaired
-  refused-is r e h = rw (rw (long, closed .marks-are) at (not-listed n (marks n g) (inside n s) list list′ r e h))
+  refused-is r e = rw (rw (long, closed .marks-are) at (not-listed n (marks n g) (inside n s) list list′ r e))
 
   -- a list that was written has room for its quads
   pub room-is : (q : ℕ) → told (Done q) list′ ≡ listed n (marks n g) (inside n s) list → 4 * q ≤ 32768

@@ -7,7 +7,6 @@ use showing::put;
 use showing::say;
 use showing::say_number;
 use showing::say_point;
-use signing::SignAnswer;
 use signing::sign;
 use surfacing::SurfaceAnswer;
 use surfacing::surface;
@@ -57,20 +56,10 @@ fn say_inside(signs: &[u8]) {
     }
 }
 
-fn sign_number(answer: SignAnswer) -> u32 {
-    match answer {
-        SignAnswer::Done => 0,
-        SignAnswer::BadLevel => 1,
-        SignAnswer::ShortBuffer => 2,
-        SignAnswer::NoGrid => 5,
-        SignAnswer::OddFace => 6,
-    }
-}
-
 // Signs a grid, in a sign buffer that is longer and dirty.
 fn show_sign(name: &[u8], level: u32, grid: &[u8]) {
     let mut signs = [DIRTY; LONG];
-    let number = sign_number(sign(level, grid, &mut signs));
+    let number = sign(level, grid, &mut signs).number();
     say(b"sign, ");
     say(name);
     say(b": ");
@@ -90,11 +79,7 @@ fn show_sign(name: &[u8], level: u32, grid: &[u8]) {
 fn surface_number(answer: SurfaceAnswer) -> u32 {
     match answer {
         SurfaceAnswer::Done { quads: _ } => 0,
-        SurfaceAnswer::BadLevel => 1,
-        SurfaceAnswer::ShortBuffer => 2,
-        SurfaceAnswer::NoGrid => 5,
-        SurfaceAnswer::SignsMisfit => 7,
-        SurfaceAnswer::ShortList => 8,
+        SurfaceAnswer::Refused(why) => why.number(),
     }
 }
 

@@ -5,25 +5,21 @@ pub mod listing;
 use fit::signs_fit;
 use lattice::level::Level;
 use lattice::level::LevelRead;
-use lattice::level::point_count;
 use lattice::scan::is_grid;
 use listing::count_quads;
 use listing::write_quads;
+use refusals::Refusal;
 ghost use mathlib.Core.Path.{_≡_};
 ghost use Prim.Native.Nat.{_≤_};
 ghost use Rattle.rules.specs.Grid.{marks};
 ghost use Rattle.signing.specs.SignBytes.{inside};
 ghost use Rattle.surfacing.specs.Fit.{Grids};
-ghost use Rattle.surfacing.specs.Call.{told, listed, surfaceSized, surfaceCall};
+ghost use Rattle.surfacing.specs.Call.{told, listed, surfaceCall};
 
 // What the call answers: done, with the number of quads, or why not.
 pub enum SurfaceAnswer {
     Done { quads: u32 },
-    BadLevel,
-    ShortBuffer,
-    NoGrid,
-    SignsMisfit,
-    ShortList,
+    Refused(Refusal),
 }
 
 // Lists the quads of a grid, if the list has room for them.
@@ -33,7 +29,7 @@ pub fn list_quads(n: usize, grid: &[u8], signs: &[u8], list: &mut [u16]) -> Surf
 {
     let quads = count_quads(n, grid);
     if list.len() < 4 * quads {
-        return SurfaceAnswer::ShortList;
+        return SurfaceAnswer::Refused(Refusal::ShortList);
     }
     write_quads(n, grid, signs, list);
     SurfaceAnswer::Done {
@@ -41,33 +37,26 @@ pub fn list_quads(n: usize, grid: &[u8], signs: &[u8], list: &mut [u16]) -> Surf
     }
 }
 
-// Lists the quads of a grid of n cells a side, if the signs fit it.
-fn surface_sized(n: usize, grid: &[u8], signs: &[u8], list: &mut [u16]) -> SurfaceAnswer
-    requires { ⌜ n ≤ 32 ⌝ }
-    ensures { λ r. ⌜ told r (now (list .exit)) ≡ surfaceSized n (now (grid .entry)) (now (signs .entry)) (now (list .entry)) ⌝ }
-{
-    let count = point_count(n);
-    if grid.len() < count {
-        return SurfaceAnswer::ShortBuffer;
-    }
-    if signs.len() < count {
-        return SurfaceAnswer::ShortBuffer;
-    }
-    if !is_grid(n, grid) {
-        return SurfaceAnswer::NoGrid;
-    }
-    if !signs_fit(n, grid, signs) {
-        return SurfaceAnswer::SignsMisfit;
-    }
-    list_quads(n, grid, signs, list)
-}
-
 // The call surface: writes four cell numbers a quad and returns the number of quads. Entries after the last quad keep their contents.
 pub fn surface(level: u32, grid: &[u8], signs: &[u8], list: &mut [u16]) -> SurfaceAnswer
     ensures { λ r. ⌜ told r (now (list .exit)) ≡ surfaceCall level (now (grid .entry)) (now (signs .entry)) (now (list .entry)) ⌝ }
 {
-    match Level::read(level) {
-        LevelRead::Known(l) => surface_sized(l.cells(), grid, signs, list),
-        LevelRead::Unknown => SurfaceAnswer::BadLevel,
+    let LevelRead::Known(l) = Level::read(level) else {
+        return SurfaceAnswer::Refused(Refusal::BadLevel);
+    };
+    let n = l.cells();
+    let count = l.points();
+    if grid.len() < count {
+        return SurfaceAnswer::Refused(Refusal::ShortBuffer);
     }
+    if signs.len() < count {
+        return SurfaceAnswer::Refused(Refusal::ShortBuffer);
+    }
+    if !is_grid(n, grid) {
+        return SurfaceAnswer::Refused(Refusal::NoGrid);
+    }
+    if !signs_fit(n, grid, signs) {
+        return SurfaceAnswer::Refused(Refusal::SignsMisfit);
+    }
+    list_quads(n, grid, signs, list)
 }

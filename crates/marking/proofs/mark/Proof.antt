@@ -1,11 +1,37 @@
 -- `mark` meets its contract. Assumes nothing.
-use mathlib.Core.Path.{_≡_, sym, _∙_}
+use mathlib.Core.Path.{_≡_, sym, ap, _∙_}
+use mathlib.Core.Bool.{true, false}
+use Prim.Native.Nat.{_≤_, _<_}
+use borrow.Author.Tests.{lt-ltb, le-ltb, eq-eqb, ne-eqb}
 use borrow.Author.Needs.{needs}
-use Rattle.lattice.specs.declared.level.LevelRead.the-variants.{Known, Unknown}
-use Rattle.lattice.specs.Levels.{levelOf}
-use Rattle.marking.specs.Mark.{markFor, markCall}
+use lib.ListN.{length}
+use Rattle.rules.specs.Grid.{isGrid}
+use Rattle.lattice.specs.Levels.{cellsOf, pointsOf}
+use Rattle.lattice.proofs.LevelFacts.{cells-most}
+use Rattle.lattice.proofs.Tests.{fails, holds}
+use Rattle.refusals.specs.Columns.{badLevel, levelAt}
+use Rattle.refusals.proofs.Levels.{read-unknown, read-known}
+use Rattle.marking.specs.Outcome.{done}
+use Rattle.marking.specs.Ranges.{allInRange}
+use Rattle.marking.specs.Mark.{markRows, markCall}
+use Rattle.marking.proofs.Ranges.{triangle-within}
 use Rattle.marking.proofs.mark.Statement.{statement}
 use Rattle.marking.proofs.mark.Tie as tie
+
+-- the tests passed on the way
+level-read : (c : tie.After-points) →
+    let s = c .before .before .before .before .before .before in
+    (badLevel (s .args .level) ≡ false) × (levelAt (s .args .level) ≡ c .before .before .l .given .0 .0)
+level-read c = read-known _ _ (sym (c .before .before .before .before .read .ensures) ∙ c .before .before .l .given .1)
+
+long : (c : tie.Else1) → pointsOf (c .before .before .before .l .given .0 .0) ≤ length (c .before .before .before .before .before .before .before .args .grid .now)
+long c = rw (c .before .points .ensures) at (c .if1 .left)
+
+ranged : (c : tie.Else3) → allInRange (c .before .before .before .before .before .before .l .given .0 .0) (c .before .before .before .before .before .before .before .before .before .before .args .triangle .now) ≡ true
+ranged c = holds (c .before .all-in-range .ensures) (c .if3 .left)
+
+a-grid : (c : tie.Else4) → isGrid (cellsOf (c .before .before .before .before .before .before .before .before .before .before .l .given .0 .0)) (c .before .before .before .before .before .before .before .before .before .before .before .before .before .before .args .grid .now) ≡ true
+a-grid c = holds (rw (c .before .before .before .cells .ensures) at (c .before .is-grid .ensures)) (c .if4 .left)
 
 read-requires : tie.Need-read-requires
 read-requires c κs = search needs
@@ -17,25 +43,81 @@ enum-told : tie.Need-enum-told
 enum-told c = search needs
 
 returns : tie.Need-returns
-unfolding markCall markFor
-returns c =
-    let h : levelOf (c .before .before .before .before .args .level) ≡ Unknown = sym (c .before .before .read .ensures) ∙ c .enum-told .given .1 in
-    rw h
+unfolding markRows markCall
+returns c = rw (read-unknown _ (sym (c .before .before .read .ensures) ∙ c .enum-told .given .1))
 
-mark-at-requires : tie.Need-mark-at-requires
-mark-at-requires c κs = search needs
+points-requires : tie.Need-points-requires
+points-requires c κs = search needs
+
+returns-2 : tie.Need-returns-2
+unfolding markRows markCall
+returns-2 c =
+    let k : length (c .before .before .before .before .before .before .before .args .grid .now) < pointsOf (c .before .before .before .l .given .0 .0) = rw (c .before .points .ensures) at (c .if1 .taken) in
+    simp (level-read (c .before) .0, level-read (c .before) .1, lt-ltb _ _ k)
+
+returns-3 : tie.Need-returns-3
+unfolding markRows markCall
+returns-3 c = simp (level-read (c .before .before) .0, level-read (c .before .before) .1, le-ltb _ _ (long (c .before)), ne-eqb _ _ (c .if2 .taken))
+
+all-in-range-requires : tie.Need-all-in-range-requires
+all-in-range-requires c κs = search needs
+
+returns-4 : tie.Need-returns-4
+unfolding markRows markCall
+returns-4 c =
+    let out = fails (c .before .all-in-range .ensures) (c .if3 .taken) in
+    simp (level-read (c .before .before .before .before) .0, level-read (c .before .before .before .before) .1, le-ltb _ _ (long (c .before .before .before)), eq-eqb _ _ (c .before .before .if2 .left), out)
+
+cells-requires : tie.Need-cells-requires
+cells-requires c κs = search needs
+
+is-grid-requires : tie.Need-is-grid-requires
+is-grid-requires c κs = rw (c .before .cells .ensures) (cells-most (c .before .before .before .before .before .before .before .before .l .given .0 .0), long (c .before .before .before .before .before))
 
 same-length : tie.Need-same-length
 same-length c = search needs
 
-returns-2 : tie.Need-returns-2
-unfolding markCall markFor
-returns-2 c =
-    let s = c .before .before .before .before .before .before .before .before .before in
-    let h : levelOf (s .args .level) ≡ Known (c .before .before .before .before .before .l .given .0 .0) = sym (c .before .before .before .before .before .before .before .read .ensures) ∙ c .before .before .before .before .before .l .given .1 in
-    rw h (c .before .before .mark-at .ensures)
+returns-5 : tie.Need-returns-5
+unfolding markRows markCall
+returns-5 c =
+    let none = fails (rw (c .before .before .before .cells .ensures) at (c .before .is-grid .ensures)) (c .if4 .taken) in
+    simp (level-read (c .before .before .before .before .before .before .before .before) .0, level-read (c .before .before .before .before .before .before .before .before) .1, le-ltb _ _ (long (c .before .before .before .before .before .before .before)), eq-eqb _ _ (c .before .before .before .before .before .before .if2 .left), ranged (c .before .before .before .before), none)
+
+triangle-of-requires : tie.Need-triangle-of-requires
+triangle-of-requires c κs = search needs
+
+mark-grid-requires : tie.Need-mark-grid-requires
+mark-grid-requires c κs =
+    let w = triangle-within (c .before .before .before .before .before .before .before .before .before .before .before .before .l .given .0 .0) (c .before .before .before .before .before .before .before .before .before .before .before .before .before .before .before .before .args .triangle .now) (c .before .before .before .before .before .before .before .before .if2 .left) (ranged (c .before .before .before .before .before .before)) in
+    (rw (c .triangle-of .ensures) w, (long (c .before .before .before .before .before .before .before .before .before), a-grid (c .before .before)))
+
+same-length-2 : tie.Need-same-length-2
+same-length-2 c = search needs
+
+returns-6 : tie.Need-returns-6
+unfolding markRows markCall
+returns-6 c =
+    let m = rw (c .before .before .before .triangle-of .ensures) at (c .before .before .mark-grid .ensures) in
+    simp (level-read (c .before .before .before .before .before .before .before .before .before .before .before .before .before) .0, level-read (c .before .before .before .before .before .before .before .before .before .before .before .before .before) .1, le-ltb _ _ (long (c .before .before .before .before .before .before .before .before .before .before .before .before)), eq-eqb _ _ (c .before .before .before .before .before .before .before .before .before .before .before .if2 .left), ranged (c .before .before .before .before .before .before .before .before .before), a-grid (c .before .before .before .before .before)) (ap done m)
 
 pub mark-spec : {M : Type 1} → statement M
 mark-spec =
     tie.close
-    (tie.spec read-requires enum-known-l enum-told returns mark-at-requires same-length returns-2)
+    (tie.spec
+    read-requires
+    enum-known-l
+    enum-told
+    returns
+    points-requires
+    returns-2
+    returns-3
+    all-in-range-requires
+    returns-4
+    cells-requires
+    is-grid-requires
+    same-length
+    returns-5
+    triangle-of-requires
+    mark-grid-requires
+    same-length-2
+    returns-6)

@@ -1,11 +1,34 @@
--- `patch` reads the level, and answers as the call's definition says. Assumes nothing.
-use mathlib.Core.Path.{_∙_, sym, ap}
+-- `patch` gives the first row that applies, and patches where none does. Assumes nothing.
+use mathlib.Core.Path.{_≡_, sym, _∙_}
+use mathlib.Core.Bool.{true, false}
+use Prim.Native.Nat.{_≤_}
 use borrow.Author.Needs.{needs}
-use Rattle.lattice.specs.declared.level.LevelRead.{LevelRead}
+use borrow.Author.Tests.{lt-ltb, le-ltb}
+use lib.ListN.{length}
+use Rattle.rules.specs.Grid.{isGrid}
+use Rattle.lattice.specs.Levels.{cellsOf, pointsOf}
 use Rattle.lattice.proofs.LevelFacts.{cells-some, cells-most}
-use Rattle.patching.specs.Call.{patchFor, patchCall, patchSized}
+use Rattle.lattice.proofs.Tests.{fails, holds}
+use Rattle.refusals.specs.Columns.{badLevel, levelAt}
+use Rattle.refusals.proofs.Levels.{read-unknown, read-known}
+use Rattle.patching.specs.Call.{patchRows, patchCall}
 use Rattle.patching.proofs.patch.Statement.{statement}
 use Rattle.patching.proofs.patch.Tie as tie
+
+-- the tests passed on the way
+level-read : (c : tie.After-points) →
+    let s = c .before .before .before .before .before .before .before .before in
+    (badLevel (s .args .level) ≡ false) × (levelAt (s .args .level) ≡ c .before .before .before .l .given .0 .0)
+level-read c = read-known _ _ (sym (c .before .before .before .before .before .read .ensures) ∙ c .before .before .before .l .given .1)
+
+grid-long : (c : tie.Else1) → pointsOf (c .before .before .before .before .l .given .0 .0) ≤ length (c .before .before .before .before .before .before .before .before .before .args .grid .now)
+grid-long c = rw (c .before .points .ensures) at (c .if1 .left)
+
+work-long : (c : tie.Else2) → pointsOf (c .before .before .before .before .before .l .given .0 .0) ≤ length (c .before .before .before .before .before .before .before .before .before .before .args .work .now)
+work-long c = rw (c .before .before .points .ensures) at (c .if2 .left)
+
+a-grid : (c : tie.Else3) → isGrid (cellsOf (c .before .before .before .before .before .before .before .before .l .given .0 .0)) (c .before .before .before .before .before .before .before .before .before .before .before .before .before .args .grid .now) ≡ true
+a-grid c = holds (rw (c .before .before .before .before .before .before .cells .ensures) at (c .before .is-grid .ensures)) (c .if3 .left)
 
 read-requires : tie.Need-read-requires
 read-requires c κs = search needs
@@ -17,28 +40,51 @@ enum-told : tie.Need-enum-told
 enum-told c = search needs
 
 returns : tie.Need-returns
-unfolding patchCall
-returns c = ap (λ (v : LevelRead). patchFor v (c .before .before .before .before .before .args .grid .now) (c .before .before .before .before .before .args .work .now)) (sym (c .enum-told .given .1) ∙ c .before .before .read .ensures)
+unfolding patchRows patchCall
+returns c = rw (read-unknown _ (sym (c .before .before .read .ensures) ∙ c .enum-told .given .1))
 
 cells-requires : tie.Need-cells-requires
 cells-requires c κs = search needs
 
-patch-sized-requires : tie.Need-patch-sized-requires
-patch-sized-requires c κs =
-    rw (c .before .before .cells .ensures) (cells-some (c .before .before .before .before .l .given .0 .0), cells-most (c .before .before .before .before .l .given .0 .0))
+points-requires : tie.Need-points-requires
+points-requires c κs = search needs
+
+returns-2 : tie.Need-returns-2
+unfolding patchRows patchCall
+returns-2 c = simp (level-read (c .before) .0, level-read (c .before) .1, lt-ltb _ _ (rw (c .before .points .ensures) at (c .if1 .taken)))
+
+returns-3 : tie.Need-returns-3
+unfolding patchRows patchCall
+returns-3 c = simp (level-read (c .before .before) .0, level-read (c .before .before) .1, le-ltb _ _ (grid-long (c .before)), lt-ltb _ _ (rw (c .before .before .points .ensures) at (c .if2 .taken)))
+
+is-grid-requires : tie.Need-is-grid-requires
+is-grid-requires c κs = rw (c .before .before .before .before .cells .ensures) (cells-most (c .before .before .before .before .before .before .l .given .0 .0), grid-long (c .before .before))
 
 same-length : tie.Need-same-length
 same-length c = search needs
 
+returns-4 : tie.Need-returns-4
+unfolding patchRows patchCall
+returns-4 c =
+    let none = fails (rw (c .before .before .before .before .before .before .cells .ensures) at (c .before .is-grid .ensures)) (c .if3 .taken) in
+    simp (level-read (c .before .before .before .before .before) .0, level-read (c .before .before .before .before .before) .1, le-ltb _ _ (grid-long (c .before .before .before .before)), le-ltb _ _ (work-long (c .before .before .before)), none)
+
+patch-grid-requires : tie.Need-patch-grid-requires
+patch-grid-requires c κs =
+    rw (c .before .before .before .before .before .before .before .before .cells .ensures)
+    (cells-some (c .before .before .before .before .before .before .before .before .before .before .l .given .0 .0), cells-most (c .before .before .before .before .before .before .before .before .before .before .l .given .0 .0), grid-long (c .before .before .before .before .before .before), work-long (c .before .before .before .before .before), a-grid (c .before .before))
+
 same-length-2 : tie.Need-same-length-2
 same-length-2 c = search needs
 
-returns-2 : tie.Need-returns-2
-unfolding patchCall
-returns-2 c =
-    c .before .before .before .before .patch-sized .ensures
-    ∙ ap (λ n. patchSized n (c .before .before .before .before .before .before .before .before .before .before .before .before .before .before .args .grid .now) (c .before .before .before .before .before .before .before .before .before .before .before .before .before .before .args .work .now)) (c .before .before .before .before .before .before .before .cells .ensures)
-    ∙ ap (λ (v : LevelRead). patchFor v (c .before .before .before .before .before .before .before .before .before .before .before .before .before .before .args .grid .now) (c .before .before .before .before .before .before .before .before .before .before .before .before .before .before .args .work .now)) (sym (c .before .before .before .before .before .before .before .before .before .l .given .1) ∙ c .before .before .before .before .before .before .before .before .before .before .before .read .ensures)
+same-length-3 : tie.Need-same-length-3
+same-length-3 c = search needs
+
+returns-5 : tie.Need-returns-5
+unfolding patchRows patchCall
+returns-5 c =
+    simp (level-read (c .before .before .before .before .before .before .before .before .before .before .before .before) .0, level-read (c .before .before .before .before .before .before .before .before .before .before .before .before) .1, le-ltb _ _ (grid-long (c .before .before .before .before .before .before .before .before .before .before .before)), le-ltb _ _ (work-long (c .before .before .before .before .before .before .before .before .before .before)), a-grid (c .before .before .before .before .before .before .before))
+    (rw (c .before .before .before .before .before .before .before .before .before .before .before .before .before .cells .ensures) at (c .before .before .before .before .patch-grid .ensures))
 
 pub patch-spec : {M : Type 1} → statement M
 patch-spec =
@@ -49,7 +95,13 @@ patch-spec =
     enum-told
     returns
     cells-requires
-    patch-sized-requires
+    points-requires
+    returns-2
+    returns-3
+    is-grid-requires
     same-length
+    returns-4
+    patch-grid-requires
     same-length-2
-    returns-2)
+    same-length-3
+    returns-5)

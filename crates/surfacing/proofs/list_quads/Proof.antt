@@ -4,7 +4,7 @@ use borrow.Author.Tests.{lt-ltb, le-ltb}
 use mathlib.Core.Path.{sym, ap}
 use mathlib.Core.List.{List}
 use Prim.Native.Nat.{ℕ}
-use Rattle.surfacing.specs.Call.{listed, told}
+use Rattle.surfacing.specs.Call.{listed, surfaceDone, told}
 use Rattle.surfacing.specs.declared.SurfaceAnswer.the-variants.{Done}
 use Rattle.surfacing.proofs.list_quads.Statement.{statement}
 use Rattle.surfacing.proofs.list_quads.Tie as tie
@@ -16,20 +16,20 @@ mul-if1 : tie.Need-mul-if1
 mul-if1 c = search needs
 
 returns : tie.Need-returns
-unfolding listed
+unfolding listed surfaceDone
 returns c = simp (sym (c .before .count-quads .ensures .0), lt-ltb _ _ (c .if1 .taken))
 
 write-quads-requires : tie.Need-write-quads-requires
 write-quads-requires c κs = search needs
 
-cast-t12 : tie.Need-cast-t12
-cast-t12 c = search needs
+cast-t13 : tie.Need-cast-t13
+cast-t13 c = search needs
 
 same-length : tie.Need-same-length
 same-length c = search needs
 
 returns-2 : tie.Need-returns-2
-unfolding listed
+unfolding listed surfaceDone
 returns-2 c =
     simp (sym (c .before .before .before .before .before .count-quads .ensures .0), le-ltb _ _ (c .before .before .before .before .if1 .left))
     (ap (λ (l : List ℕ). told (Done (c .before .before .before .before .before .count-quads .result)) l) (rw (c .before .before .before .before .before .count-quads .ensures .0) (c .before .before .write-quads .ensures)))
@@ -42,6 +42,6 @@ list-quads-spec =
     mul-if1
     returns
     write-quads-requires
-    cast-t12
+    cast-t13
     same-length
     returns-2)

@@ -1,12 +1,44 @@
--- `surfacing::surface` meets its contract: the call at the level's cells a side, or number 1. Assumes nothing.
+-- `surface` gives the first row that applies, and lists the quads where none does. Assumes nothing.
+use mathlib.Core.Path.{_≡_, sym, _∙_}
+use mathlib.Core.Bool.{true, false}
+use Prim.Native.Nat.{_≤_}
 use borrow.Author.Needs.{needs}
-use mathlib.Core.Path.{ap, sym, _∙_}
-use Prim.Native.Nat.{ℕ}
-use Rattle.lattice.specs.declared.level.LevelRead.{LevelRead}
+use borrow.Author.Tests.{lt-ltb, le-ltb}
+use lib.ListN.{length}
+use Rattle.rules.specs.Grid.{marks}
+use Rattle.lattice.specs.Levels.{cellsOf, pointsOf}
 use Rattle.lattice.proofs.LevelFacts.{cells-most}
-use Rattle.surfacing.specs.Call.{surfaceSized, surfaceFor}
+use Rattle.lattice.proofs.Tests.{fails, holds}
+use Rattle.refusals.specs.Columns.{badLevel, levelAt}
+use Rattle.refusals.proofs.Levels.{read-unknown, read-known}
+use Rattle.surfacing.specs.Fit.{signsFit, Grids}
+use Rattle.surfacing.specs.Call.{listed, surfaceRows, surfaceCall}
 use Rattle.surfacing.proofs.surface.Statement.{statement}
 use Rattle.surfacing.proofs.surface.Tie as tie
+
+-- the tests passed on the way
+level-read : (c : tie.After-points) →
+    let s = c .before .before .before .before .before .before .before .before .before in
+    (badLevel (s .args .level) ≡ false) × (levelAt (s .args .level) ≡ c .before .before .before .l .given .0 .0)
+level-read c = read-known _ _ (sym (c .before .before .before .before .before .read .ensures) ∙ c .before .before .before .l .given .1)
+
+grid-long : (c : tie.Else1) → pointsOf (c .before .before .before .before .l .given .0 .0) ≤ length (c .before .before .before .before .before .before .before .before .before .before .args .grid .now)
+grid-long c = rw (c .before .points .ensures) at (c .if1 .left)
+
+known : (c : tie.Else3) →
+    let s = c .before .before .before .before .before .before .before .before .before .before .before .before .before in
+    Grids (cellsOf (c .before .before .before .before .before .before .before .l .given .0 .0)) (s .args .grid .now) (s .args .signs .now)
+known c = record {
+  g-long = grid-long (c .before .before .before);
+  s-long = rw (c .before .before .before .before .points .ensures) at (c .before .before .if2 .left);
+  grid = holds (rw (c .before .before .before .before .before .cells .ensures) at (c .before .is-grid .ensures)) (c .if3 .left);
+}
+
+fit : (c : tie.Else4) →
+    let s = c .before .before .before .before .before .before .before .before .before .before .before .before .before .before .before in
+    let n = cellsOf (c .before .before .before .before .before .before .before .before .before .l .given .0 .0) in
+    signsFit n (marks n (s .args .grid .now)) (s .args .signs .now) ≡ true
+fit c = holds (rw (c .before .before .before .before .before .before .before .cells .ensures) at (c .before .signs-fit .ensures)) (c .if4 .left)
 
 read-requires : tie.Need-read-requires
 read-requires c κs = search needs
@@ -14,31 +46,58 @@ read-requires c κs = search needs
 enum-known-l : tie.Need-enum-known-l
 enum-known-l c = search needs
 
+enum-told : tie.Need-enum-told
+enum-told c = search needs
+
+returns : tie.Need-returns
+unfolding surfaceRows surfaceCall
+returns c = rw (read-unknown _ (sym (c .before .before .read .ensures) ∙ c .enum-told .given .1))
+
 cells-requires : tie.Need-cells-requires
 cells-requires c κs = search needs
 
-surface-sized-requires : tie.Need-surface-sized-requires
-surface-sized-requires c κs = rw (c .before .cells .ensures) (cells-most (c .before .before .before .l .given .0 .0))
+points-requires : tie.Need-points-requires
+points-requires c κs = search needs
 
-enum-told : tie.Need-enum-told
-enum-told c = search needs
+returns-2 : tie.Need-returns-2
+unfolding surfaceRows surfaceCall
+returns-2 c = simp (level-read (c .before) .0, level-read (c .before) .1, lt-ltb _ _ (rw (c .before .points .ensures) at (c .if1 .taken)))
+
+returns-3 : tie.Need-returns-3
+unfolding surfaceRows surfaceCall
+returns-3 c = simp (level-read (c .before .before) .0, level-read (c .before .before) .1, le-ltb _ _ (grid-long (c .before)), lt-ltb _ _ (rw (c .before .before .points .ensures) at (c .if2 .taken)))
+
+is-grid-requires : tie.Need-is-grid-requires
+is-grid-requires c κs = rw (c .before .before .before .cells .ensures) (cells-most (c .before .before .before .before .before .l .given .0 .0), grid-long (c .before))
+
+returns-4 : tie.Need-returns-4
+unfolding surfaceRows surfaceCall
+returns-4 c =
+    let none = fails (rw (c .before .before .before .before .before .cells .ensures) at (c .before .is-grid .ensures)) (c .if3 .taken) in
+    simp (level-read (c .before .before .before .before) .0, level-read (c .before .before .before .before) .1, le-ltb _ _ (grid-long (c .before .before .before)), le-ltb _ _ (rw (c .before .before .before .before .points .ensures) at (c .before .before .if2 .left)), none)
+
+signs-fit-requires : tie.Need-signs-fit-requires
+signs-fit-requires c κs = rw (c .before .before .before .before .before .cells .ensures) (cells-most (c .before .before .before .before .before .before .before .l .given .0 .0), known c)
+
+returns-5 : tie.Need-returns-5
+unfolding surfaceRows surfaceCall
+returns-5 c =
+    let k = known (c .before .before) in
+    let out = fails (rw (c .before .before .before .before .before .before .before .cells .ensures) at (c .before .signs-fit .ensures)) (c .if4 .taken) in
+    simp (level-read (c .before .before .before .before .before .before) .0, level-read (c .before .before .before .before .before .before) .1, le-ltb _ _ (k .g-long), le-ltb _ _ (k .s-long), k .grid, out)
+
+list-quads-requires : tie.Need-list-quads-requires
+list-quads-requires c κs = rw (c .before .before .before .before .before .before .before .before .cells .ensures) (cells-most (c .before .before .before .before .before .before .before .before .before .before .l .given .0 .0), known (c .before .before .before))
 
 same-length : tie.Need-same-length
 same-length c = search needs
 
-returns : tie.Need-returns
-unfolding surfaceFor
-returns c =
-    let start = c .before .before .before .before .before .before .before .before .before .before .before .before in
-    c .before .before .surface-sized .ensures
-    ∙ ap (λ (n : ℕ). surfaceSized n (start .args .grid .now) (start .args .signs .now) (start .args .list .now)) (c .before .before .before .before .cells .ensures)
-    ∙ ap (λ (v : LevelRead). surfaceFor v (start .args .grid .now) (start .args .signs .now) (start .args .list .now)) (sym (c .before .before .before .before .before .before .l .given .1) ∙ c .before .before .before .before .before .before .before .before .read .ensures)
-
-returns-2 : tie.Need-returns-2
-unfolding surfaceFor
-returns-2 c =
-    let start = c .before .before .before .before .before .before in
-    ap (λ (v : LevelRead). surfaceFor v (start .args .grid .now) (start .args .signs .now) (start .args .list .now)) (sym (c .enum-told .given .1) ∙ c .before .before .read .ensures)
+returns-6 : tie.Need-returns-6
+unfolding listed surfaceRows surfaceCall
+returns-6 c =
+    let k = known (c .before .before .before .before .before .before) in
+    simp (level-read (c .before .before .before .before .before .before .before .before .before .before) .0, level-read (c .before .before .before .before .before .before .before .before .before .before) .1, le-ltb _ _ (k .g-long), le-ltb _ _ (k .s-long), k .grid, fit (c .before .before .before .before))
+    (rw (c .before .before .before .before .before .before .before .before .before .before .before .cells .ensures) at (c .before .before .list-quads .ensures))
 
 pub surface-spec : {M : Type 1} → statement M
 surface-spec =
@@ -46,9 +105,16 @@ surface-spec =
     (tie.spec
     read-requires
     enum-known-l
-    cells-requires
-    surface-sized-requires
     enum-told
-    same-length
     returns
-    returns-2)
+    cells-requires
+    points-requires
+    returns-2
+    returns-3
+    is-grid-requires
+    returns-4
+    signs-fit-requires
+    returns-5
+    list-quads-requires
+    same-length
+    returns-6)

@@ -27,6 +27,9 @@ list-quads-requires c κs =
 enum-known-quads : tie.Need-enum-known-quads
 enum-known-quads c = search needs
 
+enum-told : tie.Need-enum-told
+enum-told c = search needs
+
 put-refusal-requires : tie.Need-put-refusal-requires
 put-refusal-requires c κs = search needs
 
@@ -44,13 +47,14 @@ same-length-4 c = search needs
 
 returns : tie.Need-returns
 returns c =
-    let s = c .before .before .before .before .before .before .before .before .before .before .before .before .before .before .before .before .before .before .before .before .before .before .before in
-    let e = c .before .before .before .before .before .before .before .before .before .before .before .before .before .before .before .before .before .before .cells .ensures in
-    let k = c .before .before .before .before .before .before .before .before .before .before .before .before .before .before .before .close-grid in
-    let q = c .before .before .before .before .before .before .before .list-quads in
+    let s = c .before .before .before .before .before .before .before .before .before .before .before .before .before .before .before .before .before .before .before .before .before .before .before .before in
+    let e = c .before .before .before .before .before .before .before .before .before .before .before .before .before .before .before .before .before .before .before .cells .ensures in
+    let k = c .before .before .before .before .before .before .before .before .before .before .before .before .before .before .before .before .close-grid in
+    let q = c .before .before .before .before .before .before .before .before .list-quads in
+    let d = c .before .before .before .before .enum-told .given in
     let p = c .before .before .put-refusal .ensures in (
       p .0
-          ∙ refused-is (s .args .level) (s .args .l) (s .args .triangles) _ _ _ _ _ _ _ (rw e at (k .ensures)) (s .pre .1 .0) (q .result) (rw e at (q .ensures)) (c .before .before .before .before .match .keys2),
+          ∙ refused-is (s .args .level) (s .args .l) (s .args .triangles) _ _ _ _ _ _ _ (rw e at (k .ensures)) (s .pre .1 .0) (d .0 .0) (rw (d .1, e) at (q .ensures)),
       p .1,
     )
 
@@ -107,6 +111,7 @@ report-spec =
     close-grid-requires
     list-quads-requires
     enum-known-quads
+    enum-told
     put-refusal-requires
     same-length
     same-length-2

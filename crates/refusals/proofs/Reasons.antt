@@ -1,0 +1,21 @@
+-- A refusal is settled by its number. Assumes nothing.
+use mathlib.Core.Path.{_≡_, refl, sym, ap, _∙_}
+use mathlib.Core.Bool.{Bool, true, false, true≢false}
+use Prim.Native.Nat.{ℕ}
+use Rattle.refusals.specs.declared.Refusal.{Refusal}
+use Rattle.refusals.specs.declared.Refusal.the-variants.{BadLevel, ShortBuffer, NotNine, OutOfRange, NoGrid, OddFace, SignsMisfit, ShortList}
+use Rattle.refusals.specs.Reasons.{numberOf, readNumber}
+
+pub read-back : {A : Type 0} (done : A) (refused : Refusal → A) (r : Refusal) → readNumber (numberOf r) done refused ≡ refused r
+read-back done refused BadLevel = refl
+read-back done refused ShortBuffer = refl
+read-back done refused NotNine = refl
+read-back done refused OutOfRange = refl
+read-back done refused NoGrid = refl
+read-back done refused OddFace = refl
+read-back done refused SignsMisfit = refl
+read-back done refused ShortList = refl
+
+-- and none has number 0
+pub refusal-some : (r : Refusal) → numberOf r ≡ 0 → ⊥
+refusal-some r z = true≢false (sym (read-back false (λ x. true) r) ∙ ap (λ (k : ℕ). readNumber k false (λ x. true)) z)
