@@ -17,7 +17,7 @@ static uint8_t grid[MOST_POINTS], work[MOST_POINTS], signs[MOST_POINTS];
 /* Stops at a refusal. */
 static void done(const char *call, uint32_t number)
 {
-    if (number == 0)
+    if (number == OMPHIRUN_DONE)
         return;
     printf("%s refused by %u\n", call, (unsigned)number);
     exit(1);
@@ -64,8 +64,8 @@ int main(int words, char **word)
             printf("layer %zu: %u points\n", k, cured);
     }
 
-    /* There is a quad for each marked edge, so three for each point are always enough. */
-    size_t room = 4 * 3 * MOST_POINTS;
+    /* Long enough for every surface of the level, so that the call is never refused by 8. */
+    size_t room = OMPHIRUN_LIST(level);
     uint16_t *list = malloc(room * sizeof *list);
     if (list == NULL)
         return 2;

@@ -9,8 +9,8 @@
    stands only on an inner edge, one whose two crosswise coordinates lie in 1..n-1; a byte above 7 or a mark elsewhere makes the
    buffer no grid. Signs are one byte a point, 0 outside and 1 inside.
 
-   Every call returns 0 when it is done, or else the lowest number of this table that applies; each number is given exactly when
-   its line says, for any contents of the buffers.
+   Every call returns OMPHIRUN_DONE, 0, or else the lowest number of this table that applies; each number is given exactly when its line
+   says, for any contents of the buffers. The names stand below.
 
      1  the level is not 2 to 5                                    all calls
      2  a grid, work or sign buffer is shorter than P              all calls
@@ -22,13 +22,20 @@
         differ in sign and that has no mark, or one with a mark
         whose ends do not differ                                   surface
      8  the list is shorter than four times the quads              surface
+     9  more than 100,000 triangles                                the program repair alone
 
    A refusal changes no buffer and sets every count to 0. Grid, work and sign buffers may be longer than P, and the list longer
-   than it has to be: what lies behind is neither read nor changed. There is no state between calls: what they need is in the
-   buffers, and threads may call at the same time with buffers of their own.
+   than it has to be: what lies behind is neither read nor changed.
 
-   What the caller owes: each pointer is valid for as many elements as its length says, and no buffer or count of a call overlaps
-   another one that the call writes. Every other misuse is a refusal. Each promise here is a theorem about the code behind it. */
+   What the caller owes, and no call can check:
+   - each pointer to a buffer is valid for as many elements as its length says, and aligned for them; lengths are in elements. A null
+     pointer is fine where the length is 0: that is an empty buffer;
+   - each pointer to a count (rims, flips, quads) is valid: it is written in every case, so it is never null;
+   - no buffer or count that a call writes overlaps another one of that call. Two that it only reads may;
+   - OMPHIRUN_STACK bytes of stack are left. The calls take no memory but that and what is lent, and keep no state.
+   Every other misuse is a refusal. Each promise here is a theorem about the code behind it, under these conditions. That calls with
+   buffers of their own may run in several threads at the same time follows from there being no state; it is no theorem, since the proof
+   knows one thread only. Nor is the stack: it was measured, and a test holds it. */
 #ifndef OMPHIRUN_H
 #define OMPHIRUN_H
 
@@ -39,10 +46,36 @@
 extern "C" {
 #endif
 
+/* The version: the first number rises when a caller has to change, the second when there is something new. It stands here alone. */
+#define OMPHIRUN_MAJOR 1
+#define OMPHIRUN_MINOR 0
+#define OMPHIRUN_PATCH 0
+
+/* What a call returns. */
+enum omphirun_number {
+    OMPHIRUN_DONE = 0,
+    OMPHIRUN_BAD_LEVEL = 1,
+    OMPHIRUN_SHORT_BUFFER = 2,
+    OMPHIRUN_NOT_NINE = 3,
+    OMPHIRUN_OUT_OF_RANGE = 4,
+    OMPHIRUN_NO_GRID = 5,
+    OMPHIRUN_ODD_FACE = 6,
+    OMPHIRUN_SIGNS_MISFIT = 7,
+    OMPHIRUN_SHORT_LIST = 8,
+    OMPHIRUN_MANY_TRIANGLES = 9
+};
+
 /* Cells a side, points and a cell's side at a level from 2 to 5. */
 #define OMPHIRUN_CELLS(level) (1u << (level))
 #define OMPHIRUN_POINTS(level) ((OMPHIRUN_CELLS(level) + 1) * (OMPHIRUN_CELLS(level) + 1) * (OMPHIRUN_CELLS(level) + 1))
 #define OMPHIRUN_SIDE(level) (1 << (20 - (level)))
+
+/* A list that is long enough for every surface at a level, in numbers: four for each inner edge, of which there are 3 n (n-1)^2. */
+#define OMPHIRUN_EDGES(level) (3 * OMPHIRUN_CELLS(level) * (OMPHIRUN_CELLS(level) - 1) * (OMPHIRUN_CELLS(level) - 1))
+#define OMPHIRUN_LIST(level) (4 * OMPHIRUN_EDGES(level))
+
+/* Bytes of stack that are enough for any call: patch was measured to take 6.5 kB, every other call less than 1 kB. */
+#define OMPHIRUN_STACK 8192
 
 /* Open. The first P bytes of the grid become 0, whatever they held: a grid without marks.
    Refusals: 1, 2. */
@@ -50,7 +83,8 @@ uint32_t omphirun_open(uint32_t level, uint8_t *grid, size_t grid_len);
 
 /* Mark. The triangle is nine lattice coordinates, Ax Ay Az Bx By Bz Cx Cy Cz. The marks of all edges that it meets are added; none
    is removed, and no other byte changes. An edge is met when none of thirteen axes separates it from the triangle; touching is
-   meeting. Triangles of no area are allowed. The order of triangles makes no difference, nor does marking one twice.
+   meeting. Triangles of no area are allowed. The order of triangles makes no difference, nor does marking one twice. Each call looks at
+   all P bytes first, since it takes any buffer and 5 has to be told: for a small triangle that is most of its time.
    Refusals: 1, 2, 3, 4, 5. */
 uint32_t omphirun_mark(uint32_t level, uint8_t *grid, size_t grid_len, const int32_t *triangle, size_t triangle_len);
 

@@ -5,6 +5,7 @@ A stream is one level byte, then nine little-endian i32 a triangle. Shapes are g
 lattice at the end. Walls are more than one and a half cells thick: thinner ones do not survive on so few cells.
 
 usage: models/make.py [FOLDER]                          writes every model into the folder (this one when none is given)
+       models/make.py --whole FOLDER                    writes models without damage, which have rims all the same, and a bowl of one sheet
        models/make.py --lampshade TRIANGLES LEVEL FILE  writes a whole lampshade of about so many triangles
 """
 import math
@@ -30,13 +31,13 @@ def quad(a, b, c, d):
     return [t for t in ((a, b, c), (a, c, d)) if len(set(t)) == 3]
 
 
-def turned(profile, segments):
-    """The closed profile of (radius, height) corners, turned about the upright line through the middle."""
+def turned(profile, segments, closed=True):
+    """The profile of (radius, height) corners, closed or not, turned about the upright line through the middle."""
     def corner(radius, height, segment):
         angle = 2 * math.pi * ((segment % segments) + 0.5) / segments
         return (MIDDLE + radius * math.cos(angle), MIDDLE + radius * math.sin(angle), height)
     triangles = []
-    for (r, h), (s, g) in zip(profile, profile[1:] + profile[:1]):
+    for (r, h), (s, g) in zip(profile, profile[1:] + profile[:1] * closed):
         for segment in range(segments):
             if r or s:
                 triangles += quad(corner(r, h, segment), corner(r, h, segment + 1), corner(s, g, segment + 1), corner(s, g, segment))
@@ -126,6 +127,11 @@ def bowl():
     return [t for t in triangles if t]
 
 
+def sheet_bowl():
+    """The outer side of the bowl alone, a sheet without a wall."""
+    return turned(arc(BOWL, RIM, -math.pi / 2, 0, 8), 32, closed=False)
+
+
 def bowl_depth(p):
     radius = from_middle(p, RIM)
     return min(BOWL - radius, radius - BOWL + 3, RIM - p[2])
@@ -199,6 +205,14 @@ MODELS = {
 }
 
 
+# Nothing is missing from these.
+WHOLE = {
+    "whole_lampshade": lambda: lampshade_triangles(32, 6),
+    "whole_sphere": lambda: sphere(32, 16, BALL),
+    "sheet_bowl": sheet_bowl,
+}
+
+
 def write(path, level, triangles):
     with open(path, "wb") as file:
         file.write(lattice(level, triangles))
@@ -207,12 +221,15 @@ def write(path, level, triangles):
 def main(words):
     if len(words) == 4 and words[0] == "--lampshade" and words[1].isdigit() and words[2] in ("2", "3", "4", "5"):
         write(words[3], int(words[2]), fitted_lampshade(int(words[1]), int(words[2])))
+    elif len(words) == 2 and words[0] == "--whole" and os.path.isdir(words[1]):
+        for name, make in WHOLE.items():
+            write(os.path.join(words[1], name + ".bin"), 5, make())
     elif not words or (len(words) == 1 and os.path.isdir(words[0])):
         folder = words[0] if words else os.path.dirname(os.path.abspath(__file__))
         for name, (level, make, _) in MODELS.items():
             write(os.path.join(folder, name + ".bin"), level, make())
     else:
-        sys.exit("usage: models/make.py [FOLDER] | --lampshade TRIANGLES LEVEL FILE")
+        sys.exit("usage: models/make.py [FOLDER] | --whole FOLDER | --lampshade TRIANGLES LEVEL FILE")
 
 
 if __name__ == "__main__":

@@ -1,10 +1,8 @@
-# Functions for the scripts of tests/ and bench/: the kit, a compiler for x86-64, and how programs for x86-64 are run here.
-# A script sets `me` (its name) and `root` (the repository's folder) before it reads this file. All work is done in target/.
+# Functions for ./repair, ./test and the scripts of tests/ and bench/: the kit, what rt makes and how its programs are run, and the end of a
+# script. A script sets `me` (its name) and `root` (the repository's folder) before it reads this file. What is made goes to target/; what
+# is temporary goes to a folder that is removed at the end, after a signal too.
 
 work=$root/target/tests
-harness='compare calls sides shrink examples inputs grids reference reference_mark reference_patch'
-reference='reference reference_mark reference_patch reference_repair'
-flags='-O2 -std=gnu11 -Wall -Wextra'
 
 say() { printf '%s: %s\n' "$me" "$*" >&2; }
 die() {
@@ -12,76 +10,131 @@ die() {
     exit 2
 }
 
-# Installs a Debian package for something that is missing.
-install() { # PACKAGE MISSING
-    command -v apt-get >/dev/null 2>&1 || die "$2 is missing: install it (Debian's package $1)"
-    [ "$(id -u)" = 0 ] || die "$2 is missing: run 'apt-get install $1' as root"
-    say "installing Debian's package $1 for $2"
-    get="apt-get install -y --no-install-recommends $1"
-    { $get || { apt-get update && $get; }; } >/dev/null 2>&1 || die "apt-get could not install $1"
-}
+# ---- what has to be there; nothing is installed
 
-need() { command -v "$1" >/dev/null 2>&1 || install "$2" "$1"; } # COMMAND PACKAGE
-need_file() { [ -e "$1" ] || install "$2" "$1"; }                 # FILE PACKAGE
+missing() { die "$1 is missing: install it (Debian's package $2)"; }
+need() { command -v "$1" >/dev/null 2>&1 || missing "$1" "$2"; } # COMMAND PACKAGE
+need_file() { [ -e "$1" ] || missing "$1" "$2"; }                 # FILE PACKAGE
 
-# The kit's folder for this machine: its loader and C library, and an emulator where programs for x86-64 do not run by themselves.
+# The kit's folder, with its loader and C library, and an emulator where programs for x86-64 do not run by themselves.
 find_kit() {
     rt=$(command -v rt) || die "rt is not on the path: install the Rattle kit"
-    tools=${RATTLE_HOME:-$(dirname "$(readlink -f "$rt")")/..}/on/$(uname -m)/toolchain
+    kit=${RATTLE_HOME:-$(dirname "$(dirname "$(readlink -f "$rt")")")}
+    tools=$kit/on/$(uname -m)/toolchain
     loader=$tools/lib/ld-linux-x86-64.so.2
     emulator=$tools/bin/qemu-x86_64
     [ -x "$emulator" ] || emulator=
 }
 
-# A C compiler for x86-64: the machine's own, or Debian's cross compiler, whose programs are linked whole.
-find_compiler() {
-    mkdir -p "$work"
-    if [ "$(uname -m)" = x86_64 ]; then
-        need gcc gcc
-        need_file /usr/include/stdio.h libc6-dev
-        cc=gcc whole=
-    else
-        need x86_64-linux-gnu-gcc gcc-x86-64-linux-gnu
-        need_file /usr/x86_64-linux-gnu/include/stdio.h libc6-dev-amd64-cross
-        find_kit
-        [ -n "$emulator" ] || die "the kit has no emulator for x86-64 on $(uname -m)"
-        cc=x86_64-linux-gnu-gcc whole=-static
-    fi
+# ---- the end, and signals
+
+room='' busy=''
+
+# A folder for what is temporary.
+make_room() {
+    [ -n "$room" ] || room=$(mktemp -d 2>/dev/null) || die "cannot make a temporary folder in ${TMPDIR:-/tmp}"
 }
 
-# Compiles C files of a folder, named without .c, into objects of target/tests.
-objects() { # FOLDER NAME...
-    from=$1
+finish() { [ -z "$room" ] || rm -rf "$room"; }
+
+# Ends the command that is awaited, with its group where it has one, then the script itself by the signal.
+stop() { # SIGNAL
+    trap - EXIT
+    [ -z "$busy" ] || kill -s TERM -- "-$!" 2>/dev/null || kill -s TERM "$!" 2>/dev/null || :
+    finish
+    trap - "$1"
+    kill -s "$1" $$
+}
+
+trap finish EXIT
+trap 'stop INT' INT
+trap 'stop TERM' TERM
+trap 'stop HUP' HUP
+
+# Waits for the command last started in the background, `busy` being set before it was: a shell takes a signal only when the command it
+# runs has ended, but leaves wait at once.
+await() {
+    ended=0
+    wait "$!" || ended=$?
+    busy=
+    return "$ended"
+}
+
+# ---- what rt makes
+
+# Takes the lock on the repository's builds, which every command started from here holds too; the end of all of them gives it back.
+lock() {
+    need flock util-linux
+    exec 9<"$root/crates.txt"
+    flock -n 9 && return 0
+    say "another run is building here: waiting for it"
+    busy=yes
+    flock 9 &
+    await
+}
+
+unlock() { exec 9<&-; }
+
+# Runs rt with the lock held, in a group of its own that a signal ends with all its provers. Its lines go through SHOW, a function.
+run_rt() { # SHOW WORD...
+    need setsid util-linux
+    make_room
+    rm -f "$room/lines"
+    mkfifo "$room/lines"
+    busy=yes
+    "$1" <"$room/lines" &
+    shown=$!
     shift
-    for part; do
-        # shellcheck disable=SC2086
-        $cc $flags -c -o "$work/$part.o" "$from/$part.c" || die "$from/$part.c does not compile"
-    done
+    (cd "$root" && exec setsid rt "$@") >"$room/lines" 2>&1 &
+    status=0
+    await || status=$?
+    wait "$shown" || :
+    return "$status"
 }
 
-# Links objects of target/tests, named without .o, and further files into a program there.
-link() { # PROGRAM "NAME..." FILE...
-    program=$1 parts=
-    for part in $2; do parts="$parts $work/$part.o"; done
-    shift 2
-    # shellcheck disable=SC2086
-    $cc $flags $whole -o "$work/$program" $parts "$@" || die "$program does not link"
+# Keeps rt's lines in a file, and says which crate is proved.
+progress() { tee "$work/rt.log" | sed -u -n "s|^rt: \([a-z0-9_]* proved ([0-9]* s)\)\$|$me: \1|p" >&2; }
+
+# Whether a file that rt makes is missing, or older than the crates or the kit.
+stale() { # FILE
+    [ -f "$1" ] || return 0
+    newer=$(find "$root/crates" "$root/crates.txt" "$kit/KIT-ID" -newercm "$1" -print -quit 2>/dev/null) || return 0
+    [ -n "$newer" ]
 }
 
-# The file to link as the library: the one given, or the stage's archive, proved and written anew when a crate has changed.
-find_library() { # FILE or nothing
-    library=${1:-}
-    [ -z "$library" ] || return 0
+# Has rt make a file that is stale. The file gets the time at which rt began, so that what changes meanwhile is newer.
+make_by_rt() { # FILE WORD...
+    made=$1
+    shift
+    stale "$made" || return 0
+    mkdir -p "$work" 2>/dev/null || die "cannot write to $root/target"
+    lock
+    if stale "$made"; then
+        say "proving and building by rt $*, which takes three to ten minutes the first time"
+        make_room
+        touch "$room/began"
+        run_rt progress "$@" && [ -f "$made" ] || die "rt $* failed: see target/tests/rt.log"
+        touch -r "$room/began" "$made"
+    fi
+    unlock
+}
+
+# A proved program of target/bin. One that was removed is not made again while rt still has its stamp.
+build_program() { # NAME
     find_kit
-    library=$root/target/staticlib/libstage.a
-    if [ -f "$library" ] && [ -z "$(find "$root/crates" "$root/crates.txt" -newer "$library" | head -n 1)" ]; then return 0; fi
-    (cd "$root" && rt staticlib stage) >"$work/staticlib.log" 2>&1 ||
-        die "rt staticlib stage failed: see target/tests/staticlib.log"
+    [ -f "$root/target/bin/$1" ] || rm -f "$root/target/stamp/$1"
+    make_by_rt "$root/target/bin/$1" check "$1"
 }
 
-# Runs a program that was linked above.
-run_own() { # PROGRAM ARGUMENT...
-    if [ -n "$whole" ]; then "$emulator" "$@"; else "$@"; fi
+# The file to link as the library: the one given, or the stage's archive.
+find_library() { # FILE or nothing
+    if [ -n "${1:-}" ]; then
+        library=$(readlink -f "$1")
+        return 0
+    fi
+    library=$root/target/staticlib/libstage.a
+    find_kit
+    make_by_rt "$library" staticlib stage
 }
 
 # Runs a program that rt linked, under the kit's loader and C library as rt does.

@@ -1,4 +1,4 @@
-/* The five calls as a table, once for the library and once for the reference, so that a test is written once for both. */
+/* The calls as a table of functions, once for the library and once for the reference, so that a test is written once for both. */
 #ifndef CALLS_H
 #define CALLS_H
 

@@ -25,6 +25,8 @@ static const struct example examples[] = {
     {"example 6", "x222 x233", 1, 2, "", ""},
     {"example 7", "x122 x322 y212 y312 z221 z222 z321 z322", 1, 2, ten, "222 322"},
     {"a sheet without its middle", "x211 x221 x231 x212 x232 x213 x223 x233", 2, 8, "", ""},
+    {"two rims in one plane", "y101 y111", 2, 2, "", ""},
+    {"equal sides cut y before z", "x122 x123 z122 z133", 1, 6, "x022 x122 y112 y122 z121 z122", "122"},
     {"equal sides cut x first", "x232 y232", 1, 2, "", ""},
     {"the cut plane rounded down", "y222 y311 z321", 1, 3, "", ""},
     {"pairs by rising number", "y321 y331 z230", 1, 5, "x231 x331 y321 y331 z330 z331", "331"},

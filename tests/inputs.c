@@ -1,9 +1,40 @@
-/* Inputs of every kind for the five calls: right ones, refused ones, and those in between. */
+/* Inputs of every kind: right ones, refused ones, and those in between. What is of one call alone stands in its call_NAME.c. */
 #include "inputs.h"
+
+#include <stdio.h>
+#include <stdlib.h>
 
 #include "reference.h"
 
-const char *const call_names[CALLS] = {"open", "mark", "patch", "sign", "surface"};
+const struct kind kinds[BUFFERS] = {
+    [GRID] = {"grid", 1, POINT_ROOM, 1},
+    [WORK] = {"work", 1, POINT_ROOM, 1},
+    [SIGNS] = {"sign", 1, POINT_ROOM, 1},
+    [TRIANGLE] = {"triangle", sizeof(int32_t), TRIANGLE_ROOM, 0},
+    [LIST] = {"list", sizeof(uint16_t), LIST_ROOM, 0},
+};
+
+const struct call *const all_calls[] = {&call_open, &call_mark, &call_patch, &call_sign, &call_surface};
+const size_t call_count = sizeof all_calls / sizeof *all_calls;
+
+size_t place_of(const struct call *call)
+{
+    size_t c = 0;
+    while (all_calls[c] != call)
+        c++;
+    return c;
+}
+
+struct input new_input(void)
+{
+    struct input in = {0};
+    for (int b = 0; b < BUFFERS; b++)
+        if (!(in.buffer[b] = calloc(kinds[b].room, kinds[b].element))) {
+            fputs("compare: no memory for an input\n", stderr);
+            exit(2);
+        }
+    return in;
+}
 
 static uint32_t make_level(struct random *r)
 {
@@ -21,59 +52,7 @@ static size_t make_length(struct random *r, const struct measures *m)
     return pick < 65 ? points : pick < 92 ? points + 1 + below(r, 300) : pick < 95 ? points - 1 : pick < 96 ? 0 : below(r, points);
 }
 
-/* A coordinate in range: anywhere, on a grid plane, on a simple fraction of a cell, beside either, or at an end. */
-static int32_t make_coordinate(struct random *r, const struct measures *m, uint32_t kind)
-{
-    int low = m->s, high = (1 << 20) - m->s, unit = m->s >> below(r, 5), at;
-    switch (kind) {
-    case 0: at = between(r, low, high); break;
-    case 1: at = m->s * between(r, 1, m->n - 1); break;
-    case 2: at = unit * between(r, low / unit, high / unit); break;
-    case 3: at = unit * between(r, low / unit, high / unit) + between(r, -1, 1); break;
-    default: at = chance(r, 50) ? low : high;
-    }
-    return at < low ? low : at > high ? high : at;
-}
-
-void make_triangle(struct random *r, const struct measures *m, int32_t *t)
-{
-    uint32_t kind = below(r, 10), shape = below(r, 8);
-    int low = m->s, high = (1 << 20) - m->s, reach = 1 << between(r, 0, 19), axis = (int)below(r, 3);
-    for (int c = 0; c < 9; c++)
-        t[c] = make_coordinate(r, m, kind < 5 ? kind : below(r, 5));
-    if (shape <= 2) /* a small one */
-        for (int c = 3; c < 9; c++) {
-            int at = t[c % 3] + between(r, -reach, reach);
-            t[c] = at < low ? low : at > high ? high : at;
-        }
-    else if (shape == 3) /* square to an axis, mostly on a grid plane */
-        t[axis] = t[3 + axis] = t[6 + axis] = make_coordinate(r, m, chance(r, 70) ? 1 : 0);
-    else if (shape == 4) /* of one point or two */
-        memcpy(t + (chance(r, 50) ? 3 : 6), t, 3 * sizeof *t), memcpy(t + 3, t + (chance(r, 50) ? 0 : 3), 3 * sizeof *t);
-    else if (shape == 5) { /* three points in a line, the third between the others or at either end */
-        int parts = between(r, 1, 8), part = between(r, 0, parts);
-        for (int d = X; d <= Z; d++) {
-            t[3 + d] -= (t[3 + d] - t[d]) % parts;
-            t[6 + d] = t[d] + (t[3 + d] - t[d]) / parts * part;
-        }
-    }
-}
-
-/* Puts one coordinate out of range, by one or by very much. */
-static void spoil_triangle(struct random *r, const struct measures *m, int32_t *t)
-{
-    const int32_t bad[] = {m->s - 1, (1 << 20) - m->s + 1, 0, -1, -m->s, 1 << 20, INT32_MAX, INT32_MIN, INT32_MIN + m->s};
-    int32_t at = bad[below(r, sizeof bad / sizeof *bad)];
-    if (chance(r, 10)) {
-        at = (int32_t)next(r);
-        if (m->s <= at && at <= (1 << 20) - m->s)
-            at = ~at;
-    }
-    t[below(r, 9)] = at;
-}
-
-/* Makes the buffer no grid, mostly by one byte: above 7, or with a mark where no inner edge is. */
-static void spoil_grid(struct random *r, const struct measures *m, uint8_t *grid)
+void spoil_grid(struct random *r, const struct measures *m, uint8_t *grid)
 {
     uint32_t kind = below(r, 10), p = below(r, (uint32_t)m->points);
     int side = m->n + 1;
@@ -95,76 +74,35 @@ static void spoil_grid(struct random *r, const struct measures *m, uint8_t *grid
         }
 }
 
-static void make_signs(struct random *r, const struct measures *m, uint32_t level, const uint8_t *grid, uint8_t *signs)
+void patch_grid(struct input *in)
 {
-    uint32_t kind = below(r, 20), p = below(r, (uint32_t)m->points), value = 1 + below(r, 255);
-    size_t points = (size_t)m->points;
-    memset(signs, 0, points);
-    reference_sign(level, grid, points, signs, points);
-    if (kind == 0)
-        for (size_t q = 0; q < points; q++)
-            signs[q] = (uint8_t)below(r, 2);
-    else if (kind == 1)
-        for (size_t q = 0; q < points; q++)
-            signs[q] ^= 1;
-    else if (kind == 2)
-        signs[p] ^= 1;
-    else if (kind == 3)
-        signs[p] ^= (uint8_t)value;
-    else if (kind == 4) /* a skin point, or its neighbour on the skin */
-        signs[chance(r, 50) ? p - p % (uint32_t)(m->n + 1) : points - 1 - below(r, 40)] ^= 1;
-    else if (kind == 5)
-        signs[0] = (uint8_t)value;
-}
-
-static size_t make_list_length(struct random *r, const struct measures *m, const uint8_t *grid)
-{
-    size_t need = 0;
-    for (int p = 0; p < m->points; p++)
-        need += 4 * (size_t)(has(grid, X, p) + has(grid, Y, p) + has(grid, Z, p));
-    uint32_t pick = below(r, 100);
-    if (pick < 45)
-        return need;
-    if (pick < 80 || need == 0)
-        return need + 1 + below(r, 40);
-    return pick < 90 ? need - 1 : pick < 95 ? need - 4 : below(r, (uint32_t)need);
-}
-
-void make_input(struct random *r, struct input *in)
-{
-    static const enum call often[20] = {OPEN, MARK, MARK, MARK, MARK, MARK, MARK, MARK, PATCH, PATCH,
-                                        PATCH, PATCH, PATCH, SIGN, SIGN, SIGN, SURFACE, SURFACE, SURFACE, SURFACE};
-    in->call = often[below(r, 20)];
-    in->level = make_level(r);
+    static uint8_t work[POINT_ROOM];
     uint32_t level = known_level(in->level) ? in->level : 2, unused[2];
-    struct measures m = measures_of(level);
-    in->grid_len = make_length(r, &m);
-    in->other_len = in->call >= PATCH ? make_length(r, &m) : 0;
-    in->triangle_len = in->call == MARK ? (chance(r, 95) ? 9 : below(r, TRIANGLE_ROOM)) : 0;
-    in->list_len = 0;
-    fill(r, in->grid, in->grid_len);
-    fill(r, in->other, in->other_len);
-    if (in->call == OPEN)
-        return;
-    make_grid(r, &m, in->grid);
-    if (in->call == SURFACE || (in->call == SIGN && chance(r, 70))) { /* the work buffer's rest is random again afterwards */
-        reference_patch(level, in->grid, BUFFER_ROOM, in->other, BUFFER_ROOM, &unused[0], &unused[1]);
-        fill(r, in->other, in->other_len);
+    reference_patch(level, in->buffer[GRID], POINT_ROOM, work, POINT_ROOM, &unused[0], &unused[1]);
+}
+
+static const struct call *choose(struct random *r)
+{
+    uint32_t all = 0, pick;
+    for (size_t c = 0; c < call_count; c++)
+        all += all_calls[c]->share;
+    pick = below(r, all);
+    for (size_t c = 0;; c++) {
+        if (pick < all_calls[c]->share)
+            return all_calls[c];
+        pick -= all_calls[c]->share;
     }
-    if (in->call == SURFACE) {
-        make_signs(r, &m, level, in->grid, in->other);
-        if (chance(r, 5))
-            turn_one(r, &m, in->grid);
-        in->list_len = make_list_length(r, &m, in->grid);
-        fill(r, in->list, in->list_len * sizeof *in->list);
+}
+
+void make_input(struct random *r, const struct call *only, struct input *in)
+{
+    in->call = only ? only : choose(r);
+    in->level = make_level(r);
+    in->null = chance(r, 50);
+    struct measures m = measures_for(in);
+    for (int b = 0; b < BUFFERS; b++) {
+        in->len[b] = takes(in->call, b) && kinds[b].a_point ? make_length(r, &m) : 0;
+        fill(r, in->buffer[b], bytes_of(in, b));
     }
-    if (in->call == MARK) {
-        make_triangle(r, &m, in->triangle);
-        make_triangle(r, &m, in->triangle + 9);
-        fill(r, in->triangle + 18, (TRIANGLE_ROOM - 18) * sizeof *in->triangle);
-        if (chance(r, 8))
-            spoil_triangle(r, &m, in->triangle);
-    }
-    if (chance(r, 6))
-        spoil_grid(r, &m, in->grid);
+    in->call->make(r, &m, in);
 }

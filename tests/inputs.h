@@ -1,30 +1,79 @@
-/* One call's input, and the making of inputs of every kind. */
+/* One call's input, what the harness has to know of a call, and the making of inputs of every kind. A call is added by a file
+   call_NAME.c and a line in `all_calls`; a buffer of a new kind by a line in `kinds`. */
 #ifndef INPUTS_H
 #define INPUTS_H
 
 #include <stddef.h>
 #include <stdint.h>
 
+#include "calls.h"
 #include "random.h"
 #include "reference_grid.h"
 
-enum call { OPEN, MARK, PATCH, SIGN, SURFACE, CALLS };
-enum { BUFFER_ROOM = 40000, TRIANGLE_ROOM = 24, LIST_ROOM = 4 * 3 * 31 * 31 * 32 + 1000 };
+enum buffer { GRID, WORK, SIGNS, TRIANGLE, LIST, BUFFERS };
+enum { POINT_ROOM = 40000, TRIANGLE_ROOM = 24, LIST_ROOM = 4 * 3 * 31 * 31 * 32 + 1000, MOST_COUNTS = 2 };
+enum { MOST_CALLS = 32, MOST_ANSWERS = 32 };
 
-/* `other` is patch's work buffer, or the signs of sign and surface. What a call does not take has length 0. */
-struct input {
-    enum call call;
-    uint32_t level;
-    size_t grid_len, other_len, triangle_len, list_len;
-    uint8_t grid[BUFFER_ROOM], other[BUFFER_ROOM];
-    int32_t triangle[TRIANGLE_ROOM];
-    uint16_t list[LIST_ROOM];
+/* What a lent buffer holds: its name, bytes an element, elements that there is room for, and whether it has one byte a point. */
+struct kind {
+    const char *name;
+    size_t element, room;
+    int a_point;
 };
 
-extern const char *const call_names[CALLS];
+extern const struct kind kinds[BUFFERS];
 
-/* Makes the input that belongs to this state of the random numbers. */
-void make_input(struct random *r, struct input *input);
+/* What a call is handed. A buffer that it does not take has length 0. Lengths are in elements. */
+struct input {
+    const struct call *call;
+    uint32_t level;
+    int null; /* an empty buffer is lent as a null pointer */
+    size_t len[BUFFERS];
+    uint8_t *buffer[BUFFERS];
+};
+
+/* What a count holds before a call, which has to overwrite it. */
+static const uint32_t untouched = 0xdeadbeef;
+
+/* A call: its share of the inputs, its buffers and the answers it can give (bit b, bit a), its counts by name, how an input is made on
+   top of random buffers, and how it is called. `also`, where it is set, tells a further fault that an input shows, or nothing. */
+struct call {
+    const char *name;
+    uint32_t share, buffers, answers;
+    const char *counts[MOST_COUNTS];
+    void (*make)(struct random *r, const struct measures *m, struct input *in);
+    uint32_t (*run)(const struct calls *calls, const struct input *lent, uint64_t counts[MOST_COUNTS]);
+    const char *(*also)(const struct input *in);
+};
+
+extern const struct call call_open, call_mark, call_patch, call_sign, call_surface;
+extern const struct call *const all_calls[];
+extern const size_t call_count;
+
+static inline int takes(const struct call *call, enum buffer b)
+{
+    return call->buffers >> b & 1;
+}
+
+static inline size_t bytes_of(const struct input *in, enum buffer b)
+{
+    return in->len[b] * kinds[b].element;
+}
+
+/* The level's measures, or those of level 2 where the level is none. */
+static inline struct measures measures_for(const struct input *in)
+{
+    return measures_of(known_level(in->level) ? in->level : 2);
+}
+
+/* The call's place in `all_calls`. */
+size_t place_of(const struct call *call);
+
+/* An input with room for every buffer. */
+struct input new_input(void);
+
+/* Makes the input that belongs to this state of the random numbers, of one call or of all. */
+void make_input(struct random *r, const struct call *only, struct input *in);
 
 /* Makes a grid of some kind, always one that is a grid. */
 void make_grid(struct random *r, const struct measures *m, uint8_t *grid);
@@ -32,7 +81,16 @@ void make_grid(struct random *r, const struct measures *m, uint8_t *grid);
 /* Turns the mark of one inner edge. */
 void turn_one(struct random *r, const struct measures *m, uint8_t *grid);
 
+/* Makes the buffer no grid, mostly by one byte. */
+void spoil_grid(struct random *r, const struct measures *m, uint8_t *grid);
+
+/* Patches the input's grid by the reference, whatever its length. */
+void patch_grid(struct input *in);
+
 /* Makes nine coordinates in the level's range. */
 void make_triangle(struct random *r, const struct measures *m, int32_t *triangle);
+
+/* Puts one coordinate out of range, by one or by very much. */
+void spoil_triangle(struct random *r, const struct measures *m, int32_t *triangle);
 
 #endif

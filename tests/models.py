@@ -2,9 +2,11 @@
 """Holds the repaired sample models to their truth. usage: tests/models.py LISTINGS (a folder with NAME.txt for each model)
 
 Each listing must be closed (each step from cell to cell as often as its reverse), every quad must run counterclockwise seen
-from outside, and grid points further than a quarter of a cell from the true surface must lie on the right side of it.
+from outside, and grid points further than a quarter of a cell from the true surface must lie on the right side of it. What the README says
+of models without damage must be so: two of them have rims, and a bowl that is a single sheet is filled.
 """
 import collections
+import math
 import os
 import struct
 import sys
@@ -143,22 +145,31 @@ def check(name, listing):
     return f"{triangles} triangles, {rims} rims, {flips} flips, {len(quads)} quads closed; {deep} points inside and {len(known) - deep} outside right"
 
 
+def check_whole(name, listing):
+    """Answers what there is to tell about a model without damage."""
+    (_, _, rims, flips, inside, _), _ = read_listing(listing)
+    hold(rims > 0, "a model without damage has rims")
+    hold(name != "sheet_bowl" or inside > 2 / 3 * math.pi * make.BOWL ** 3 * 0.9, "a bowl of one sheet is filled")
+    return f"nothing is missing, and it has {rims} rims, {flips} flips, {inside} points inside"
+
+
 def main(words):
     if len(words) != 1:
         sys.exit("usage: tests/models.py LISTINGS")
     failed = 0
-    for name in make.MODELS:
-        try:
-            print(f"{name}: {check(name, os.path.join(words[0], name + '.txt'))}")
-        except (AssertionError, OSError) as fault:
-            failed += 1
-            print(f"{name}: DOES NOT HOLD: {fault}")
+    for names, test in ((make.MODELS, check), (make.WHOLE, check_whole)):
+        for name in names:
+            try:
+                print(f"{name}: {test(name, os.path.join(words[0], name + '.txt'))}")
+            except (AssertionError, OSError) as fault:
+                failed += 1
+                print(f"{name}: DOES NOT HOLD: {fault}")
     gap, whole = filled_by_rays(*stream_of("lampshade")), filled_by_rays(*triangles_of(make.lattice(5, make.lampshade_triangles(32, 6))))
     print(f"lampshade: on the unrepaired grid parity along one ray fills {gap} points of its hollow, {whole} with the triangle back")
     if gap == 0 or whole != 0:
         failed += 1
         print("lampshade: DOES NOT HOLD: the sample no longer shows the slip")
-    print(f"tests/models: {len(make.MODELS)} models, {failed} failures")
+    print(f"tests/models: {len(make.MODELS) + len(make.WHOLE)} models, {failed} failures")
     sys.exit(1 if failed else 0)
 
 

@@ -1,7 +1,6 @@
 /* Shrinks an input on which the two sides differ: a lower level, shorter buffers, fewer marks and bytes, rounder coordinates. */
 #include "shrink.h"
 
-#include <stdio.h>
 #include <time.h>
 
 #include "reference.h"
@@ -13,19 +12,15 @@ static time_t stop_at;
 static uint32_t answer;
 static struct input trial;
 
-static struct measures measures_for(const struct input *in)
-{
-    return measures_of(known_level(in->level) ? in->level : 2);
-}
-
 /* Copies what the call is lent; the rest of the rooms is never looked at. */
 static void copy(struct input *to, const struct input *from)
 {
-    memcpy(to, from, offsetof(struct input, grid));
-    memcpy(to->grid, from->grid, from->grid_len);
-    memcpy(to->other, from->other, from->other_len);
-    memcpy(to->triangle, from->triangle, sizeof from->triangle);
-    memcpy(to->list, from->list, from->list_len * sizeof *from->list);
+    struct input rooms = *to;
+    *to = *from;
+    for (int b = 0; b < BUFFERS; b++) {
+        to->buffer[b] = rooms.buffer[b];
+        memcpy(to->buffer[b], from->buffer[b], bytes_of(from, b));
+    }
 }
 
 /* Takes the trial over when the sides differ on it and the reference still gives the same answer. */
@@ -69,48 +64,43 @@ static int lower_level(struct input *best, int which)
     struct measures big = measures_for(best), small = measures_of(best->level - 1);
     copy(&trial, best);
     trial.level--;
-    trial.grid_len = crop_buffer(&big, &small, best->grid, trial.grid, best->grid_len, which, 1);
-    trial.other_len = crop_buffer(&big, &small, best->other, trial.other, best->other_len, which, 0);
+    for (int b = 0; b < BUFFERS; b++)
+        if (takes(best->call, b) && kinds[b].a_point)
+            trial.len[b] = crop_buffer(&big, &small, best->buffer[b], trial.buffer[b], best->len[b], which, b == GRID);
     return take(best);
 }
 
-static int shorten(struct input *best)
+/* A buffer of one byte a point around P; any other by less and less. */
+static int shorten(struct input *best, int b)
 {
     size_t points = (size_t)measures_for(best).points;
     int taken = 0;
     const size_t lengths[] = {0, points - 1, points, points + 1};
-    for (int l = 0; l < 4; l++) {
+    for (int l = 0; kinds[b].a_point && l < 4; l++) {
         copy(&trial, best);
-        trial.grid_len = lengths[l];
-        taken += best->grid_len > lengths[l] && take(best);
-        copy(&trial, best);
-        trial.other_len = lengths[l];
-        taken += best->other_len > lengths[l] && take(best);
+        trial.len[b] = lengths[l];
+        taken += best->len[b] > lengths[l] && take(best);
     }
-    for (size_t cut = best->list_len; cut > 0; cut /= 2) {
+    for (size_t cut = best->len[b]; !kinds[b].a_point && cut > 0; cut /= 2) {
         copy(&trial, best);
-        trial.list_len -= cut < trial.list_len ? cut : trial.list_len;
-        taken += trial.list_len < best->list_len && take(best);
-    }
-    for (size_t len = 0; len < best->triangle_len; len++) {
-        copy(&trial, best);
-        trial.triangle_len = len;
-        taken += take(best);
+        trial.len[b] -= cut < trial.len[b] ? cut : trial.len[b];
+        taken += trial.len[b] < best->len[b] && take(best);
     }
     return taken > 0;
 }
 
 /* Makes runs of bytes 0, long runs first; then bit by bit. */
-static int clear_bytes(struct input *best, size_t where, size_t len)
+static int clear_bytes(struct input *best, int b)
 {
     int taken = 0;
-    uint8_t *bytes = (uint8_t *)&trial + where;
+    uint8_t *bytes = trial.buffer[b];
+    size_t len = bytes_of(best, b);
     for (size_t run = len; run > 0; run /= 2)
         for (size_t at = 0; at < len && time(NULL) <= stop_at; at += run) {
             size_t bytes_here = at + run < len ? run : len - at, set = 0;
             copy(&trial, best);
-            for (size_t b = 0; b < bytes_here; b++)
-                set += bytes[at + b] != 0;
+            for (size_t c = 0; c < bytes_here; c++)
+                set += bytes[at + c] != 0;
             memset(bytes + at, 0, bytes_here);
             taken += set > 0 && take(best);
         }
@@ -131,12 +121,12 @@ static void drop_point(struct input *in, const struct measures *m, int p)
     for (int axis = X; axis <= Z; axis++)
         for (int lower = 0; lower <= 1; lower++) {
             int edge = p - lower * m->step[axis];
-            in->grid[edge] ^= (uint8_t)(1 << axis);
-            more += has(in->grid, axis, edge) ? 4 : -4;
+            in->buffer[GRID][edge] ^= (uint8_t)(1 << axis);
+            more += has(in->buffer[GRID], axis, edge) ? 4 : -4;
         }
-    if (in->call == SURFACE) {
-        in->other[p] = 0;
-        in->list_len = more < 0 && in->list_len < (size_t)-more ? 0 : in->list_len + (size_t)more;
+    if (takes(in->call, LIST)) {
+        in->buffer[SIGNS][p] = 0;
+        in->len[LIST] = more < 0 && in->len[LIST] < (size_t)-more ? 0 : in->len[LIST] + (size_t)more;
     }
 }
 
@@ -147,12 +137,12 @@ static int drop_points(struct input *best)
     size_t points = (size_t)m.points;
     static uint8_t inside[MOST_POINTS];
     int taken = 0;
-    if (best->call < SIGN || best->grid_len < points || best->other_len < points)
+    if (!takes(best->call, SIGNS) || best->len[GRID] < points || best->len[SIGNS] < points)
         return 0;
     for (size_t run = points; run > 0; run /= 2)
         for (size_t at = 0; at < points && time(NULL) <= stop_at; at += run) {
             size_t dropped = 0;
-            if (reference_sign(best->level, best->grid, points, inside, points))
+            if (reference_sign(best->level, best->buffer[GRID], points, inside, points))
                 return taken > 0;
             copy(&trial, best);
             for (size_t p = at; p < at + run && p < points; p++)
@@ -169,20 +159,21 @@ static int drop_points(struct input *best)
 static int round_triangle(struct input *best)
 {
     struct measures m = measures_for(best);
+    int32_t *now = (int32_t *)best->buffer[TRIANGLE], *then = (int32_t *)trial.buffer[TRIANGLE];
     int taken = 0;
-    for (size_t c = 0; c < best->triangle_len; c++)
+    for (size_t c = 0; c < best->len[TRIANGLE]; c++)
         for (int unit = m.s; unit > 1; unit /= 2) {
             copy(&trial, best);
-            trial.triangle[c] = trial.triangle[c] / unit * unit;
-            if (trial.triangle[c] != best->triangle[c] && take(best)) {
+            then[c] = then[c] / unit * unit;
+            if (then[c] != now[c] && take(best)) {
                 taken++;
                 break;
             }
         }
-    for (int v = 0; best->triangle_len == 9 && v < 9; v++) {
+    for (int v = 0; best->len[TRIANGLE] == 9 && v < 9; v++) {
         copy(&trial, best);
-        memcpy(trial.triangle + 3 * (v / 3), best->triangle + 3 * (v % 3), 3 * sizeof *trial.triangle);
-        taken += v / 3 > v % 3 && memcmp(&trial.triangle, best->triangle, sizeof trial.triangle) && take(best);
+        memcpy(then + 3 * (v / 3), now + 3 * (v % 3), 3 * sizeof *then);
+        taken += v / 3 > v % 3 && memcmp(then, now, 9 * sizeof *then) && take(best);
     }
     return taken > 0;
 }
@@ -191,57 +182,14 @@ void shrink(struct input *best, uint32_t reference_answer)
 {
     stop_at = time(NULL) + SECONDS;
     answer = reference_answer;
+    trial = new_input();
     for (int smaller = 1; smaller;) {
         smaller = drop_points(best);
         smaller |= lower_level(best, 0) || lower_level(best, 1) || lower_level(best, 2);
-        smaller |= shorten(best);
-        smaller |= clear_bytes(best, offsetof(struct input, grid), best->grid_len);
-        smaller |= clear_bytes(best, offsetof(struct input, other), best->other_len);
-        smaller |= clear_bytes(best, offsetof(struct input, list), best->list_len * sizeof *best->list);
+        for (int b = 0; b < BUFFERS; b++)
+            smaller |= shorten(best, b);
+        for (int b = 0; b < BUFFERS; b++)
+            smaller |= b != TRIANGLE && clear_bytes(best, b);
         smaller |= round_triangle(best);
     }
-}
-
-/* Marks by name; a byte with more than marks, or behind P, by its index. */
-static void print_bytes(const char *name, const struct input *in, const uint8_t *bytes, size_t len, int marks)
-{
-    struct measures m = measures_for(in);
-    size_t shown = 0, left = 0;
-    printf("  %s, %zu bytes, not 0:", name, len);
-    for (size_t p = 0; p < len; p++) {
-        int at[3];
-        for (int d = X; d <= Z; d++)
-            at[d] = (int)p / m.step[d] % (m.n + 1);
-        if (bytes[p] == 0)
-            continue;
-        if (shown++ >= 60)
-            left++;
-        else if (p >= (size_t)m.points || (marks && bytes[p] > 7))
-            printf(" [%zu]=%u", p, bytes[p]);
-        else if (!marks)
-            printf(" (%d,%d,%d)=%u", at[X], at[Y], at[Z], bytes[p]);
-        else
-            for (int axis = X; axis <= Z; axis++)
-                if (has(bytes, axis, (int)p))
-                    printf(" %c(%d,%d,%d)", "xyz"[axis], at[X], at[Y], at[Z]);
-    }
-    if (left)
-        printf(" and %zu more", left);
-    printf(shown ? "\n" : " none\n");
-}
-
-void print_input(const struct input *in)
-{
-    printf("  %s, level %u\n", call_names[in->call], in->level);
-    print_bytes("grid", in, in->grid, in->grid_len, 1);
-    if (in->call >= PATCH)
-        print_bytes(in->call == PATCH ? "work" : "signs", in, in->other, in->other_len, 0);
-    if (in->call == MARK) {
-        printf("  triangle, %zu numbers:", in->triangle_len);
-        for (size_t c = 0; c < in->triangle_len; c++)
-            printf(" %d", in->triangle[c]);
-        printf("\n");
-    }
-    if (in->call == SURFACE)
-        printf("  list of %zu numbers\n", in->list_len);
 }

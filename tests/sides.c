@@ -3,6 +3,7 @@
 #define _GNU_SOURCE
 #include "sides.h"
 
+#include <inttypes.h>
 #include <setjmp.h>
 #include <signal.h>
 #include <stdio.h>
@@ -13,15 +14,12 @@
 #include "calls.h"
 
 enum { PAGE = 65536, FRONT = 64, FRONT_BYTE = 0xa5, SECONDS_A_CALL = 60 };
-enum { GRID, OTHER, TRIANGLE, LIST, BUFFERS };
 
-static const char *const buffer_names[BUFFERS] = {"grid", "work or sign", "triangle", "list"};
-static const size_t room[BUFFERS] = {BUFFER_ROOM, BUFFER_ROOM, TRIANGLE_ROOM * sizeof(int32_t), LIST_ROOM *sizeof(uint16_t)};
-
-/* What one side works on: where each buffer's memory ends, and where the buffer begins. */
+/* What one side works on: where each buffer's memory ends, and what the call is lent. */
 struct side {
     const struct calls *calls;
-    uint8_t *end[BUFFERS], *buffer[BUFFERS];
+    uint8_t *end[BUFFERS];
+    struct input lent;
 };
 
 static struct side library = {.calls = &the_library}, reference = {.calls = &the_reference};
@@ -39,7 +37,7 @@ static void leave_call(int signal_number)
 static void map_side(struct side *side)
 {
     for (int b = 0; b < BUFFERS; b++) {
-        size_t bytes = (room[b] + FRONT + PAGE - 1) / PAGE * PAGE;
+        size_t bytes = (kinds[b].room * kinds[b].element + FRONT + PAGE - 1) / PAGE * PAGE;
         uint8_t *memory = mmap(NULL, bytes + PAGE, PROT_READ | PROT_WRITE, MAP_PRIVATE | MAP_ANONYMOUS, -1, 0);
         if (memory == MAP_FAILED || mprotect(memory + bytes, PAGE, PROT_NONE)) {
             perror("compare: no memory");
@@ -62,42 +60,33 @@ void prepare_sides(void)
     map_side(&reference);
 }
 
-static void lend(struct side *side, int b, const void *from, size_t bytes)
+/* Where the side's buffer begins; an empty one has a place too, for the bytes before it. */
+static uint8_t *start_of(const struct side *side, int b)
 {
-    side->buffer[b] = side->end[b] - bytes;
-    memset(side->buffer[b] - FRONT, FRONT_BYTE, FRONT);
-    memcpy(side->buffer[b], from, bytes);
+    return side->end[b] - bytes_of(&side->lent, b);
 }
 
-static uint32_t make_call(const struct side *side, const struct input *in, uint32_t counts[2])
+static void lend(struct side *side, const struct input *in)
 {
-    const struct calls *calls = side->calls;
-    uint8_t *grid = side->buffer[GRID], *other = side->buffer[OTHER];
-    switch (in->call) {
-    case OPEN: return calls->open(in->level, grid, in->grid_len);
-    case MARK: return calls->mark(in->level, grid, in->grid_len, (int32_t *)side->buffer[TRIANGLE], in->triangle_len);
-    case PATCH: return calls->patch(in->level, grid, in->grid_len, other, in->other_len, &counts[0], &counts[1]);
-    case SIGN: return calls->sign(in->level, grid, in->grid_len, other, in->other_len);
-    default:
-        return calls->surface(in->level, grid, in->grid_len, other, in->other_len, (uint16_t *)side->buffer[LIST], in->list_len,
-                              &counts[0]);
+    side->lent = *in;
+    for (int b = 0; b < BUFFERS; b++) {
+        uint8_t *start = start_of(side, b);
+        memset(start - FRONT, FRONT_BYTE, FRONT);
+        memcpy(start, in->buffer[b], bytes_of(in, b));
+        side->lent.buffer[b] = in->len[b] == 0 && in->null ? NULL : start;
     }
 }
 
-/* A call that has no count leaves what stands in `counts`; one that has must overwrite it. */
 static struct outcome run(struct side *side, const struct input *in)
 {
     static struct outcome out;
-    out = (struct outcome){.counts = {0xdeadbeef, 0xdeadbeef}};
-    lend(side, GRID, in->grid, in->grid_len);
-    lend(side, OTHER, in->other, in->other_len);
-    lend(side, TRIANGLE, in->triangle, in->triangle_len * sizeof *in->triangle);
-    lend(side, LIST, in->list, in->list_len * sizeof *in->list);
+    out = (struct outcome){0};
+    lend(side, in);
     out.died = sigsetjmp(out_of_call, 0);
     if (!out.died) {
         in_call = 1;
         alarm(SECONDS_A_CALL);
-        out.answer = make_call(side, in, out.counts);
+        out.answer = in->call->run(side->calls, &side->lent, out.counts);
     }
     alarm(0);
     in_call = 0;
@@ -110,6 +99,19 @@ static size_t first_difference(const uint8_t *a, const uint8_t *b)
     while (a[at] == b[at])
         at++;
     return at;
+}
+
+/* Answers 1 and says so when the library left a buffer otherwise than the reference, or wrote before it. */
+static int buffer_differs(int b, char *what, size_t what_len)
+{
+    const uint8_t *lib = start_of(&library, b), *ref = start_of(&reference, b);
+    for (int f = 1; f <= FRONT; f++)
+        if (lib[-f] != FRONT_BYTE)
+            return snprintf(what, what_len, "the library wrote before the %s buffer", kinds[b].name) > 0;
+    if (!memcmp(lib, ref, (size_t)(library.end[b] - lib)))
+        return 0;
+    size_t at = first_difference(lib, ref);
+    return snprintf(what, what_len, "byte %zu of the %s buffer: library %u, reference %u", at, kinds[b].name, lib[at], ref[at]) > 0;
 }
 
 int differs(const struct input *in, struct outcome *expected, char *what, size_t what_len)
@@ -125,20 +127,12 @@ int differs(const struct input *in, struct outcome *expected, char *what, size_t
                         got.died == SIGALRM ? SECONDS_A_CALL : got.died) > 0;
     if (got.answer != expected->answer)
         return snprintf(what, what_len, "library answers %u, reference %u", got.answer, expected->answer) > 0;
-    for (int c = 0; c < 2; c++)
+    for (int c = 0; c < MOST_COUNTS && in->call->counts[c]; c++)
         if (got.counts[c] != expected->counts[c])
-            return snprintf(what, what_len, "%s: library %u, reference %u",
-                            in->call == SURFACE ? "quads" : c ? "flips" : "rims", got.counts[c], expected->counts[c]) > 0;
-    for (int b = 0; b < BUFFERS; b++) {
-        const uint8_t *lib = library.buffer[b], *ref = reference.buffer[b];
-        for (int f = 1; f <= FRONT; f++)
-            if (lib[-f] != FRONT_BYTE)
-                return snprintf(what, what_len, "the library wrote before the %s buffer", buffer_names[b]) > 0;
-        if (memcmp(lib, ref, (size_t)(library.end[b] - lib))) {
-            size_t at = first_difference(lib, ref);
-            return snprintf(what, what_len, "byte %zu of the %s buffer: library %u, reference %u", at, buffer_names[b], lib[at],
-                            ref[at]) > 0;
-        }
-    }
+            return snprintf(what, what_len, "%s: library %" PRIu64 ", reference %" PRIu64, in->call->counts[c], got.counts[c],
+                            expected->counts[c]) > 0;
+    for (int b = 0; b < BUFFERS; b++)
+        if (buffer_differs(b, what, what_len))
+            return 1;
     return 0;
 }

@@ -8,7 +8,8 @@
 
 /* The reference's answer to the input last compared, and its counts. */
 struct outcome {
-    uint32_t answer, counts[2];
+    uint32_t answer;
+    uint64_t counts[MOST_COUNTS];
     int died;
 };
 

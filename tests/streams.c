@@ -102,6 +102,17 @@ static void unfinished(void)
         for (uint32_t b = 0; b < bytes; b++)
             put_byte(255);
     }
+    begin("last_number_unfinished");
+    put_byte(2);
+    put_points(1);
+    for (uint32_t b = 0; b < 35; b++)
+        put_byte(b % 4 == 2 ? 8 : 0);
+    begin("range_before_unfinished");
+    put_byte(2);
+    put_points(1);
+    put_with(0, 262143);
+    for (uint32_t b = 0; b < 7; b++)
+        put_byte(b % 4 == 2 ? 8 : 0);
     begin("bad_coordinate_before_an_unfinished_triangle");
     put_byte(3);
     put_points(4);
@@ -148,18 +159,19 @@ static void many_triangles(void)
     }
 }
 
-/* Single points give six quads each, two neighbours ten: 1,362 points and two pairs give 8,192, the most that is listed. */
+/* Single points give six quads each, two neighbours ten: 1,362 points and two pairs give 8,192, the most that is listed; 1,364 and one
+   pair give 8,194, the least above, since quads are even in number. */
 static void many_quads(void)
 {
     for (int more = 0; more <= 1; more++) {
         int s = measures_of(5).s, points = 1364 + more;
-        begin(more ? "8198_quads" : "8192_quads");
+        begin(more ? "8194_quads" : "8192_quads");
         put_byte(5);
         for (int k = 2; k < 31; k += 2)
             for (int j = 2; j < 31; j += 2)
                 for (int i = 2; i < 31 && points > 0; i += 2, points--) {
                     put_point(i * s, j * s, k * s);
-                    if ((k == 2 && j == 2 && i == 30) || (k == 4 && j == 4 && i == 30))
+                    if ((k == 2 && j == 2 && i == 30) || (k == 4 && j == 4 && i == 30 && !more))
                         put_point((i + 1) * s, j * s, k * s);
                 }
     }

@@ -1,0 +1,44 @@
+/* Mark, for the harness: triangles of every kind, at times too few or too many numbers. */
+#include "inputs.h"
+#include "reference.h"
+
+static void make(struct random *r, const struct measures *m, struct input *in)
+{
+    int32_t *triangle = (int32_t *)in->buffer[TRIANGLE];
+    make_grid(r, m, in->buffer[GRID]);
+    make_triangle(r, m, triangle);
+    make_triangle(r, m, triangle + 9);
+    fill(r, triangle + 18, (TRIANGLE_ROOM - 18) * sizeof *triangle);
+    in->len[TRIANGLE] = chance(r, 95) ? 9 : below(r, TRIANGLE_ROOM);
+    if (chance(r, 8))
+        spoil_triangle(r, m, triangle);
+    if (chance(r, 6))
+        spoil_grid(r, m, in->buffer[GRID]);
+}
+
+static uint32_t run(const struct calls *calls, const struct input *lent, uint64_t *counts)
+{
+    (void)counts;
+    return calls->mark(lent->level, lent->buffer[GRID], lent->len[GRID], (int32_t *)lent->buffer[TRIANGLE], lent->len[TRIANGLE]);
+}
+
+/* The program's reference and the benchmark rest on the mark that looks near the triangle alone: it must be the same. */
+static const char *also(const struct input *in)
+{
+    static uint8_t everywhere[POINT_ROOM], near[POINT_ROOM];
+    const int32_t *triangle = (int32_t *)in->buffer[TRIANGLE];
+    size_t len = in->len[GRID];
+    if (in->level == 5) /* the plain scan takes its time there */
+        return NULL;
+    memcpy(everywhere, in->buffer[GRID], len);
+    memcpy(near, in->buffer[GRID], len);
+    if (reference_mark(in->level, everywhere, len, triangle, in->len[TRIANGLE]) ==
+            reference_mark_near(in->level, near, len, triangle, in->len[TRIANGLE]) &&
+        !memcmp(everywhere, near, len))
+        return NULL;
+    return "the reference's two marks differ";
+}
+
+const struct call call_mark = {.name = "mark", .share = 350, .buffers = 1u << GRID | 1u << TRIANGLE,
+                               .answers = 1u << 0 | 1u << 1 | 1u << 2 | 1u << 3 | 1u << 4 | 1u << 5,
+                               .make = make, .run = run, .also = also};

@@ -1,0 +1,22 @@
+/* Patch, for the harness: grids of every kind. */
+#include "inputs.h"
+
+static void make(struct random *r, const struct measures *m, struct input *in)
+{
+    make_grid(r, m, in->buffer[GRID]);
+    if (chance(r, 6))
+        spoil_grid(r, m, in->buffer[GRID]);
+}
+
+static uint32_t run(const struct calls *calls, const struct input *lent, uint64_t *counts)
+{
+    uint32_t rims = untouched, flips = untouched;
+    uint32_t answer = calls->patch(lent->level, lent->buffer[GRID], lent->len[GRID], lent->buffer[WORK], lent->len[WORK], &rims, &flips);
+    counts[0] = rims;
+    counts[1] = flips;
+    return answer;
+}
+
+const struct call call_patch = {.name = "patch", .share = 250, .buffers = 1u << GRID | 1u << WORK,
+                                .answers = 1u << 0 | 1u << 1 | 1u << 2 | 1u << 5, .counts = {"rims", "flips"},
+                                .make = make, .run = run};

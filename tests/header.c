@@ -1,0 +1,54 @@
+/* What the header says, as C and as C++: measures, numbers, and that a null pointer with length 0 is an empty buffer. */
+#include "../include/omphirun.h"
+#include "../include/omphirun.h"
+
+#include <stdio.h>
+#include <string.h>
+
+/* Document 01's table of levels, its numbers, and the inner edges counted there. */
+#define HOLDS(name, claim) typedef char name[(claim) ? 1 : -1]
+HOLDS(level_2, OMPHIRUN_CELLS(2) == 4 && OMPHIRUN_SIDE(2) == 262144 && OMPHIRUN_POINTS(2) == 125);
+HOLDS(level_3, OMPHIRUN_CELLS(3) == 8 && OMPHIRUN_SIDE(3) == 131072 && OMPHIRUN_POINTS(3) == 729);
+HOLDS(level_4, OMPHIRUN_CELLS(4) == 16 && OMPHIRUN_SIDE(4) == 65536 && OMPHIRUN_POINTS(4) == 4913);
+HOLDS(level_5, OMPHIRUN_CELLS(5) == 32 && OMPHIRUN_SIDE(5) == 32768 && OMPHIRUN_POINTS(5) == 35937);
+HOLDS(edges_5, OMPHIRUN_EDGES(5) == 92256 && OMPHIRUN_LIST(5) == 369024 && OMPHIRUN_LIST(2) == 432);
+HOLDS(version, OMPHIRUN_MAJOR >= 1 && OMPHIRUN_MINOR >= 0 && OMPHIRUN_PATCH >= 0);
+
+static int failures;
+
+static void hold(uint32_t answer, enum omphirun_number expected, const char *call)
+{
+    if (answer == (uint32_t)expected)
+        return;
+    printf("tests/header: %s answers %u and not %u\n", call, (unsigned)answer, (unsigned)expected);
+    failures++;
+}
+
+int main(void)
+{
+    uint8_t grid[OMPHIRUN_POINTS(2)], other[OMPHIRUN_POINTS(2)];
+    uint32_t one = 9, two = 9;
+    const int32_t far[9] = {0, 0, 0, 0, 0, 0, 0, 0, 0};
+    memset(grid, 0, sizeof grid);
+    memset(other, 0, sizeof other);
+    hold(omphirun_open(1, NULL, 0), OMPHIRUN_BAD_LEVEL, "open");
+    hold(omphirun_open(2, NULL, 0), OMPHIRUN_SHORT_BUFFER, "open");
+    hold(omphirun_mark(2, NULL, 0, NULL, 0), OMPHIRUN_SHORT_BUFFER, "mark");
+    hold(omphirun_mark(2, grid, sizeof grid, NULL, 0), OMPHIRUN_NOT_NINE, "mark");
+    hold(omphirun_mark(2, grid, sizeof grid, far, 9), OMPHIRUN_OUT_OF_RANGE, "mark");
+    hold(omphirun_patch(2, NULL, 0, NULL, 0, &one, &two), OMPHIRUN_SHORT_BUFFER, "patch");
+    hold(one + two, OMPHIRUN_DONE, "patch's counts");
+    hold(omphirun_patch(2, grid, sizeof grid, NULL, 0, &one, &two), OMPHIRUN_SHORT_BUFFER, "patch");
+    hold(omphirun_sign(2, NULL, 0, NULL, 0), OMPHIRUN_SHORT_BUFFER, "sign");
+    hold(omphirun_sign(2, grid, sizeof grid, NULL, 0), OMPHIRUN_SHORT_BUFFER, "sign");
+    hold(omphirun_surface(2, NULL, 0, NULL, 0, NULL, 0, &one), OMPHIRUN_SHORT_BUFFER, "surface");
+    hold(omphirun_surface(2, grid, sizeof grid, other, sizeof other, NULL, 0, &one), OMPHIRUN_DONE, "surface without quads");
+    other[0] = 1;
+    hold(omphirun_surface(2, grid, sizeof grid, other, sizeof other, NULL, 0, &one), OMPHIRUN_SIGNS_MISFIT, "surface");
+    grid[0] = 1;
+    hold(omphirun_sign(2, grid, sizeof grid, other, sizeof other), OMPHIRUN_NO_GRID, "sign");
+    grid[0] = 0;
+    grid[2 + 5 * (2 + 5 * 2)] = 1;
+    hold(omphirun_sign(2, grid, sizeof grid, other, sizeof other), OMPHIRUN_ODD_FACE, "sign");
+    return failures > 0;
+}
