@@ -28,19 +28,29 @@ find_kit() {
 
 # ---- the end, and signals
 
-room='' busy=''
+room='' rt_room='' busy=''
 
 # A folder for what is temporary.
 make_room() {
     [ -n "$room" ] || room=$(mktemp -d 2>/dev/null) || die "cannot make a temporary folder in ${TMPDIR:-/tmp}"
 }
 
-finish() { [ -z "$room" ] || rm -rf "$room"; }
+finish() { rm -rf ${room:+"$room"} ${rt_room:+"$rt_room"}; }
 
-# Ends the command that is awaited, with its group where it has one, then the script itself by the signal.
+# Ends the command that is awaited, with its group where it has one, and waits until the group is gone, two seconds at most.
+end_awaited() {
+    kill -s TERM -- "-$!" 2>/dev/null || kill -s TERM "$!" 2>/dev/null || return 0
+    wait "$!" 2>/dev/null || :
+    for _ in 1 2 3 4 5 6 7 8 9 10 11 12 13 14 15 16 17 18 19 20; do
+        kill -s 0 -- "-$!" 2>/dev/null || return 0
+        sleep 0.1
+    done
+}
+
+# Ends what runs, then the script itself by the signal.
 stop() { # SIGNAL
     trap - EXIT
-    [ -z "$busy" ] || kill -s TERM -- "-$!" 2>/dev/null || kill -s TERM "$!" 2>/dev/null || :
+    [ -z "$busy" ] || end_awaited
     finish
     trap - "$1"
     kill -s "$1" $$
@@ -75,17 +85,20 @@ lock() {
 
 unlock() { exec 9<&-; }
 
-# Runs rt with the lock held, in a group of its own that a signal ends with all its provers. Its lines go through SHOW, a function.
+# Runs rt with the lock held, in a group of its own that a signal ends with all its provers, and with a temporary folder of its own, open to
+# the user nobody, as whom rt run by root runs programs. Its lines go through SHOW, a function.
 run_rt() { # SHOW WORD...
     need setsid util-linux
     make_room
+    [ -n "$rt_room" ] || rt_room=$(mktemp -d 2>/dev/null) || die "cannot make a temporary folder in ${TMPDIR:-/tmp}"
+    chmod 711 "$rt_room"
     rm -f "$room/lines"
     mkfifo "$room/lines"
     busy=yes
     "$1" <"$room/lines" &
     shown=$!
     shift
-    (cd "$root" && exec setsid rt "$@") >"$room/lines" 2>&1 &
+    (cd "$root" && TMPDIR=$rt_room exec setsid rt "$@") >"$room/lines" 2>&1 &
     status=0
     await || status=$?
     wait "$shown" || :
