@@ -1,5 +1,6 @@
-/* One call's input, what the harness has to know of a call, and the making of inputs of every kind. A call is added by a file
-   call_NAME.c and a line in `all_calls`; a buffer of a new kind by a line in `kinds`. */
+/* One call's input, what the harness has to know of a call, and the making of inputs of every kind. A call is added by its reference in
+   reference_NAME.c (declared in reference.h, included in second.c), its line in calls.h and calls.c, a file call_NAME.c and its place in
+   `all_calls`; a buffer of a new kind by a line in `kinds`; faults that the comparison has to find by edits in faults/. */
 #ifndef INPUTS_H
 #define INPUTS_H
 

@@ -3,6 +3,8 @@
 
 #include "shrink.h"
 
+enum { MOST_SHOWN = 60, SHOWN_WHOLE = 24 };
+
 /* Marks by name; a byte with more than marks, or behind P, by its index. */
 static void print_points(const struct input *in, int b)
 {
@@ -17,7 +19,7 @@ static void print_points(const struct input *in, int b)
             at[d] = (int)p / m.step[d] % (m.n + 1);
         if (bytes[p] == 0)
             continue;
-        if (shown++ >= 60)
+        if (shown++ >= MOST_SHOWN)
             left++;
         else if (p >= (size_t)m.points || (marks && bytes[p] > 7))
             printf(" [%zu]=%u", p, bytes[p]);
@@ -33,18 +35,36 @@ static void print_points(const struct input *in, int b)
     printf(shown ? "\n" : " none\n");
 }
 
+/* An element's value, by its size. */
+static long element(const struct input *in, int b, size_t e)
+{
+    const uint8_t *bytes = in->buffer[b];
+    size_t size = kinds[b].element;
+    return size == sizeof(int32_t) ? ((int32_t *)bytes)[e] : size == sizeof(uint16_t) ? ((uint16_t *)bytes)[e] : bytes[e];
+}
+
+/* All elements of a short buffer; those of a longer one that are not 0, by index. */
+static void print_elements(const struct input *in, int b)
+{
+    int all = in->len[b] <= SHOWN_WHOLE;
+    size_t shown = 0;
+    printf("  %s, %zu elements%s:", kinds[b].name, in->len[b], all ? "" : ", not 0");
+    for (size_t e = 0; e < in->len[b]; e++)
+        if (all)
+            printf(" %ld", element(in, b, e));
+        else if (element(in, b, e) && shown++ < MOST_SHOWN)
+            printf(" [%zu]=%ld", e, element(in, b, e));
+    if (shown > MOST_SHOWN)
+        printf(" and %zu more", shown - MOST_SHOWN);
+    printf("\n");
+}
+
 void print_input(const struct input *in)
 {
-    printf("  %s, level %u%s\n", in->call->name, in->level, in->null ? ", null for an empty buffer" : "");
+    printf("  %s, level %u\n", in->call->name, in->level);
     for (int b = 0; b < BUFFERS; b++)
-        if (takes(in->call, b) && kinds[b].a_point)
-            print_points(in, b);
-    if (takes(in->call, TRIANGLE)) {
-        printf("  triangle, %zu numbers:", in->len[TRIANGLE]);
-        for (size_t c = 0; c < in->len[TRIANGLE]; c++)
-            printf(" %d", ((int32_t *)in->buffer[TRIANGLE])[c]);
-        printf("\n");
-    }
-    if (takes(in->call, LIST))
-        printf("  list of %zu numbers\n", in->len[LIST]);
+        if (takes(in->call, b) && in->len[b] == 0 && in->null)
+            printf("  %s, null\n", kinds[b].name);
+        else if (takes(in->call, b))
+            (kinds[b].a_point ? print_points : print_elements)(in, b);
 }

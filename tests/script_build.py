@@ -1,5 +1,5 @@
 """Holds what ./repair does before its first run, the build, to what it says. A kit that only pretends stands in for the real one: its `rt check`
-says that crates are proved and puts the real program in place, at once or after a while with a prover in the background."""
+says that crates are proved and puts the real program in place, at once or, with a prover in the background, when it is let go."""
 import contextlib
 import os
 import shutil
@@ -18,7 +18,7 @@ mkdir "$FAKE/at-work" 2>/dev/null || echo "$*" >>"$FAKE/two-at-once"
 echo "rt: rules proved (1 s)"
 if [ -n "${SLOW:-}" ]; then
     # as rt does: provers in the background, which no interrupt reaches
-    sleep "$SLOW" &
+    (while [ -d "$FAKE" ] && [ ! -e "$FAKE/go" ]; do sleep 0.1; done) &
     echo "$!" >>"$FAKE/provers"
     wait
 fi
@@ -69,6 +69,11 @@ class Repository:
         with open(self.source, "a") as file:
             file.write("// more\n")
 
+    def let_go(self):
+        """Ends what pretends to prove."""
+        with open(self.kit + "/go", "w"):
+            pass
+
     def lines(self, name):
         with contextlib.suppress(FileNotFoundError), open(os.path.join(self.kit, name)) as file:
             return file.read().splitlines()
@@ -84,7 +89,11 @@ class Repository:
 @contextlib.contextmanager
 def repository():
     with tempfile.TemporaryDirectory() as folder:
-        yield Repository(folder)
+        made = Repository(folder)
+        try:
+            yield made
+        finally:
+            made.let_go()
 
 
 def runs_again():
@@ -123,7 +132,7 @@ def gone(process):
 def interrupted_build():
     for number in (signal.SIGINT, signal.SIGTERM, signal.SIGHUP):
         with repository() as r:
-            process = r.start(SLOW="60")
+            process = r.start(SLOW="yes")
             r.await_lines("provers", 1)
             process.send_signal(number)
             process.communicate(timeout=SOON)
@@ -138,12 +147,15 @@ def interrupted_build():
 
 def two_at_once():
     with repository() as r:
-        one = r.start(SLOW="2")
+        one = r.start(SLOW="yes")
         r.await_lines("provers", 1)
-        two = r.start()
-        said = [process.communicate(timeout=SOON)[1].decode() for process in (one, two)]
-        hold((one.returncode, two.returncode) == (0, 0), f"both repair: {said}")
-        hold("another run is building here" in said[1], f"the second says why it waits: {said[1]!r}")
+        two = r.start(SLOW="yes")
+        said = two.stderr.readline().decode()
+        r.let_go()
+        for process in (one, two):
+            process.communicate(timeout=SOON)
+        hold("another run is building here" in said, f"the second says why it waits: {said!r}")
+        hold((one.returncode, two.returncode) == (0, 0), "both repair")
         hold(r.lines("asked") == ["check repair"] and not r.lines("two-at-once"), "and does not build again")
 
 

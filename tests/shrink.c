@@ -10,7 +10,7 @@ enum { SECONDS = 10 };
 
 static time_t stop_at;
 static uint32_t answer;
-static struct input trial;
+static struct input candidate;
 
 /* Copies what the call is lent; the rest of the rooms is never looked at. */
 static void copy(struct input *to, const struct input *from)
@@ -23,14 +23,14 @@ static void copy(struct input *to, const struct input *from)
     }
 }
 
-/* Takes the trial over when the sides differ on it and the reference still gives the same answer. */
+/* Takes the candidate over when the sides differ on it and the reference still gives the same answer. */
 static int take(struct input *best)
 {
     struct outcome reference;
     char what[200];
-    if (time(NULL) > stop_at || !differs(&trial, &reference, what, sizeof what) || reference.answer != answer)
+    if (time(NULL) > stop_at || !differs(&candidate, &reference, what, sizeof what) || reference.answer != answer)
         return 0;
-    copy(best, &trial);
+    copy(best, &candidate);
     return 1;
 }
 
@@ -62,11 +62,11 @@ static int lower_level(struct input *best, int which)
     if (!known_level(best->level) || best->level == 2)
         return 0;
     struct measures big = measures_for(best), small = measures_of(best->level - 1);
-    copy(&trial, best);
-    trial.level--;
+    copy(&candidate, best);
+    candidate.level--;
     for (int b = 0; b < BUFFERS; b++)
         if (takes(best->call, b) && kinds[b].a_point)
-            trial.len[b] = crop_buffer(&big, &small, best->buffer[b], trial.buffer[b], best->len[b], which, b == GRID);
+            candidate.len[b] = crop_buffer(&big, &small, best->buffer[b], candidate.buffer[b], best->len[b], which, b == GRID);
     return take(best);
 }
 
@@ -77,14 +77,14 @@ static int shorten(struct input *best, int b)
     int taken = 0;
     const size_t lengths[] = {0, points - 1, points, points + 1};
     for (int l = 0; kinds[b].a_point && l < 4; l++) {
-        copy(&trial, best);
-        trial.len[b] = lengths[l];
+        copy(&candidate, best);
+        candidate.len[b] = lengths[l];
         taken += best->len[b] > lengths[l] && take(best);
     }
     for (size_t cut = best->len[b]; !kinds[b].a_point && cut > 0; cut /= 2) {
-        copy(&trial, best);
-        trial.len[b] -= cut < trial.len[b] ? cut : trial.len[b];
-        taken += trial.len[b] < best->len[b] && take(best);
+        copy(&candidate, best);
+        candidate.len[b] -= cut < candidate.len[b] ? cut : candidate.len[b];
+        taken += candidate.len[b] < best->len[b] && take(best);
     }
     return taken > 0;
 }
@@ -93,19 +93,19 @@ static int shorten(struct input *best, int b)
 static int clear_bytes(struct input *best, int b)
 {
     int taken = 0;
-    uint8_t *bytes = trial.buffer[b];
+    uint8_t *bytes = candidate.buffer[b];
     size_t len = bytes_of(best, b);
     for (size_t run = len; run > 0; run /= 2)
         for (size_t at = 0; at < len && time(NULL) <= stop_at; at += run) {
             size_t bytes_here = at + run < len ? run : len - at, set = 0;
-            copy(&trial, best);
+            copy(&candidate, best);
             for (size_t c = 0; c < bytes_here; c++)
                 set += bytes[at + c] != 0;
             memset(bytes + at, 0, bytes_here);
             taken += set > 0 && take(best);
         }
     for (size_t bit = 0; bit < 8 * len; bit++) {
-        copy(&trial, best);
+        copy(&candidate, best);
         if (bytes[bit / 8] >> bit % 8 & 1) {
             bytes[bit / 8] ^= (uint8_t)(1 << bit % 8);
             taken += take(best);
@@ -144,10 +144,10 @@ static int drop_points(struct input *best)
             size_t dropped = 0;
             if (reference_sign(best->level, best->buffer[GRID], points, inside, points))
                 return taken > 0;
-            copy(&trial, best);
+            copy(&candidate, best);
             for (size_t p = at; p < at + run && p < points; p++)
                 if (inside[p]) {
-                    drop_point(&trial, &m, (int)p);
+                    drop_point(&candidate, &m, (int)p);
                     dropped++;
                 }
             taken += dropped > 0 && take(best);
@@ -159,11 +159,11 @@ static int drop_points(struct input *best)
 static int round_triangle(struct input *best)
 {
     struct measures m = measures_for(best);
-    int32_t *now = (int32_t *)best->buffer[TRIANGLE], *then = (int32_t *)trial.buffer[TRIANGLE];
+    int32_t *now = (int32_t *)best->buffer[TRIANGLE], *then = (int32_t *)candidate.buffer[TRIANGLE];
     int taken = 0;
     for (size_t c = 0; c < best->len[TRIANGLE]; c++)
         for (int unit = m.s; unit > 1; unit /= 2) {
-            copy(&trial, best);
+            copy(&candidate, best);
             then[c] = then[c] / unit * unit;
             if (then[c] != now[c] && take(best)) {
                 taken++;
@@ -171,7 +171,7 @@ static int round_triangle(struct input *best)
             }
         }
     for (int v = 0; best->len[TRIANGLE] == 9 && v < 9; v++) {
-        copy(&trial, best);
+        copy(&candidate, best);
         memcpy(then + 3 * (v / 3), now + 3 * (v % 3), 3 * sizeof *then);
         taken += v / 3 > v % 3 && memcmp(then, now, 9 * sizeof *then) && take(best);
     }
@@ -182,7 +182,7 @@ void shrink(struct input *best, uint32_t reference_answer)
 {
     stop_at = time(NULL) + SECONDS;
     answer = reference_answer;
-    trial = new_input();
+    candidate = new_input();
     for (int smaller = 1; smaller;) {
         smaller = drop_points(best);
         smaller |= lower_level(best, 0) || lower_level(best, 1) || lower_level(best, 2);
