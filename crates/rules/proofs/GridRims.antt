@@ -31,13 +31,18 @@ own-least c f k =
     record { lx = l .0 .low; ly = l .1 .low; lz = l .2 .low; hx = h .0 .high; hy = h .1 .high; hz = h .2 .high }
 
 -- a list that has a member
-abbrev Some : List Face → Type 0
+abbrev pub Some : List Face → Type 0
 Some [] = ⊥
 Some (f ∷ l) = Unit {0}
 
 rims-some : (l : List Face) → All Some (rimsOf l)
 rims-some [] = tt
 rims-some (f ∷ l) = (tt, all-keep Some (λ r. not (joins f r)) (rimsOf l) (rims-some l))
+
+-- no rim is empty
+pub no-rim-empty : (n : ℕ) (E : Set) → All Some (rims n E)
+unfolding rims
+no-rim-empty n E = rims-some (oddFaces n E)
 
 smallest : (r : List Face) → Some r → All Inner r → Smallest r (boxOf r)
 smallest [] s h = absurd s

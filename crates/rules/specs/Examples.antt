@@ -1,5 +1,6 @@
--- Examples 1 to 7 of the rules, and five more that pin the tie between sides, the rounding of the cut, the pairing, the path's order
--- and the count of flips: one table. That every row is right is one claim (proofs/Accepted.antt), proved by computing. Assumes nothing.
+-- Examples 1 to 7 of the rules, and seven more that pin the ties between sides, the rounding of the cut, the pairing, the path's order,
+-- the count of flips and that each rim is patched by itself: one table. That every row is right is one claim (proofs/Accepted.antt),
+-- proved by computing. Assumes nothing.
 use mathlib.Core.Bool.{Bool, _&&_, Bool·beq}
 use mathlib.Core.List.{List, [], _∷_}
 use Prim.Native.Nat.{ℕ}
@@ -113,7 +114,24 @@ table =
     }
     -- two rims whose patches, of nine edges and of one, share an edge: it is not flipped
     ∷ (record { before = ring; rims = 2; flipped = ring; after = []; inside = 0 }
-    ∷ [])))))))))))
+    -- two rims with faces in one plane: each is paired by itself
+    ∷ (record {
+      before = edge Y 1 0 1 ∷ (edge Y 1 1 1 ∷ []);
+      rims = 2;
+      flipped = edge Y 1 0 1 ∷
+          (edge Y 1 1 1 ∷ []);
+      after = [];
+      inside = 0;
+    }
+    -- sides of equal length: y is cut before z
+    ∷ (record {
+      before = edge X 1 2 2 ∷ (edge X 1 2 3 ∷ (edge Z 1 2 2 ∷ (edge Z 1 3 3 ∷ [])));
+      rims = 1;
+      flipped = edge X 0 2 2 ∷ (edge X 1 2 3 ∷ (edge Y 1 1 2 ∷ (edge Y 1 2 2 ∷ (edge Z 1 2 1 ∷ (edge Z 1 3 3 ∷ [])))));
+      after = edge X 0 2 2 ∷ (edge X 1 2 2 ∷ (edge Y 1 1 2 ∷ (edge Y 1 2 2 ∷ (edge Z 1 2 1 ∷ (edge Z 1 2 2 ∷ [])))));
+      inside = 1;
+    }
+    ∷ [])))))))))))))
 
 -- the two sets have the same edges of the level-2 grid
 abbrev sameEdges : Set → Set → Bool
