@@ -3,6 +3,7 @@ pub mod Sizes
 pub mod Units
 pub mod Listed
 pub mod Order
+pub mod Nought
 pub mod Touching
 pub mod Exactly
 pub mod Outside

@@ -1,8 +1,8 @@
--- Touching counts as meeting, and a zero axis never separates. Assumes nothing.
+-- Touching counts as meeting. Assumes nothing.
 use mathlib.Core.Path.{_≡_}
 use mathlib.Core.Bool.{true, false}
 use Prim.Native.Nat.{ℕ, _<_}
-use lib.IntN.{ℤ, pos, _+ℤ_, zero-*ℤ}
+use lib.IntN.{ℤ}
 use lib.ListN.{getD}
 use lib.Signed.{_≤ℤ_, ≤ℤ-refl}
 use Rattle.triangles.specs.declared.Vector.{Vector}
@@ -10,7 +10,7 @@ use Rattle.triangles.specs.declared.Span.{Span}
 use Rattle.triangles.specs.declared.Triangle.{Triangle}
 use Rattle.triangles.specs.declared.Ends.{Ends}
 use Rattle.triangles.specs.Vectors.{nought, dot}
-use Rattle.triangles.specs.Spans.{lesser, greater, spanAt, spanWith, apart, Holds}
+use Rattle.triangles.specs.Spans.{spanAt, spanWith, apart, Holds}
 use Rattle.triangles.specs.Axes.{axes}
 use Rattle.triangles.specs.Meets.{triangleSpan, edgeSpan, separates, edgeMet}
 use Rattle.triangles.proofs.Order.{≤ℤ-trans, le-false, lesser-left, lesser-right, greater-left, greater-right}
@@ -69,11 +69,3 @@ ends-held n e =
 pub touching-meets : (t : Triangle) (e : Ends) (p : ℕ → ℤ) → ((k : ℕ) → k < 13 → Holds (triangleSpan (getD (axes t) k nought) t) (p k) × Holds (edgeSpan (getD (axes t) k nought) e) (p k)) → edgeMet t e ≡ true
 unfolding separates
 touching-meets t e p h = met-exactly t e .1 (λ k b. touching-not-apart (h k b .0) (h k b .1))
-
-zero-dot : (v : Vector) → dot nought v ≡ pos 0
-unfolding dot
-zero-dot v = λ i. zero-*ℤ (v .x) i +ℤ zero-*ℤ (v .y) i +ℤ zero-*ℤ (v .z) i
-
-pub zero-never-separates : (t : Triangle) (e : Ends) → separates nought t e ≡ false
-unfolding separates triangleSpan edgeSpan apart lesser greater
-zero-never-separates t e = simp zero-dot

@@ -15,8 +15,7 @@ minus-requires-2 c κs = search needs
 
 cross-requires : tie.Need-cross-requires
 cross-requires c κs =
-    let h = c .before .before .pre in
-    (rw (c .before .minus .ensures) (minus-size (h .b-in) (h .a-in)), rw (c .minus2 .ensures) (minus-size (h .c-in) (h .a-in)))
+    (rw (c .before .minus .ensures) (minus-size (search needs) (search needs)), rw (c .minus2 .ensures) (minus-size (search needs) (search needs)))
 
 returns : tie.Need-returns
 unfolding normal
