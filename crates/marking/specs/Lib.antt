@@ -5,3 +5,4 @@ pub mod Open
 pub mod Mark
 pub mod Scan
 pub mod Examples
+pub mod Refused

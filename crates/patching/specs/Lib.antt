@@ -2,3 +2,4 @@ pub mod Paint
 pub mod Marked
 pub mod Between
 pub mod Call
+pub mod Refused

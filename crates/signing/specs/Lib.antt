@@ -1,2 +1,3 @@
 pub mod SignBytes
 pub mod Call
+pub mod Refused

@@ -3,3 +3,4 @@ pub mod Misfit
 pub mod Listing
 pub mod Call
 pub mod Turn
+pub mod Refused

@@ -1,0 +1,64 @@
+-- How open and mark are judged: calls written out, each with its number. Where a row is meant, every row behind it applies too, so
+-- that rows in another order give another number. One claim, proved by computing. Assumes nothing.
+use mathlib.Core.Path.{_≡_, refl}
+use mathlib.Core.Bool.{true}
+use mathlib.Core.List.{List, [], _∷_}
+use Prim.Native.Nat.{ℕ}
+use lib.IntN.{ℤ, pos}
+use lib.ListN.{replicate}
+use Rattle.rules.specs.Lists.{allOf}
+use Rattle.rules.specs.Grid.{isGrid}
+use Rattle.lattice.specs.Levels.{levelOf}
+use Rattle.refusals.specs.Columns.{badLevel, levelAt}
+use Rattle.refusals.specs.Cases.{Case, _is_, right, zeros, lone}
+use Rattle.marking.specs.Ranges.{inRange, allInRange}
+use Rattle.marking.specs.Open.{openRows, openCall}
+use Rattle.marking.specs.Mark.{markRows, markCall}
+
+-- k numbers in range at level 2
+abbrev good : ℕ → List ℤ
+good k = replicate k (pos 524288)
+
+-- v, and k numbers in range behind it
+abbrev first : ℕ → ℕ → List ℤ
+first v k = pos v ∷ good k
+
+-- 125 bytes with a byte 8: no grid
+abbrev noGrid : List ℕ
+noGrid = lone 0 8
+
+unfoldable pub cases : List Case
+cases =
+    -- open. 1: level not 2 to 5
+    openCall 1 [] .number is 1
+    ∷ openCall 6 [] .number is 1
+    -- 2: a buffer shorter than P, 125 at level 2 and 729 at level 3
+    ∷ openCall 2 (zeros 124) .number is 2
+    ∷ openCall 3 (zeros 728) .number is 2
+    ∷ openCall 2 (zeros 125) .number is 0
+    ∷ openCall 3 (zeros 729) .number is 0
+    -- mark. 1
+    ∷ markCall 1 (8 ∷ []) (first 0 9) .number is 1
+    ∷ markCall 6 (8 ∷ []) (first 0 9) .number is 1
+    -- 2
+    ∷ markCall 2 (8 ∷ zeros 123) (first 0 9) .number is 2
+    -- 3: not nine numbers, ten or eight
+    ∷ markCall 2 noGrid (first 0 9) .number is 3
+    ∷ markCall 2 noGrid (first 0 7) .number is 3
+    -- example 11: a byte 8 with a coordinate of 0, and with the coordinate mended
+    ∷ markCall 2 noGrid (first 0 8) .number is 4
+    ∷ markCall 2 noGrid (good 9) .number is 5
+    -- 5: a mark on an edge that isn't inner, x(0,0,0), or doesn't exist, x(4,2,2)
+    ∷ markCall 2 (lone 0 1) (good 9) .number is 5
+    ∷ markCall 2 (lone 64 1) (good 9) .number is 5
+    -- example 10: the ends of the range are taken
+    ∷ markCall 2 (zeros 125) (first 262144 8) .number is 0
+    ∷ markCall 2 (zeros 125) (first 262143 8) .number is 4
+    ∷ markCall 2 (zeros 125) (first 786432 8) .number is 0
+    ∷ markCall 2 (zeros 125) (first 786433 8) .number is 4
+    ∷ []
+
+-- every call gives the number that the rules have for it
+pub cases-hold : allOf right cases ≡ true
+unfolding cases badLevel levelAt levelOf openRows openCall markRows markCall inRange allInRange isGrid
+cases-hold = refl

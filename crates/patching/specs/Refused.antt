@@ -1,0 +1,31 @@
+-- How patch is judged: calls written out, each with its number. Where a row is meant, every row behind it applies too, so that rows in
+-- another order give another number. One claim, proved by computing. Assumes nothing.
+use mathlib.Core.Path.{_≡_, refl}
+use mathlib.Core.Bool.{true}
+use mathlib.Core.List.{List, [], _∷_}
+use Rattle.rules.specs.Lists.{allOf}
+use Rattle.rules.specs.Grid.{isGrid}
+use Rattle.lattice.specs.Levels.{levelOf}
+use Rattle.refusals.specs.Columns.{badLevel, levelAt}
+use Rattle.refusals.specs.Cases.{Case, _is_, right, zeros, lone}
+use Rattle.patching.specs.Call.{patchDone, patchRows, patchCall}
+
+unfoldable pub cases : List Case
+cases =
+    -- 1: level not 2 to 5
+    patchCall 1 (8 ∷ []) [] .number is 1
+    ∷ patchCall 6 (8 ∷ []) [] .number is 1
+    -- 2: a grid or a work buffer of 124 bytes
+    ∷ patchCall 2 (8 ∷ zeros 123) (zeros 125) .number is 2
+    ∷ patchCall 2 (lone 0 8) (zeros 124) .number is 2
+    -- 5: a byte 8
+    ∷ patchCall 2 (lone 0 8) (zeros 125) .number is 5
+    -- done, x(2,2,2) marked or none
+    ∷ patchCall 2 (lone 62 1) (zeros 125) .number is 0
+    ∷ patchCall 2 (zeros 125) (zeros 125) .number is 0
+    ∷ []
+
+-- every call gives the number that the rules have for it
+pub cases-hold : allOf right cases ≡ true
+unfolding cases badLevel levelAt levelOf patchRows patchCall patchDone isGrid
+cases-hold = refl
