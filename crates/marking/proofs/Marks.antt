@@ -33,6 +33,11 @@ or-either : (x y : Bool) → x || y ≡ true → (x ≡ true) ⊎ (y ≡ true)
 or-either true y e = inl refl
 or-either false y e = inr e
 
+-- the buffer stays as long as it was
+pub marked-length : (l : Level) (t : Triangle) (g : List ℕ) → pointsOf l ≤ length g → length (marked l t g) ≡ length g
+unfolding marked
+marked-length l t g h = written-length (cellsOf l) (added (marks (cellsOf l) g) (met l t)) g h
+
 -- ---- marking a grid with a triangle in range
 module _ (l : Level) (t : Triangle) (w : TriangleWithin l t) where
   module _ (g : List ℕ) where
@@ -102,8 +107,3 @@ marked-swapped l t u v w g =
   where
     swap : (x y z : Bool) → (x || y) || z ≡ (x || z) || y
     swap x y z = or-assoc x y z ∙ ap (λ (b : Bool). x || b) (or-comm y z) ∙ sym (or-assoc x z y)
-
--- the buffer stays as long as it was
-pub marked-length : (l : Level) (t : Triangle) (g : List ℕ) → pointsOf l ≤ length g → length (marked l t g) ≡ length g
-unfolding marked
-marked-length l t g h = written-length (cellsOf l) (added (marks (cellsOf l) g) (met l t)) g h
