@@ -104,6 +104,11 @@ pub marks-left : (n : ℕ) (g w : List ℕ) → marks n (patchDone n g w .grid) 
 unfolding patchDone
 marks-left n g w = bytes-have-marks n (patched n (marks n g)) (patched-inner n (marks n g) (marks-inner n g)) (drop (pointCount n) g)
 
+-- on a grid
+grid-left : (n : ℕ) (g w : List ℕ) → isGrid n (patchDone n g w .grid) ≡ true
+unfolding patchDone
+grid-left n g w = bytes-are-grid n (patched n (marks n g)) (patched-inner n (marks n g) (marks-inner n g)) (drop (pointCount n) g)
+
 parity-left : (L : ℕ) → badLevel L ≡ false → (g w : List ℕ) → isGrid (cells L) g ≡ true → Parity L (patchDone (cells L) g w .grid)
 unfolding patchDone
 parity-left L good g w grid =
@@ -113,6 +118,9 @@ parity-left L good g w grid =
 module _ (L : ℕ) (g w : List ℕ) (e : patchCall L g w .number ≡ 0) where
   left-marks : marks (cells L) (patchCall L g w .grid) ≡ patched (cells L) (marks (cells L) g)
   left-marks = ap (λ (o : Patching). marks (cells L) (o .grid)) (patch-done L g w e .outcome) ∙ marks-left (cells L) g w
+
+  left-grid : isGrid (cells L) (patchCall L g w .grid) ≡ true
+  left-grid = ap (λ (o : Patching). isGrid (cells L) (o .grid)) (patch-done L g w e .outcome) ∙ grid-left (cells L) g w
 
   left-parity : Parity L (patchCall L g w .grid)
   left-parity =
@@ -124,12 +132,13 @@ module _ (L : ℕ) (g w : List ℕ) (e : patchCall L g w .number ≡ 0) where
   left-boxed a p d =
       grid-repaired (cells L) g (patch-done L g w e .grid) .boxed a p (λ q. d (q ∙ ap (λ (E : Set). E a p) (sym left-marks)))
 
--- whatever is lent, patch counts rims and flips and leaves the patched marks where it is done
+-- whatever is lent, patch counts rims and flips and leaves a grid with the patched marks where it is done
 pub promised-condition-2 : Condition2 promised
 unfolding patchDone
 promised-condition-2 = record {
   counted = λ L g w e. ap (λ (o : Patching). o .rims) (patch-done L g w e .outcome);
   flipped = λ L g w e. ap (λ (o : Patching). o .flips) (patch-done L g w e .outcome);
+  grid = left-grid;
   patched = λ L g w e a p. ap (λ (E : Set). E a p) (left-marks L g w e);
 }
 

@@ -5,3 +5,4 @@ pub mod Condition
 pub mod Again
 pub mod TurnedAway
 pub mod Examples
+pub mod Such

@@ -1,30 +1,26 @@
--- Stages that are turned away, each by the condition that it breaks. Assumes nothing.
-use mathlib.Core.Path.{_≡_, refl, sym, ap, subst}
-use mathlib.Core.Bool.{Bool, true, false, cond, true≢false}
-use mathlib.Core.List.{List, [], _∷_, _++_}
-use mathlib.Core.Logic.{_≢_}
-use Prim.Native.Nat.{ℕ, _+_}
-use native.Mathlib.Omega.{arith}
-use lib.Dec.{eqb}
-use lib.ListN.{drop, replicate}
+-- Stages that are turned away, each by the condition that it breaks, whatever else it does. Assumes nothing.
+use mathlib.Core.Path.{_≡_, refl, sym, ap, _∙_}
+use mathlib.Core.Bool.{true, false, true≢false}
+use mathlib.Core.List.{List, [], _∷_}
+use Prim.Native.Nat.{ℕ}
+use lib.ListN.{replicate}
 use Rattle.rules.specs.declared.Axis.the-variants.{X, Y}
+use Rattle.rules.specs.declared.Point.{Point}
 use Rattle.rules.specs.Lattice.{Edge, setOf}
+use Rattle.rules.specs.Cell.{oddFace}
 use Rattle.rules.specs.Grid.{marks, bytes, isGrid}
 use Rattle.rules.specs.Rims.{rims, oddFaces}
-use Rattle.rules.specs.Patch.{patchRim, flips, patched, flipCount}
-use Rattle.rules.proofs.Bits.{eqb-yes, eqb→}
+use Rattle.rules.specs.Patch.{patchRim, flips, patched}
 use Rattle.rules.specs.Examples.{single}
 use Rattle.lattice.specs.Levels.{levelOf}
 use Rattle.refusals.specs.Columns.{badLevel, levelAt}
 use Rattle.marking.specs.Open.{openRows, openCall}
-use Rattle.patching.specs.Call as Patching
 use Rattle.patching.specs.Call.{patchCall, patchRows, patchDone}
-use Rattle.promises.specs.Table.{cells, pointsAt, Call, Open}
-use Rattle.promises.specs.Stage.{Keeps, Done, Even, Signed, Routed, Boxed, Condition1, Condition2}
-use Rattle.promises.specs.Wrong.{refusing, withPatch, emptying, leaving, patchingFirst, inventing}
+use Rattle.promises.specs.Table.{Open, Patch}
+use Rattle.promises.specs.Stage.{Stage, Keeps, Even, Boxed, Condition1, Condition2}
+use Rattle.promises.specs.Wrong.{Refuses, Spoils, Takes, Yields, none, firstPatched, Leaves, Miscounts, Misflips}
 use Rattle.promises.proofs.Numbers.{promised-condition-1}
-use Rattle.promises.proofs.Done.{patch-done}
-use Rattle.promises.proofs.Condition.{Parity, parity-of, keeps-condition-1, keeps-condition-2, keeps-condition-3}
+use Rattle.promises.proofs.Condition.{keeps-condition-1, keeps-condition-2, keeps-condition-3}
 
 -- edge x(i,j,k)
 abbrev xEdge : ℕ → ℕ → ℕ → Edge
@@ -37,79 +33,80 @@ buffer l = bytes 4 (setOf l)
 abbrev work : List ℕ
 work = replicate 125 0
 
--- a wrong patch is done where the promised one is, and only there
-module _ (f : ℕ → List ℕ → Patching.Outcome → Patching.Outcome) (L : ℕ) (g w : List ℕ) where
-  was-done : Done (withPatch f) L g w → patchCall L g w .number ≡ 0
-  was-done = go (eqb (patchCall L g w .number) 0) refl
-    where
-      go : (b : Bool) → eqb (patchCall L g w .number) 0 ≡ b → cond b (f L g (patchCall L g w)) (patchCall L g w) .number ≡ 0 →
-          patchCall L g w .number ≡ 0
-      go true e d = eqb→ _ 0 e
-      go false e d = d
-
-  does : patchCall L g w .number ≡ 0 → withPatch f .patches L g w ≡ f L g (patchCall L g w)
-  does e = ap (λ (b : Bool). cond b (f L g (patchCall L g w)) (patchCall L g w)) (eqb-yes (patchCall L g w .number) 0 e)
+-- the points that are looked at
+abbrev at122 : Point
+at122 = record { i = 1; j = 2; k = 2 }
 
 -- ---- one that refuses everything breaks condition 1: a call of open with a buffer of P bytes is to be done
-pub refusing-breaks-1 : (f : ℕ → Call → ℕ) → ((L : ℕ) (c : Call) → f L c ≢ 0) → ¬ (Condition1 (refusing f))
-unfolding refusing openCall openRows badLevel levelAt levelOf
-refusing-breaks-1 f never one =
+pub refusing-breaks-1 : (s : Stage) → Refuses s → ¬ (Condition1 s)
+unfolding openCall openRows badLevel levelAt levelOf
+refusing-breaks-1 s never one =
     let c = Open work in
     never 2 c (one .exactly 2 c 0 .1 (promised-condition-1 .exactly 2 c 0 .0 refl))
 
--- ---- one that always yields the empty grid
--- the wrong outcome
-abbrev emptied : ℕ → List ℕ → Patching.Outcome → Patching.Outcome
-emptied L g o = Patching.counted (o .rims) (o .flips) (bytes (cells L) (λ a p. false) ++ drop (pointsAt L) g) (o .work)
+-- ---- one that changes a buffer or returns a count where it refuses breaks condition 1, whatever its numbers are
+pub spoiling-breaks-1 : (s : Stage) → Spoils s → ¬ (Condition1 s)
+spoiling-breaks-1 s w one = w .changed (one .untouched (w .level) (w .call) (w .refused))
 
-parity : (L : ℕ) (g w : List ℕ) → Done emptying L g w → Parity L (emptying .patches L g w .grid)
-unfolding emptying
-parity L g w d =
-    let e = was-done emptied L g w d in
-    let k = patch-done L g w e in
-    subst (λ (o : Patching.Outcome). Parity L (o .grid)) (sym (does emptied L g w e))
-    (parity-of L (k .good) (λ a p. false) (λ a p q. absurd (true≢false (sym q))) (λ a p. refl) (drop (pointsAt L) g))
+-- ---- one that keeps condition 1 takes what it is to take
+pub takes-by-1 : (s : Stage) → Condition1 s → Takes s
+takes-by-1 s one L g w e = one .exactly L (Patch g w) 0 .1 (promised-condition-1 .exactly L (Patch g w) 0 .0 e)
 
--- it keeps condition 3's parity: every face is even, sign takes the grid, and its bytes agree with the marks along any route
-pub emptying-keeps-parity : Even emptying × Signed emptying × Routed emptying
-unfolding emptying
-emptying-keeps-parity = (λ L g w d. parity L g w d .even, λ L g w d. parity L g w d .signed, λ L g w d. parity L g w d .routed)
-
--- it breaks condition 2, by example 2, whose marks stay
-pub emptying-breaks-2 : ¬ (Condition2 emptying)
-unfolding emptying patchCall patchRows patchDone badLevel levelAt levelOf single isGrid bytes marks rims oddFaces patched flips
-emptying-breaks-2 c = true≢false (sym (c .patched 2 (buffer single) work refl X (record { i = 1; j = 2; k = 2 })))
+-- ---- one that takes it and always yields the empty grid
+-- breaks condition 2, by example 2, whose marks stay
+pub emptying-breaks-2 : (s : Stage) → Takes s → Yields none s → ¬ (Condition2 s)
+unfolding patchCall patchRows patchDone badLevel levelAt levelOf single isGrid bytes marks rims oddFaces patched flips
+emptying-breaks-2 s takes empty c =
+    let d = takes 2 (buffer single) work refl in
+    true≢false (sym (c .patched 2 (buffer single) work d X at122) ∙ ap (λ (h : List ℕ). marks 4 h X at122) (empty 2 (buffer single) work d))
 
 -- and condition 3's box rule: example 2 has no rim, and so no box that an altered edge could lie in
-pub emptying-breaks-box : ¬ (Boxed emptying)
-unfolding emptying patchCall patchRows patchDone badLevel levelAt levelOf single isGrid bytes marks rims oddFaces
-emptying-breaks-box boxed = true≢false (sym (boxed 2 (buffer single) work refl X (record { i = 1; j = 2; k = 2 }) (λ e. true≢false e)))
+pub emptying-breaks-box : (s : Stage) → Takes s → Yields none s → ¬ (Boxed s)
+unfolding patchCall patchRows patchDone badLevel levelAt levelOf single isGrid bytes marks rims oddFaces
+emptying-breaks-box s takes empty boxed =
+    let d = takes 2 (buffer single) work refl in
+    true≢false (sym (boxed 2 (buffer single) work d X at122 (λ e. true≢false
+    (e ∙ ap (λ (h : List ℕ). marks 4 h X at122) (empty 2 (buffer single) work d)))))
 
--- ---- one that leaves the grid alone breaks condition 3's even faces, by example 4
-pub leaving-breaks-even : ¬ (Even leaving)
-unfolding leaving patchCall patchRows patchDone badLevel levelAt levelOf isGrid bytes marks
-leaving-breaks-even even = true≢false (even 2 (buffer (xEdge 2 2 2 ∷ [])) work refl Y (record { i = 2; j = 2; k = 2 }))
+-- ---- one that takes it and leaves the grid alone breaks condition 3's even faces, by example 4
+pub leaving-breaks-even : (s : Stage) → Takes s → Leaves s → ¬ (Even s)
+unfolding patchCall patchRows patchDone badLevel levelAt levelOf isGrid bytes marks
+leaving-breaks-even s takes leaves even =
+    let g = buffer (xEdge 2 2 2 ∷ []) in
+    let d = takes 2 g work refl in
+    let p : Point = record { i = 2; j = 2; k = 2 } in
+    true≢false (sym (ap (λ (h : List ℕ). oddFace (marks 4 h) Y p) (leaves 2 g work d)) ∙ even 2 g work d Y p)
 
--- ---- one that patches its first rim and only counts the others breaks condition 3's even faces, by example 5
-pub first-rim-breaks-even : ¬ (Even patchingFirst)
-unfolding patchingFirst patchCall patchRows patchDone badLevel levelAt levelOf isGrid bytes marks rims oddFaces patchRim
-first-rim-breaks-even even = true≢false (even 2 (buffer (xEdge 0 1 1 ∷ (xEdge 2 3 3 ∷ []))) work refl Y (record { i = 2; j = 3; k = 3 }))
+-- ---- one that takes it, patches its first rim and only counts the others breaks condition 3's even faces, by example 5
+pub first-rim-breaks-even : (s : Stage) → Takes s → Yields firstPatched s → ¬ (Even s)
+unfolding patchCall patchRows patchDone badLevel levelAt levelOf isGrid bytes marks rims oddFaces patchRim
+first-rim-breaks-even s takes first even =
+    let g = buffer (xEdge 0 1 1 ∷ (xEdge 2 3 3 ∷ [])) in
+    let d = takes 2 g work refl in
+    let p : Point = record { i = 2; j = 3; k = 3 } in
+    true≢false (sym (ap (λ (h : List ℕ). oddFace (marks 4 h) Y p) (first 2 g work d)) ∙ even 2 g work d Y p)
 
--- ---- one that invents rims or flips breaks condition 2, by example 1
-pub inventing-breaks-2 : (r f : ℕ) → ¬ ((r ≡ 0) × (f ≡ 0)) → ¬ (Condition2 (inventing r f))
-unfolding inventing patchCall patchRows patchDone badLevel levelAt levelOf isGrid bytes marks rims oddFaces flipCount patched flips
-inventing-breaks-2 r f some c =
-    let a : 0 + r ≡ 0 = c .counted 2 (buffer []) work refl in
-    let b : 0 + f ≡ 0 = c .flipped 2 (buffer []) work refl in
-    some (omega arith, omega arith)
+-- ---- one that is somewhere done with another number of rims or of flips than the grid has breaks condition 2
+pub miscounting-breaks-2 : (s : Stage) → Miscounts s → ¬ (Condition2 s)
+miscounting-breaks-2 s m c = m .wrong (c .counted (m .level) (m .grid) (m .work) (m .done), c .flipped (m .level) (m .grid) (m .work) (m .done))
+
+-- ---- and so does one that somewhere flips more edges, or fewer, or others
+pub misflipping-breaks-2 : (s : Stage) → Misflips s → ¬ (Condition2 s)
+misflipping-breaks-2 s m c = m .wrong (c .patched (m .level) (m .grid) (m .work) (m .done) (m .axis) (m .point))
 
 -- ---- so none of them keeps the promises
-pub none-keeps : (f : ℕ → Call → ℕ) → ((L : ℕ) (c : Call) → f L c ≢ 0) → (r i : ℕ) → ¬ ((r ≡ 0) × (i ≡ 0)) →
-    ¬ (Keeps (refusing f)) × ¬ (Keeps emptying) × ¬ (Keeps leaving) × ¬ (Keeps patchingFirst) × ¬ (Keeps (inventing r i))
-none-keeps f never r i some = (
-  λ k. refusing-breaks-1 f never (keeps-condition-1 (refusing f) k),
-  λ k. emptying-breaks-2 (keeps-condition-2 emptying k),
-  λ k. leaving-breaks-even (keeps-condition-3 leaving k .even),
-  λ k. first-rim-breaks-even (keeps-condition-3 patchingFirst k .even),
-  λ k. inventing-breaks-2 r i some (keeps-condition-2 (inventing r i) k),
-)
+pub none-keeps : (s : Stage) → Keeps s →
+    ¬ (Refuses s) × ¬ (Spoils s) × ¬ (Yields none s) × ¬ (Leaves s) × ¬ (Yields firstPatched s) × ¬ (Miscounts s) × ¬ (Misflips s)
+none-keeps s k =
+    let one = keeps-condition-1 s k in
+    let two = keeps-condition-2 s k in
+    let takes = takes-by-1 s one in
+    let even = keeps-condition-3 s k .even in (
+      λ w. refusing-breaks-1 s w one,
+      λ w. spoiling-breaks-1 s w one,
+      λ w. emptying-breaks-2 s takes w two,
+      λ w. leaving-breaks-even s takes w even,
+      λ w. first-rim-breaks-even s takes w even,
+      λ w. miscounting-breaks-2 s w two,
+      λ w. misflipping-breaks-2 s w two,
+    )

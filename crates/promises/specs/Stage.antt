@@ -12,7 +12,7 @@ use Rattle.rules.specs.declared.Place.{Place}
 use Rattle.rules.specs.Lists.{parity, anyOf}
 use Rattle.rules.specs.Lattice.{Set, isIn, edgeIn}
 use Rattle.rules.specs.Cell.{oddFace}
-use Rattle.rules.specs.Grid.{marks}
+use Rattle.rules.specs.Grid.{marks, isGrid}
 use Rattle.rules.specs.Rims.{boxOf, rims}
 use Rattle.rules.specs.Patch.{patched, flipCount}
 use Rattle.rules.specs.Condition.{Route}
@@ -55,7 +55,11 @@ numberBy s L (Sign g b) = s .signs L g b .number
 numberBy s L (Surface g b q) = s .surfaces L g b q .number
 
 -- ---- condition 1
--- counts of 0, and every buffer as it was lent
+-- each number is given exactly when its row applies and none before it does; 0 when none applies
+abbrev pub Exactly : Stage → Type 0
+Exactly s = (L : ℕ) (c : Call) (k : ℕ) → (numberBy s L c ≡ k) ↔ Given (table L c) k
+
+-- counts of 0, and every buffer that is lent to be written to as it was; one that is lent to be read no call can change
 abbrev pub Untouched : Stage → ℕ → Call → Type 0
 Untouched s L (Open g) = s .opens L g .grid ≡ g
 Untouched s L (Mark g t) = s .marks L g t .grid ≡ g
@@ -64,8 +68,7 @@ Untouched s L (Sign g b) = s .signs L g b .signs ≡ b
 Untouched s L (Surface g b q) = let o = s .surfaces L g b q in (o .quads ≡ 0) × (o .list ≡ q)
 
 pub record Condition1 (s : Stage) : Type 0 where
-  -- each number is given exactly when its row applies and none before it does; 0 when none applies
-  pub exactly : (L : ℕ) (c : Call) (k : ℕ) → (numberBy s L c ≡ k) ↔ Given (table L c) k
+  pub exactly : Exactly s
   -- where several apply the lowest number is given, if the numbers of the rows rise
   pub lowest : (L : ℕ) (c : Call) → rising 0 (table L c) ≡ true → (k : ℕ) → (numberBy s L c ≡ k) ↔ Lowest (table L c) k
   -- a refusal returns counts of 0 and changes no buffer
@@ -84,10 +87,11 @@ marksAfter s L g w = marks (cells L) (s .patches L g w .grid)
 abbrev pub signAfter : Stage → ℕ → List ℕ → List ℕ → List ℕ → Signing
 signAfter s L g w b = s .signs L (s .patches L g w .grid) b
 
--- ---- condition 2, of patch: the number of rims and of flips is returned, and the grid is patched
+-- ---- condition 2, of patch: the number of rims and of flips is returned, and the grid is patched: it is a grid, with the patched marks
 pub record Condition2 (s : Stage) : Type 0 where
   pub counted : (L : ℕ) (g w : List ℕ) → Done s L g w → s .patches L g w .rims ≡ length (rims (cells L) (marks (cells L) g))
   pub flipped : (L : ℕ) (g w : List ℕ) → Done s L g w → s .patches L g w .flips ≡ flipCount (cells L) (marks (cells L) g)
+  pub grid : (L : ℕ) (g w : List ℕ) → Done s L g w → isGrid (cells L) (s .patches L g w .grid) ≡ true
   pub patched : (L : ℕ) (g w : List ℕ) → Done s L g w → (a : Axis) (p : Point) →
       marksAfter s L g w a p ≡ patched (cells L) (marks (cells L) g) a p
 

@@ -1,13 +1,19 @@
--- Stages that fall short, each as a function. Assumes nothing.
+-- Stages that fall short: what each does, whatever else it may do, and a function that does it. Assumes nothing.
+use mathlib.Core.Path.{_≡_}
 use mathlib.Core.Bool.{false, cond}
 use mathlib.Core.List.{List, [], _∷_, _++_}
-use Prim.Native.Nat.{ℕ, _+_}
+use mathlib.Core.Logic.{_≢_}
+use Prim.Native.Nat.{ℕ, suc, _+_}
 use lib.Dec.{eqb}
-use lib.ListN.{drop}
-use Rattle.rules.specs.Lattice.{Edge, Face, Set, setOf, symdiff}
+use lib.ListN.{length, drop, replicate}
+use Rattle.rules.specs.declared.Axis.{Axis}
+use Rattle.rules.specs.declared.Axis.the-variants.{X}
+use Rattle.rules.specs.declared.Point.{Point}
+use Rattle.rules.specs.Lists.{count}
+use Rattle.rules.specs.Lattice.{Edge, Face, Set, isIn, setOf, symdiff, places}
 use Rattle.rules.specs.Grid.{marks, bytes}
 use Rattle.rules.specs.Rims.{rims}
-use Rattle.rules.specs.Patch.{patchRim}
+use Rattle.rules.specs.Patch.{patchRim, patched, flipCount}
 use Rattle.marking.specs.Outcome as Marking
 use Rattle.marking.specs.Open.{openCall}
 use Rattle.marking.specs.Mark.{markCall}
@@ -18,9 +24,66 @@ use Rattle.signing.specs.Call.{signCall}
 use Rattle.surfacing.specs.Call as Surfacing
 use Rattle.surfacing.specs.Call.{surfaceCall}
 use Rattle.promises.specs.Table.{cells, pointsAt, Call, Open, Mark, Patch, Sign, Surface}
-use Rattle.promises.specs.Stage.{Stage}
+use Rattle.promises.specs.Stage.{Stage, numberBy, Untouched, Done, marksAfter}
 
--- a stage that refuses everything, each call by some number
+-- ---- what a stage does
+-- it refuses everything
+abbrev pub Refuses : Stage → Type 0
+Refuses s = (L : ℕ) (c : Call) → numberBy s L c ≢ 0
+
+-- somewhere it refuses, and changes a buffer or returns a count
+pub record Spoils (s : Stage) : Type 0 where
+  pub level : ℕ
+  pub call : Call
+  pub refused : numberBy s level call ≢ 0
+  pub changed : ¬ (Untouched s level call)
+
+-- patch is done where it is to be
+abbrev pub Takes : Stage → Type 0
+Takes s = (L : ℕ) (g w : List ℕ) → patchCall L g w .number ≡ 0 → Done s L g w
+
+-- with these marks in the grid afterwards, and what lay behind it
+abbrev pub Yields : (ℕ → List ℕ → Set) → Stage → Type 0
+Yields F s = (L : ℕ) (g w : List ℕ) → Done s L g w → s .patches L g w .grid ≡ bytes (cells L) (F L g) ++ drop (pointsAt L) g
+
+-- no marks
+abbrev pub none : ℕ → List ℕ → Set
+none L g a p = false
+
+-- the patch of the first rim
+abbrev pub firstPatch : List (List Face) → List Edge
+firstPatch [] = []
+firstPatch (r ∷ rs) = patchRim r
+
+-- the marks with the first rim patched and no other
+abbrev pub firstPatched : ℕ → List ℕ → Set
+firstPatched L g = symdiff (marks (cells L) g) (setOf (firstPatch (rims (cells L) (marks (cells L) g))))
+
+-- it leaves the grid alone
+abbrev pub Leaves : Stage → Type 0
+Leaves s = (L : ℕ) (g w : List ℕ) → Done s L g w → s .patches L g w .grid ≡ g
+
+-- somewhere it is done with another number of rims or of flips than the grid has
+pub record Miscounts (s : Stage) : Type 0 where
+  pub level : ℕ
+  pub grid : List ℕ
+  pub work : List ℕ
+  pub done : Done s level grid work
+  pub wrong : let o = s .patches level grid work in let E = marks (cells level) grid in
+      ¬ ((o .rims ≡ length (rims (cells level) E)) × (o .flips ≡ flipCount (cells level) E))
+
+-- somewhere it is done, and an edge's mark is not that of the patched grid: it flips more edges, or fewer, or others
+pub record Misflips (s : Stage) : Type 0 where
+  pub level : ℕ
+  pub grid : List ℕ
+  pub work : List ℕ
+  pub done : Done s level grid work
+  pub axis : Axis
+  pub point : Point
+  pub wrong : marksAfter s level grid work axis point ≢ patched (cells level) (marks (cells level) grid) axis point
+
+-- ---- a stage that does it
+-- one that refuses everything, each call by some number
 unfoldable pub refusing : (ℕ → Call → ℕ) → Stage
 refusing f = record {
   opens = λ L g. Marking.refused g (f L (Open g));
@@ -46,21 +109,45 @@ withMarks F = withPatch (λ L g o. Patching.counted (o .rims) (o .flips) (bytes 
 
 -- one that always yields the empty grid
 unfoldable pub emptying : Stage
-emptying = withMarks (λ L g a p. false)
+emptying = withMarks none
 
 -- one that leaves the grid alone
 unfoldable pub leaving : Stage
 leaving = withPatch (λ L g o. Patching.counted (o .rims) (o .flips) g (o .work))
 
--- the patch of the first rim
-abbrev pub firstPatch : List (List Face) → List Edge
-firstPatch [] = []
-firstPatch (r ∷ rs) = patchRim r
-
 -- one that patches its first rim and only counts the others
 unfoldable pub patchingFirst : Stage
-patchingFirst = withMarks (λ L g. symdiff (marks (cells L) g) (setOf (firstPatch (rims (cells L) (marks (cells L) g)))))
+patchingFirst = withMarks firstPatched
 
 -- one that invents r rims and f flips
 unfoldable pub inventing : ℕ → ℕ → Stage
 inventing r f = withPatch (λ L g o. Patching.counted (o .rims + r) (o .flips + f) (o .grid) (o .work))
+
+-- the patched marks with x(2,2,2) turned besides
+abbrev pub moreFlipped : ℕ → List ℕ → Set
+moreFlipped L g = symdiff (patched (cells L) (marks (cells L) g)) (setOf (record { axis = X; at = record { i = 2; j = 2; k = 2 } } ∷ []))
+
+-- one that really flips an edge more, and counts it
+unfoldable pub flippingMore : Stage
+flippingMore =
+    withPatch (λ L g o. Patching.counted (o .rims) (count (isIn (symdiff (marks (cells L) g) (moreFlipped L g))) (places (suc (cells L))))
+    (bytes (cells L) (moreFlipped L g) ++ drop (pointsAt L) g) (o .work))
+
+-- as many bytes of 0
+abbrev pub wiped : List ℕ → List ℕ
+wiped b = replicate (length b) 0
+
+-- an outcome that is done, or the refusal of its number
+module _ {O : Type 0} where
+  abbrev pub refusedAs : (O → ℕ) → (ℕ → O) → O → O
+  refusedAs number refused o = cond (eqb (number o) 0) o (refused (number o))
+
+-- one that gives the right numbers, and wipes its buffers where it refuses
+unfoldable pub wiping : Stage
+wiping = record {
+  opens = λ L g. refusedAs (λ o. o .number) (Marking.refused (wiped g)) (openCall L g);
+  marks = λ L g t. refusedAs (λ o. o .number) (Marking.refused (wiped g)) (markCall L g t);
+  patches = λ L g w. refusedAs (λ o. o .number) (Patching.refused (wiped g) (wiped w)) (patchCall L g w);
+  signs = λ L g b. refusedAs (λ o. o .number) (Signing.refused (wiped b)) (signCall L g b);
+  surfaces = λ L g b q. refusedAs (λ o. o .number) (Surfacing.refused (wiped q)) (surfaceCall L g b q);
+}

@@ -1,0 +1,139 @@
+-- There are stages that do what Wrong says of them, so that what turns them away speaks of something. Assumes nothing.
+use mathlib.Core.Path.{_≡_, refl, sym, ap, subst, _∙_}
+use mathlib.Core.Bool.{Bool, true, false, cond, true≢false}
+use mathlib.Core.List.{List, [], _∷_, _++_}
+use mathlib.Core.Logic.{_≢_}
+use Prim.Native.Nat.{ℕ, _+_}
+use native.Mathlib.Omega.{arith}
+use lib.Dec.{eqb}
+use lib.ListN.{drop, getD, replicate}
+use Rattle.rules.specs.declared.Axis.the-variants.{X}
+use Rattle.rules.specs.Lattice.{Set, setOf}
+use Rattle.rules.specs.Grid.{marks, bytes, isGrid}
+use Rattle.rules.specs.Rims.{rims, oddFaces}
+use Rattle.rules.specs.Patch.{flips, patched, flipCount}
+use Rattle.rules.proofs.Bits.{eqb-yes, eqb→}
+use Rattle.lattice.specs.Levels.{levelOf}
+use Rattle.refusals.specs.Columns.{badLevel, levelAt}
+use Rattle.marking.specs.Open.{openRows, openCall}
+use Rattle.marking.specs.Mark.{markCall}
+use Rattle.marking.specs.Outcome as Marking
+use Rattle.patching.specs.Call as Patching
+use Rattle.patching.specs.Call.{patchCall, patchRows, patchDone}
+use Rattle.signing.specs.Call as Signing
+use Rattle.signing.specs.Call.{signCall}
+use Rattle.surfacing.specs.Call as Surfacing
+use Rattle.surfacing.specs.Call.{surfaceCall}
+use Rattle.promises.specs.Table.{cells, pointsAt, Call, Open, Mark, Patch, Sign, Surface}
+use Rattle.promises.specs.Stage.{promised, numberBy, Exactly, Done, Even, Signed, Routed}
+use Rattle.promises.specs.Wrong.{Refuses, Spoils, Takes, Yields, none, firstPatched, Leaves, Miscounts, Misflips}
+use Rattle.promises.specs.Wrong.{refusing, withPatch, withMarks, emptying, leaving, patchingFirst, inventing, flippingMore, wiped, refusedAs, wiping}
+use Rattle.promises.proofs.Numbers.{promised-condition-1}
+use Rattle.promises.proofs.Done.{patch-done}
+use Rattle.promises.proofs.Condition.{Parity, parity-of}
+
+-- a wrong patch is done where the promised one is, and only there
+module _ (f : ℕ → List ℕ → Patching.Outcome → Patching.Outcome) (L : ℕ) (g w : List ℕ) where
+  was-done : Done (withPatch f) L g w → patchCall L g w .number ≡ 0
+  was-done = go (eqb (patchCall L g w .number) 0) refl
+    where
+      go : (b : Bool) → eqb (patchCall L g w .number) 0 ≡ b → cond b (f L g (patchCall L g w)) (patchCall L g w) .number ≡ 0 →
+          patchCall L g w .number ≡ 0
+      go true e d = eqb→ _ 0 e
+      go false e d = d
+
+  does : patchCall L g w .number ≡ 0 → withPatch f .patches L g w ≡ f L g (patchCall L g w)
+  does e = ap (λ (b : Bool). cond b (f L g (patchCall L g w)) (patchCall L g w)) (eqb-yes (patchCall L g w .number) 0 e)
+
+  done-so : Done (withPatch f) L g w → withPatch f .patches L g w ≡ f L g (patchCall L g w)
+  done-so d = does (was-done d)
+
+pub refusing-refuses : (f : ℕ → Call → ℕ) → ((L : ℕ) (c : Call) → f L c ≢ 0) → Refuses (refusing f)
+unfolding refusing
+refusing-refuses f never L (Open g) = never L (Open g)
+refusing-refuses f never L (Mark g t) = never L (Mark g t)
+refusing-refuses f never L (Patch g w) = never L (Patch g w)
+refusing-refuses f never L (Sign g b) = never L (Sign g b)
+refusing-refuses f never L (Surface g b q) = never L (Surface g b q)
+
+-- the wrong grid in the outcome
+abbrev put : (ℕ → List ℕ → Set) → ℕ → List ℕ → Patching.Outcome → Patching.Outcome
+put F L g o = Patching.counted (o .rims) (o .flips) (bytes (cells L) (F L g) ++ drop (pointsAt L) g) (o .work)
+
+with-marks : (F : ℕ → List ℕ → Set) → Takes (withMarks F) × Yields F (withMarks F)
+with-marks F = (
+  λ L g w e. ap (λ (o : Patching.Outcome). o .number) (does (put F) L g w e),
+  λ L g w d. ap (λ (o : Patching.Outcome). o .grid) (done-so (put F) L g w d),
+)
+
+pub emptying-empties : Takes emptying × Yields none emptying
+unfolding emptying
+emptying-empties = with-marks none
+
+pub patching-first : Takes patchingFirst × Yields firstPatched patchingFirst
+unfolding patchingFirst
+patching-first = with-marks firstPatched
+
+pub leaving-leaves : Takes leaving × Leaves leaving
+unfolding leaving
+leaving-leaves = (
+  λ L g w e. ap (λ (o : Patching.Outcome). o .number) (does (λ K h o. Patching.counted (o .rims) (o .flips) h (o .work)) L g w e),
+  λ L g w d. ap (λ (o : Patching.Outcome). o .grid) (done-so (λ K h o. Patching.counted (o .rims) (o .flips) h (o .work)) L g w d),
+)
+
+-- on a grid without marks
+pub inventing-miscounts : (r f : ℕ) → ¬ ((r ≡ 0) × (f ≡ 0)) → Miscounts (inventing r f)
+unfolding inventing patchCall patchRows patchDone badLevel levelAt levelOf isGrid bytes marks rims oddFaces flipCount patched flips
+inventing-miscounts r f some = record {
+  level = 2;
+  grid = bytes 4 (setOf []);
+  work = replicate 125 0;
+  done = refl;
+  wrong = λ h. let a : 0 + r ≡ 0 = h .0 in let b : 0 + f ≡ 0 = h .1 in some (omega arith, omega arith);
+}
+
+pub flipping-more : Misflips flippingMore
+unfolding flippingMore patchCall patchRows patchDone badLevel levelAt levelOf isGrid bytes marks rims oddFaces patched flips
+flipping-more =
+    record { level = 2; grid = bytes 4 (setOf []); work = replicate 125 0; done = refl; axis = X; point = record { i = 2; j = 2; k = 2 }; wrong = λ e. true≢false e }
+
+-- it gives the right numbers
+number-kept : {O : Type 0} (number : O → ℕ) (refused : ℕ → O) → ((k : ℕ) → number (refused k) ≡ k) → (o : O) →
+    number (refusedAs number refused o) ≡ number o
+number-kept number refused named o = go (eqb (number o) 0)
+  where
+    go : (b : Bool) → number (cond b o (refused (number o))) ≡ number o
+    go true = refl
+    go false = named (number o)
+
+same-number : (L : ℕ) (c : Call) → numberBy wiping L c ≡ numberBy promised L c
+unfolding wiping
+same-number L (Open g) = number-kept (λ o. o .number) (Marking.refused (wiped g)) (λ k. refl) (openCall L g)
+same-number L (Mark g t) = number-kept (λ o. o .number) (Marking.refused (wiped g)) (λ k. refl) (markCall L g t)
+same-number L (Patch g w) = number-kept (λ o. o .number) (Patching.refused (wiped g) (wiped w)) (λ k. refl) (patchCall L g w)
+same-number L (Sign g b) = number-kept (λ o. o .number) (Signing.refused (wiped b)) (λ k. refl) (signCall L g b)
+same-number L (Surface g b q) = number-kept (λ o. o .number) (Surfacing.refused (wiped q)) (λ k. refl) (surfaceCall L g b q)
+
+pub wiping-right-numbers : Exactly wiping
+wiping-right-numbers L c k =
+    let h = promised-condition-1 .exactly L c k in
+    (λ e. h .0 (sym (same-number L c) ∙ e), λ g. same-number L c ∙ h .1 g)
+
+-- and wipes: at level 1 a buffer of one byte 1
+pub wiping-spoils : Spoils wiping
+unfolding wiping openCall openRows badLevel levelAt levelOf
+wiping-spoils =
+    record { level = 1; call = Open (1 ∷ []); refused = λ e. omega arith; changed = λ e. let k : _≡_ {A = ℕ} 0 1 = ap (λ (l : List ℕ). getD l 0 0) e in omega arith }
+
+-- the one that yields the empty grid keeps condition 3's parity: every face is even, sign takes the grid, and its bytes agree with the
+-- marks along any route
+parity : (L : ℕ) (g w : List ℕ) → Done emptying L g w → Parity L (emptying .patches L g w .grid)
+unfolding emptying
+parity L g w d =
+    let k = patch-done L g w (was-done (put none) L g w d) in
+    subst (λ (o : Patching.Outcome). Parity L (o .grid)) (sym (done-so (put none) L g w d))
+    (parity-of L (k .good) (λ a p. false) (λ a p q. absurd (true≢false (sym q))) (λ a p. refl) (drop (pointsAt L) g))
+
+pub emptying-keeps-parity : Even emptying × Signed emptying × Routed emptying
+unfolding emptying
+emptying-keeps-parity = (λ L g w d. parity L g w d .even, λ L g w d. parity L g w d .signed, λ L g w d. parity L g w d .routed)
