@@ -1,4 +1,4 @@
-// Runs patch on the examples of the rules at level 2, on the four grids that pin its choices, on a sheet with a hole, and on
+// Runs patch on the examples of the rules at level 2, on the grids that pin its choices, on a sheet with a hole, and on
 // inputs that it refuses. For each it prints the number, the rims, the flips, and the edges marked afterwards; `kept` says that
 // no byte of either buffer changed, `clear` that the first P work bytes are 0, `rest` that the bytes behind them are as they were.
 use patching::PatchAnswer;
@@ -154,15 +154,19 @@ fn show_refusal(name: &[u8], level: u32, grid_length: usize, work_length: usize,
 }
 
 fn main() {
+    show(b"example 1", b"");
+    show(b"example 2", b"x122 x222 y212 y222 z221 z222");
     show(b"example 3", b"x122 y212 y222 z221 z222");
     show(b"example 4", b"x222");
     show(b"example 5", b"x011 x233");
     show(b"example 6", b"x222 x233");
     show(b"example 7", b"x122 x322 y212 y312 z221 z222 z321 z322");
-    show(b"tie", b"x232 y232");
+    show(b"tie of x and y", b"x232 y232");
+    show(b"tie of y and z", b"x122 x123 z122 z133");
     show(b"rounding", b"y222 y311 z321");
     show(b"pairing", b"y321 y331 z230");
     show(b"path", b"z211 y211");
+    show(b"two rims in one plane", b"y101 y111");
     show(
         b"sheet with a hole",
         b"x211 x221 x231 x212 x232 x213 x223 x233",
