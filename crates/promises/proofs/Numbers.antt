@@ -42,10 +42,12 @@ rows-rise L (Sign g b) = refl
 rows-rise L (Surface g b q) = refl
 
 -- any other number than 0 is a refusal, which keeps every buffer and returns counts of 0
-refusals-keep : (L : ℕ) (c : Call) → numberBy promised L c ≢ 0 → Untouched promised L c
+pub refusals-keep : (L : ℕ) (c : Call) → numberBy promised L c ≢ 0 → Untouched promised L c
 unfolding openCall markCall patchCall patchDone signCall surfaceCall surfaceDone
-refusals-keep L (Open g) n = ap (λ (o : Marking.Outcome). o .grid) (answered-refused (λ o. o .number) (Marking.refused g) _ (λ i. refl) refl (openRows L g) n)
-refusals-keep L (Mark g t) n = ap (λ (o : Marking.Outcome). o .grid) (answered-refused (λ o. o .number) (Marking.refused g) _ (λ i. refl) refl (markRows L g t) n)
+refusals-keep L (Open g) n =
+    ap (λ (o : Marking.Outcome). o .grid) (answered-refused (λ o. o .number) (Marking.refused g) _ (λ i. refl) refl (openRows L g) n)
+refusals-keep L (Mark g t) n =
+    ap (λ (o : Marking.Outcome). o .grid) (answered-refused (λ o. o .number) (Marking.refused g) _ (λ i. refl) refl (markRows L g t) n)
 refusals-keep L (Patch g w) n =
     let e = answered-refused (λ o. o .number) (Patching.refused g w) _ (λ i. refl) refl (patchRows L g w) n in (
       ap (λ (o : Patching.Outcome). o .rims) e,
@@ -53,7 +55,8 @@ refusals-keep L (Patch g w) n =
       ap (λ (o : Patching.Outcome). o .grid) e,
       ap (λ (o : Patching.Outcome). o .work) e,
     )
-refusals-keep L (Sign g b) n = ap (λ (o : Signing.Outcome). o .signs) (answered-refused (λ o. o .number) (Signing.refused b) _ (λ i. refl) refl (signRows L g b) n)
+refusals-keep L (Sign g b) n =
+    ap (λ (o : Signing.Outcome). o .signs) (answered-refused (λ o. o .number) (Signing.refused b) _ (λ i. refl) refl (signRows L g b) n)
 refusals-keep L (Surface g b q) n =
     let e = answered-refused (λ o. o .number) (Surfacing.refused q) _ (λ i. refl) refl (surfaceRows L g b q) n in
     (ap (λ (o : Surfacing.Outcome). o .quads) e, ap (λ (o : Surfacing.Outcome). o .list) e)

@@ -94,8 +94,15 @@ inventing-miscounts r f some = record {
 
 pub flipping-more : Misflips flippingMore
 unfolding flippingMore patchCall patchRows patchDone badLevel levelAt levelOf isGrid bytes marks rims oddFaces patched flips
-flipping-more =
-    record { level = 2; grid = bytes 4 (setOf []); work = replicate 125 0; done = refl; axis = X; point = record { i = 2; j = 2; k = 2 }; wrong = λ e. true≢false e }
+flipping-more = record {
+  level = 2;
+  grid = bytes 4 (setOf []);
+  work = replicate 125 0;
+  done = refl;
+  axis = X;
+  point = record { i = 2; j = 2; k = 2 };
+  wrong = λ e. true≢false e;
+}
 
 -- it gives the right numbers
 number-kept : {O : Type 0} (number : O → ℕ) (refused : ℕ → O) → ((k : ℕ) → number (refused k) ≡ k) → (o : O) →
@@ -122,8 +129,12 @@ wiping-right-numbers L c k =
 -- and wipes: at level 1 a buffer of one byte 1
 pub wiping-spoils : Spoils wiping
 unfolding wiping openCall openRows badLevel levelAt levelOf
-wiping-spoils =
-    record { level = 1; call = Open (1 ∷ []); refused = λ e. omega arith; changed = λ e. let k : _≡_ {A = ℕ} 0 1 = ap (λ (l : List ℕ). getD l 0 0) e in omega arith }
+wiping-spoils = record {
+  level = 1;
+  call = Open (1 ∷ []);
+  refused = λ e. omega arith;
+  changed = λ e. let k : _≡_ {A = ℕ} 0 1 = ap (λ (l : List ℕ). getD l 0 0) e in omega arith;
+}
 
 -- the one that yields the empty grid keeps condition 3's parity: every face is even, sign takes the grid, and its bytes agree with the
 -- marks along any route
