@@ -1,3 +1,4 @@
+pub mod Accepted
 pub mod Signed
 pub mod Ranges
 pub mod Outside

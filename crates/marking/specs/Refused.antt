@@ -1,19 +1,13 @@
 -- How open and mark are judged: calls written out, each with its number. Where a row is meant, every row behind it applies too, so
--- that rows in another order give another number. One claim, proved by computing. Assumes nothing.
-use mathlib.Core.Path.{_≡_, refl}
-use mathlib.Core.Bool.{true}
+-- that rows in another order give another number. That every call is given its number is one claim
+-- (proofs/Accepted.antt), proved by computing. Assumes nothing.
 use mathlib.Core.List.{List, [], _∷_}
 use Prim.Native.Nat.{ℕ}
 use lib.IntN.{ℤ, pos}
 use lib.ListN.{replicate}
-use Rattle.rules.specs.Lists.{allOf}
-use Rattle.rules.specs.Grid.{isGrid}
-use Rattle.lattice.specs.Levels.{levelOf}
-use Rattle.refusals.specs.Columns.{badLevel, levelAt}
-use Rattle.refusals.specs.Cases.{Case, _is_, right, zeros, lone}
-use Rattle.marking.specs.Ranges.{inRange, allInRange}
-use Rattle.marking.specs.Open.{openRows, openCall}
-use Rattle.marking.specs.Mark.{markRows, markCall}
+use Rattle.refusals.specs.Cases.{Case, _is_, zeros, lone}
+use Rattle.marking.specs.Open.{openCall}
+use Rattle.marking.specs.Mark.{markCall}
 
 -- k numbers in range at level 2
 abbrev good : ℕ → List ℤ
@@ -57,8 +51,3 @@ cases =
     ∷ markCall 2 (zeros 125) (first 786432 8) .number is 0
     ∷ markCall 2 (zeros 125) (first 786433 8) .number is 4
     ∷ []
-
--- every call gives the number that the rules have for it
-pub cases-hold : allOf right cases ≡ true
-unfolding cases badLevel levelAt levelOf openRows openCall markRows markCall inRange allInRange isGrid
-cases-hold = refl

@@ -1,3 +1,4 @@
+pub mod Accepted
 pub mod PaintLaws
 pub mod Flips
 pub mod Odd

@@ -1,14 +1,9 @@
 -- How patch is judged: calls written out, each with its number. Where a row is meant, every row behind it applies too, so that rows in
--- another order give another number. One claim, proved by computing. Assumes nothing.
-use mathlib.Core.Path.{_≡_, refl}
-use mathlib.Core.Bool.{true}
+-- another order give another number. That every call is given its number is one claim
+-- (proofs/Accepted.antt), proved by computing. Assumes nothing.
 use mathlib.Core.List.{List, [], _∷_}
-use Rattle.rules.specs.Lists.{allOf}
-use Rattle.rules.specs.Grid.{isGrid}
-use Rattle.lattice.specs.Levels.{levelOf}
-use Rattle.refusals.specs.Columns.{badLevel, levelAt}
-use Rattle.refusals.specs.Cases.{Case, _is_, right, zeros, lone}
-use Rattle.patching.specs.Call.{patchDone, patchRows, patchCall}
+use Rattle.refusals.specs.Cases.{Case, _is_, zeros, lone}
+use Rattle.patching.specs.Call.{patchCall}
 
 unfoldable pub cases : List Case
 cases =
@@ -24,8 +19,3 @@ cases =
     ∷ patchCall 2 (lone 62 1) (zeros 125) .number is 0
     ∷ patchCall 2 (zeros 125) (zeros 125) .number is 0
     ∷ []
-
--- every call gives the number that the rules have for it
-pub cases-hold : allOf right cases ≡ true
-unfolding cases badLevel levelAt levelOf patchRows patchCall patchDone isGrid
-cases-hold = refl

@@ -52,7 +52,8 @@ module _ {O : Type 0} (number : O → ℕ) (refused : ℕ → O) (done : O) (nam
       go false h = h
 
   -- any other number than 0 is a refusal, and nothing else
-  pub answered-refused : (rows : List Row) → number (answered rows refused done) ≢ 0 → answered rows refused done ≡ refused (number (answered rows refused done))
+  pub answered-refused : (rows : List Row) → number (answered rows refused done) ≢ 0 →
+      answered rows refused done ≡ refused (number (answered rows refused done))
   answered-refused [] n = absurd (n zero)
   answered-refused (r ∷ l) n = go (r .so) (answered-refused l) n
     where

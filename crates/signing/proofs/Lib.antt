@@ -1,3 +1,4 @@
+pub mod Accepted
 pub mod Differ
 pub mod Rows
 pub mod Written

@@ -1,19 +1,14 @@
 -- How sign is judged: calls written out, each with its number. Where a row is meant, every row behind it applies too, so that rows in
--- another order give another number. One claim, proved by computing. Assumes nothing.
-use mathlib.Core.Path.{_≡_, refl}
-use mathlib.Core.Bool.{true}
+-- another order give another number. That every call is given its number is one claim
+-- (proofs/Accepted.antt), proved by computing. Assumes nothing.
 use mathlib.Core.List.{List, [], _∷_}
 use Prim.Native.Nat.{ℕ}
 use lib.ListN.{take, set}
-use Rattle.rules.specs.Lists.{allOf}
 use Rattle.rules.specs.Lattice.{setOf}
-use Rattle.rules.specs.Grid.{bytes, marks, isGrid}
-use Rattle.rules.specs.Rims.{evenFaces}
+use Rattle.rules.specs.Grid.{bytes}
 use Rattle.rules.specs.Examples.{single, gap}
-use Rattle.lattice.specs.Levels.{levelOf}
-use Rattle.refusals.specs.Columns.{badLevel, levelAt}
-use Rattle.refusals.specs.Cases.{Case, _is_, right, zeros, lone}
-use Rattle.signing.specs.Call.{signRows, signCall}
+use Rattle.refusals.specs.Cases.{Case, _is_, zeros, lone}
+use Rattle.signing.specs.Call.{signCall}
 
 -- x(2,2,2) alone, which makes four odd faces, and a byte 8
 abbrev noGrid : List ℕ
@@ -36,8 +31,3 @@ cases =
     ∷ signCall 2 (bytes 4 (setOf single)) (zeros 125) .number is 0
     ∷ signCall 2 (zeros 125) (zeros 125) .number is 0
     ∷ []
-
--- every call gives the number that the rules have for it
-pub cases-hold : allOf right cases ≡ true
-unfolding cases single gap badLevel levelAt levelOf signRows signCall isGrid bytes marks evenFaces
-cases-hold = refl

@@ -1,20 +1,14 @@
 -- How surface is judged: calls written out, each with its number. Where a row is meant, every row behind it applies too, so that rows in
--- another order give another number. One claim, proved by computing. Assumes nothing.
-use mathlib.Core.Path.{_≡_, refl}
-use mathlib.Core.Bool.{true}
+-- another order give another number. That every call is given its number is one claim
+-- (proofs/Accepted.antt), proved by computing. Assumes nothing.
 use mathlib.Core.List.{List, [], _∷_}
 use Prim.Native.Nat.{ℕ}
 use lib.ListN.{take, set, replicate}
-use Rattle.rules.specs.Lists.{allOf}
 use Rattle.rules.specs.Lattice.{setOf}
-use Rattle.rules.specs.Grid.{bytes, marks, isGrid}
+use Rattle.rules.specs.Grid.{bytes}
 use Rattle.rules.specs.Examples.{single}
-use Rattle.lattice.specs.Levels.{levelOf}
-use Rattle.refusals.specs.Columns.{badLevel, levelAt}
-use Rattle.refusals.specs.Cases.{Case, _is_, right, zeros, lone}
-use Rattle.surfacing.specs.Fit.{edgeFits, pointFits, signsFit}
-use Rattle.surfacing.specs.Listing.{quadCount}
-use Rattle.surfacing.specs.Call.{surfaceDone, surfaceRows, surfaceCall}
+use Rattle.refusals.specs.Cases.{Case, _is_, zeros, lone}
+use Rattle.surfacing.specs.Call.{surfaceCall}
 
 -- the grid of example 2, the same with a byte 8, and its signs
 abbrev drawn : List ℕ
@@ -48,8 +42,3 @@ cases =
     -- done: no marks, nothing inside, and no room
     ∷ surfaceCall 2 (zeros 125) (zeros 125) [] .number is 0
     ∷ []
-
--- every call gives the number that the rules have for it
-pub cases-hold : allOf right cases ≡ true
-unfolding cases single badLevel levelAt levelOf surfaceRows surfaceCall surfaceDone isGrid bytes marks edgeFits pointFits signsFit quadCount
-cases-hold = refl

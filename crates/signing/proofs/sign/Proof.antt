@@ -2,6 +2,7 @@
 use mathlib.Core.Path.{_≡_, sym, ap, _∙_}
 use mathlib.Core.Bool.{true, false}
 use Prim.Native.Nat.{_≤_}
+use native.Mathlib.Omega.{arith}
 use borrow.Author.Needs.{needs}
 use borrow.Author.Tests.{lt-ltb, le-ltb}
 use lib.ListN.{length}
@@ -26,7 +27,7 @@ grid-long : (c : tie.Else1) → pointsOf (c .before .before .before .before .l .
 grid-long c = rw (c .before .points .ensures) at (c .if1 .left)
 
 signs-long : (c : tie.Else2) → pointsOf (c .before .before .before .before .before .l .given .0 .0) ≤ length (c .before .before .before .before .before .before .before .before .before .before .args .signs .now)
-signs-long c = rw (c .before .before .points .ensures) at (c .if2 .left)
+signs-long c = let h = rw (c .before .before .points .ensures) at (c .if2 .left) in omega arith
 
 a-grid : (c : tie.Else3) → isGrid (cellsOf (c .before .before .before .before .before .before .before .l .given .0 .0)) (c .before .before .before .before .before .before .before .before .before .before .before .before .args .grid .now) ≡ true
 a-grid c = holds (rw (c .before .before .before .before .before .cells .ensures) at (c .before .is-grid .ensures)) (c .if3 .left)
