@@ -18,18 +18,17 @@ use Rattle.rules.specs.declared.Place.{Place}
 use Rattle.rules.specs.declared.Box.{Box}
 use Rattle.rules.specs.Lattice.{earlier, later, coord, Set, setOf, symdiff, edgeIn, faceIn, pointCount}
 use Rattle.rules.specs.Cell.{oddFace}
-use Rattle.rules.specs.Patch.{cut, side, longest, middle, oneCell, lower, upper, patch, size}
+use Rattle.rules.specs.Patch.{cut, side, longest, middle, oneCell, lower, upper, patch, size, patchOf}
 use Rattle.rules.proofs.Cuts.{EdgeIn, cut-in}
 use Rattle.rules.proofs.Boxes.{inBox→, with-coord}
 use Rattle.rules.proofs.Halving.{middle-in, patch-in}
 use Rattle.rules.proofs.Recursion.{Agree, patch-cong}
-use Rattle.rules.proofs.Store.{stored}
-use Rattle.rules.proofs.PatchOf.{patchOf, patchOf-one, patchOf-cut}
+use Rattle.rules.proofs.PatchOf.{patchOf-one, patchOf-cut}
 use Rattle.rules.specs.Lattice.{OfGrid}
+use Rattle.rules.specs.Grid.{stored}
 use Rattle.lattice.specs.Cells.{turns, works, facesOf}
 use Rattle.halving.specs.Halving.{Edged, Fits, cellCount}
 use Rattle.halving.proofs.Turns.{turns-append, works-append, turns-length, stored-works}
-use Rattle.halving.proofs.Scans.{fits-coord}
 
 -- ---- a box and its halves
 pub edge-edged : (n : ℕ) (b : Box) → Fits n b → (e : Place) → edgeIn b (e .axis) (e .at) ≡ true → Edged n e
@@ -158,9 +157,6 @@ pub coord-le : (n : ℕ) (b : Box) (a : Axis) → Fits n b → coord a (b .lo) �
 coord-le n b X h = omega arith
 coord-le n b Y h = omega arith
 coord-le n b Z h = omega arith
-
-pub coord-most : (n : ℕ) (b : Box) (a : Axis) → Fits n b → coord a (b .hi) ≤ n
-coord-most n b a h = fits-coord n b a h
 
 -- ---- a box as code tests it
 pub one-no-x : (b : Box) → 1 < side b X → false ≡ oneCell b

@@ -13,17 +13,16 @@ use Rattle.rules.specs.declared.Place.{Place}
 use Rattle.rules.specs.declared.Box.{Box}
 use Rattle.rules.specs.Lists.{upto}
 use Rattle.rules.specs.Lattice.{faceIn, pointNumber, pointCount}
-use Rattle.rules.specs.Grid.{has}
-use Rattle.rules.specs.Patch.{side}
+use Rattle.rules.specs.Grid.{has, stored}
+use Rattle.rules.specs.Patch.{side, patchOf}
 use Rattle.rules.proofs.Bits.{&&-true, &&-assoc, and-left, and-right, both, same-test, eqb-yes, eqb→}
 use Rattle.rules.proofs.Lists.{allOf→, at-upto, range-at}
 use Rattle.rules.proofs.Boxes.{inBox→}
 use Rattle.rules.proofs.Cells.{face-cells}
-use Rattle.rules.proofs.Store.{stored}
-use Rattle.rules.proofs.PatchOf.{patchOf, patchOf-clear}
+use Rattle.rules.proofs.PatchOf.{patchOf-clear}
+use Rattle.rules.proofs.Numbers.{has-low, zero-has}
 use Rattle.lattice.specs.Cells.{turns, works}
 use Rattle.lattice.proofs.Laws.{num-below}
-use Rattle.walking.proofs.Bytes.{has-low, zero-has}
 use Rattle.halving.specs.Halving.{Fits}
 use Rattle.halving.specs.Clear.{byteClear, rowClear, boxRowClear, layerClear, boxClear}
 

@@ -19,8 +19,8 @@ use Rattle.rules.specs.Lattice.{earlier, later, coord, pointAt, pointCount}
 use Rattle.rules.specs.Patch.{path, paths, plane, inPlane, cut, side}
 use Rattle.rules.proofs.Paths.{path-ends, sameSpot}
 use Rattle.rules.proofs.Cuts.{InRect, plane-in}
-use Rattle.rules.proofs.Store.{stored}
 use Rattle.rules.specs.Lattice.{OfGrid}
+use Rattle.rules.specs.Grid.{stored}
 use Rattle.lattice.specs.Cells.{turns, works, facesOf}
 use Rattle.halving.specs.Halving.{Scan, idle, waits, pairOf, scanAll, Placed, Fits, rowOf}
 use Rattle.halving.specs.declared.Unpaired.{Unpaired}

@@ -1,7 +1,7 @@
 -- What turns do to the sets that a buffer holds. Assumes nothing.
 use mathlib.Core.Path.{_≡_, refl, sym, ap, ap₂, _∙_, subst}
 use mathlib.Core.Bool.{Bool, true, false, _&&_, cond, true≢false}
-use mathlib.Core.List.{List, [], _∷_, _++_, append-assoc}
+use mathlib.Core.List.{List, [], _∷_, _++_}
 use Prim.Native.Nat.{ℕ, zero, suc, pred, _+_, _-_, _*_, _/_, _%_, _≤_, _<_}
 use native.Mathlib.Decide.{ℕ-discrete}
 use native.Mathlib.Omega.{arith}
@@ -10,24 +10,24 @@ use lib.ListN.{length, getD, set, length-set}
 use lib.Seq.{getD-set-same, getD-set-other}
 use Rattle.rules.specs.Lists.{_⊕_, each, All}
 use Rattle.rules.proofs.Bits.{⊕-false, ⊕-assoc, xors, &&-true, &&-false, eqb-yes, same-test, eqb→}
-use Rattle.rules.proofs.Lists.{all-weaken}
+use Rattle.rules.proofs.Lists.{all-weaken, each-append}
 use Rattle.rules.specs.declared.Axis.{Axis}
 use Rattle.rules.specs.declared.Axis.the-variants.{X, Y, Z}
 use Rattle.rules.specs.declared.Point.{Point}
 use Rattle.rules.specs.declared.Place.{Place}
 use Rattle.rules.specs.Lattice.{earlier, later, coord, up, down, sameAxis, samePoint, samePlace, pointNumber, pointOf, setOf, pointCount}
-use Rattle.rules.specs.Grid.{has, weight}
+use Rattle.rules.specs.Grid.{has, weight, stored, toggle}
 use Rattle.rules.specs.Cell.{oddFace}
 use Rattle.rules.proofs.Oddness.{setOf-append, oddFace-append}
 use Rattle.rules.proofs.Cuts.{samePoint→}
 use Rattle.rules.proofs.PointOf.{number-pointOf, pointOf-number}
-use Rattle.rules.proofs.Store.{stored, stored-set, toggle, toggle-has}
+use Rattle.rules.proofs.Store.{stored-set, toggle-has}
+use Rattle.rules.proofs.Numbers.{has-high}
 use Rattle.rules.specs.Lattice.{OfGrid}
 use Rattle.lattice.specs.Cells.{turnAt, turnOne, turns, facesOf, works, pointStep}
 use Rattle.lattice.proofs.Laws.{has-weight, num-below}
 use Rattle.lattice.proofs.PointSteps.{number-down}
 use Rattle.walking.proofs.Faces.{down-grid}
-use Rattle.walking.proofs.Bytes.{has-high}
 use Rattle.halving.specs.Halving.{Edged}
 
 -- ---- one bit turned, in any number
@@ -79,12 +79,8 @@ pub turns-append : (n : ℕ) (l m : List Place) (s : List ℕ) → turns n (l ++
 turns-append n [] m s = refl
 turns-append n (f ∷ l) m s = turns-append n l m (turnOne n f s)
 
-each-append : (l m : List Place) → each facesOf (l ++ m) ≡ each facesOf l ++ each facesOf m
-each-append [] m = refl
-each-append (f ∷ l) m = ap (λ (k : List Place). facesOf f ++ k) (each-append l m) ∙ sym (append-assoc (facesOf f) (each facesOf l) (each facesOf m))
-
 pub works-append : (n : ℕ) (l m : List Place) (s : List ℕ) → works n (l ++ m) s ≡ works n m (works n l s)
-works-append n l m s = ap (λ (k : List Place). turns n k s) (each-append l m) ∙ turns-append n (each facesOf l) (each facesOf m) s
+works-append n l m s = ap (λ (k : List Place). turns n k s) (each-append facesOf l m) ∙ turns-append n (each facesOf l) (each facesOf m) s
 
 turn-length : (n : ℕ) (f : Place) (s : List ℕ) → length (turnOne n f s) ≡ length s
 unfolding turnAt

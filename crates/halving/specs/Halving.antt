@@ -10,8 +10,8 @@ use Rattle.rules.specs.declared.Box.{Box}
 use Rattle.rules.specs.declared.Spot.{Spot}
 use Rattle.rules.specs.Lattice.{earlier, later, coord, up, pointAt}
 use Rattle.rules.specs.Patch.{path, side}
-use Rattle.rules.proofs.Store.{stored}
 use Rattle.rules.specs.Lattice.{OfGrid}
+use Rattle.rules.specs.Grid.{stored}
 use Rattle.lattice.specs.Cells.{turns, works}
 use Rattle.halving.specs.declared.Unpaired.{Unpaired}
 

@@ -1,33 +1,19 @@
 -- A buffer that is longer than its grid: bytes from P on are not read. Assumes nothing.
 use mathlib.Core.Path.{_≡_, refl, ap, fun-ext, _∙_}
-use mathlib.Core.Bool.{Bool, true, false, not, _&&_}
-use mathlib.Core.List.{List, [], _∷_, _++_}
+use mathlib.Core.Bool.{Bool, true, false, _&&_}
+use mathlib.Core.List.{List, _++_}
 use Prim.Native.Nat.{ℕ, suc}
-use native.Mathlib.Omega.{arith}
 use lib.ListN.{length, getD, replicate, length-replicate, getD-replicate, List·getD-append}
 use Rattle.rules.specs.declared.Axis.{Axis}
-use Rattle.rules.specs.declared.Axis.the-variants.{X, Y, Z}
 use Rattle.rules.specs.declared.Point.{Point}
-use Rattle.rules.specs.Lists.{allOf, All}
-use Rattle.rules.specs.Lattice.{Set, points, pointNumber, pointCount, inner, whole, sameAxis, OfGrid}
+use Rattle.rules.specs.Lattice.{Set, points, pointNumber, pointCount, inner, OfGrid}
 use Rattle.rules.specs.Grid.{has, bytes, marks, byteFits, goodByte, isGrid}
-use Rattle.rules.proofs.Boxes.{inBox→}
 use Rattle.rules.proofs.Lists.{all-weaken, allOf←}
-use Rattle.rules.proofs.Numbers.{bytes-length}
+use Rattle.rules.proofs.Numbers.{bytes-length, zero-has}
 use Rattle.rules.proofs.PointOf.{points-grid}
-use Rattle.rules.proofs.Again.{bytes-grid, read-back}
+use Rattle.rules.proofs.Again.{bytes-grid, read-back, inner-point}
+use Rattle.rules.proofs.Same.{allOf-same}
 use Rattle.lattice.proofs.Laws.{num-below}
-
--- an inner edge's point is a point of the grid
-pub inner-point : (n : ℕ) (a : Axis) (p : Point) → inner n a p ≡ true → OfGrid n p
-inner-point n a p e =
-    let k = inBox→ (whole n) (not (sameAxis a X)) (not (sameAxis a Y)) (not (sameAxis a Z)) p e in
-    record { i = omega arith; j = omega arith; k = omega arith }
-
-module _ {A : Type 0} where
-  allOf-same : (f g : A → Bool) (l : List A) → All (λ x. f x ≡ g x) l → allOf f l ≡ allOf g l
-  allOf-same f g [] h = refl
-  allOf-same f g (x ∷ l) h = λ i. h .0 i && allOf-same f g l (h .1) i
 
 -- bytes from P on are not read
 module _ (n : ℕ) (b rest : List ℕ) (long : length b ≡ pointCount n) where
@@ -69,13 +55,8 @@ module _ (n : ℕ) (rest : List ℕ) where
   unfolding marks
   open-marks = marks-ahead n noughts rest (length-replicate (pointCount n) 0) ∙ fun-ext (λ a. fun-ext (λ p. go a p (inner n a p) refl))
     where
-      none : (a : Axis) → has a 0 ≡ false
-      none X = refl
-      none Y = refl
-      none Z = refl
-
       go : (a : Axis) (p : Point) (c : Bool) → inner n a p ≡ c → c && has a (getD noughts (pointNumber n p) 0) ≡ false
-      go a p true e = ap (has a) (nought p (inner-point n a p e)) ∙ none a
+      go a p true e = ap (has a) (nought p (inner-point n a p e)) ∙ zero-has a
       go a p false e = refl
 
   pub open-grid : isGrid n (noughts ++ rest) ≡ true

@@ -18,6 +18,7 @@ use Rattle.rules.specs.Rims.{evenFaces}
 use Rattle.rules.proofs.Bits.{&&-assoc}
 use Rattle.rules.proofs.Numbers.{number-below, bytes-at, bytes-marks, has-bit, three-of}
 use Rattle.rules.proofs.PointOf.{number-pointOf, pointOf-number}
+use Rattle.rules.proofs.FaceMarks.{even-list}
 use Rattle.lattice.specs.Scans.{lowerEven}
 use Rattle.lattice.specs.Cells.{Cell, bitsFrom, oddOf}
 use Rattle.lattice.proofs.PointSteps.{number-up, number-step}
@@ -85,8 +86,7 @@ odd-told n E a p c h e q = sym (q ∙ ap (oddFace E a) (corner-at n p c h e))
 
 -- ---- no face is odd: none of the three lower ones of any cell
 pub even-cells : (n : ℕ) (E : Set) → evenFaces n E ≡ allOf (lowerEven E) (points n)
-unfolding evenFaces
-even-cells n E = all-each (λ f. not (isIn (oddFace E) f)) (points n)
+even-cells n E = even-list n E ∙ all-each (λ f. not (isIn (oddFace E) f)) (points n)
   where
     all-append : (w : Place → Bool) (l m : List Place) → allOf w (l ++ m) ≡ allOf w l && allOf w m
     all-append w [] m = refl

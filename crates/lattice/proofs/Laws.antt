@@ -14,11 +14,10 @@ use Rattle.rules.specs.declared.Axis.{Axis}
 use Rattle.rules.specs.declared.Axis.the-variants.{X, Y, Z}
 use Rattle.rules.specs.declared.Point.{Point}
 use Rattle.rules.specs.declared.Place.{Place}
-use Rattle.rules.specs.Grid.{has, weight}
+use Rattle.rules.specs.Grid.{has, weight, toggle}
 use Rattle.rules.specs.Lattice.{pointAt, samePlace, pointNumber, pointCount}
 use Rattle.rules.specs.Cell.{faceEdges}
 use Rattle.rules.proofs.Numbers.{number-below}
-use Rattle.rules.proofs.Store.{toggle}
 use Rattle.lattice.specs.Cells.{axisOf, faceRule, edgeRule}
 use Rattle.rules.specs.Lattice.{OfGrid}
 

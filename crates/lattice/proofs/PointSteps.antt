@@ -1,5 +1,6 @@
 -- The numbers of points one step apart, and of a face or an edge of a cell. Assumes nothing.
 use mathlib.Core.Path.{_≡_, sym, ap, subst, _∙_}
+use mathlib.Core.Logic.{_↔_}
 use Prim.Native.Nat.{ℕ, zero, suc, pred, _+_, _≤_, _<_}
 use native.Mathlib.Omega.{arith}
 use Rattle.rules.specs.declared.Axis.{Axis}
@@ -23,15 +24,31 @@ number-up n X p = omega arith
 number-up n Y p = omega arith
 number-up n Z p = omega arith
 
-pred-suc : (k : ℕ) → 1 ≤ k → suc (pred k) ≡ k
-pred-suc zero h = absurd (omega arith)
-pred-suc (suc k) h = let e : pred (suc k) ≡ k = omega arith in ap suc e
+pub pred-pos : (k : ℕ) → 1 ≤ k → suc (pred k) ≡ k
+pred-pos zero h = absurd (omega arith)
+pred-pos (suc k) h = let e : pred (suc k) ≡ k = omega arith in ap suc e
+
+pub pred-most : (k : ℕ) → pred k ≤ k
+pred-most zero = omega arith
+pred-most (suc k) = omega arith
 
 -- the step up to where a step down came from
 pub up-down : (a : Axis) (p : Point) → 1 ≤ coord a p → up a (down a p) ≡ p
-up-down X p h = λ i. record { i = pred-suc (p .i) h i; j = p .j; k = p .k }
-up-down Y p h = λ i. record { i = p .i; j = pred-suc (p .j) h i; k = p .k }
-up-down Z p h = λ i. record { i = p .i; j = p .j; k = pred-suc (p .k) h i }
+up-down X p h = λ i. record { i = pred-pos (p .i) h i; j = p .j; k = p .k }
+up-down Y p h = λ i. record { i = p .i; j = pred-pos (p .j) h i; k = p .k }
+up-down Z p h = λ i. record { i = p .i; j = p .j; k = pred-pos (p .k) h i }
+
+-- the cell below a cell
+pub down-cell : (n : ℕ) (a : Axis) (c : Point) → Cell n c → Cell n (down a c)
+down-cell n X c h = let m = pred-most (c .i) in omega arith
+down-cell n Y c h = let m = pred-most (c .j) in omega arith
+down-cell n Z c h = let m = pred-most (c .k) in omega arith
+
+-- an edge exists where the point at its upper end does
+pub edge-ends : (n : ℕ) (a : Axis) (p : Point) → OfGrid n (up a p) ↔ (OfGrid n p × (coord a p < n))
+edge-ends n X p = (λ h. omega arith, λ h. omega arith)
+edge-ends n Y p = (λ h. omega arith, λ h. omega arith)
+edge-ends n Z p = (λ h. omega arith, λ h. omega arith)
 
 -- the point one step from (0,0,0)
 pub number-step : (n : ℕ) (a : Axis) → pointNumber n (up a origin) ≡ pointStep n a

@@ -9,8 +9,7 @@ use Rattle.rules.specs.declared.Axis.the-variants.{X, Y, Z}
 use Rattle.rules.specs.declared.Point.{Point}
 use Rattle.rules.specs.declared.Place.{Place}
 use Rattle.rules.specs.Lattice.{earlier, later, down, pointAt, Set, isIn, pointNumber}
-use Rattle.rules.specs.Grid.{has}
-use Rattle.rules.proofs.Store.{toggle}
+use Rattle.rules.specs.Grid.{has, toggle}
 
 -- 0, 1, 2 are x, y, z
 abbrev pub axisOf : ℕ → Axis

@@ -11,8 +11,7 @@ ghost use mathlib.Core.List.{_++_};
 ghost use lib.ListN.{length, getD, drop, replicate};
 ghost use Rattle.rules.specs.Lists.{_⊕_};
 ghost use Rattle.rules.specs.Lattice.{coord, earlier, later, up, origin, isIn, pointNumber, pointCount, pointOf, OfGrid};
-ghost use Rattle.rules.specs.Grid.{has, weight};
-ghost use Rattle.rules.proofs.Store.{toggle};
+ghost use Rattle.rules.specs.Grid.{has, weight, toggle};
 ghost use Rattle.lattice.specs.Cells.{indexOf, faceRule, edgeRule, cornerRule, moved, cornerEdge, Cell, bitsFrom, oddOf, turnAt, pointStep};
 
 // The cell's six faces: the three lower ones, then the three upper ones.

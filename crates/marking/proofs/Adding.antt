@@ -15,10 +15,10 @@ use Rattle.rules.specs.declared.Axis.the-variants.{X, Y, Z}
 use Rattle.rules.specs.declared.Point.{Point}
 use Rattle.rules.specs.declared.Place.{Place}
 use Rattle.rules.specs.Lattice.{up, sameAxis, samePoint, samePlace, Set, OfGrid, pointNumber, pointCount}
-use Rattle.rules.specs.Grid.{has, weight}
+use Rattle.rules.specs.Grid.{has, weight, stored, toggle}
 use Rattle.rules.proofs.Bits.{eqb-yes, and-left, and-right}
 use Rattle.rules.proofs.Cuts.{sameAxis→, samePoint→, samePlace→}
-use Rattle.rules.proofs.Store.{stored, stored-set, toggle}
+use Rattle.rules.proofs.Store.{stored-set}
 use Rattle.lattice.specs.Cells.{turnAt, turnOne, cornerEdge, Cell}
 use Rattle.lattice.proofs.Laws.{num-below}
 use Rattle.marking.specs.Met.{added}

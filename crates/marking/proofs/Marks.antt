@@ -1,5 +1,5 @@
 -- What marking a grid with a triangle in range does to its marks. Assumes nothing.
-use mathlib.Core.Path.{_≡_, refl, sym, ap, fun-ext, _∙_}
+use mathlib.Core.Path.{_≡_, sym, ap, fun-ext, _∙_}
 use mathlib.Core.Bool.{Bool, true, false, _&&_, _||_, or-true, or-self, or-comm, or-assoc}
 use mathlib.Core.List.{List, _++_}
 use mathlib.Core.Logic.{_↔_, _⊎_, inl, inr, ⊎-elim}
@@ -9,7 +9,7 @@ use Rattle.rules.specs.declared.Axis.{Axis}
 use Rattle.rules.specs.declared.Point.{Point}
 use Rattle.rules.specs.Lattice.{Set, inner}
 use Rattle.rules.specs.Grid.{bytes, marks, isGrid}
-use Rattle.rules.proofs.Bits.{and-left, and-right}
+use Rattle.rules.proofs.Bits.{and-left, and-right, or-cases}
 use Rattle.rules.proofs.Numbers.{marks-inner}
 use Rattle.lattice.specs.declared.level.Level.{Level}
 use Rattle.lattice.specs.Levels.{cellsOf, pointsOf}
@@ -29,10 +29,6 @@ pub record Unseparated (l : Level) (t : Triangle) (a : Axis) (p : Point) : Type 
   pub exists : isEdge (cellsOf l) a p ≡ true
   pub clear : (k : ℕ) → k < 13 → separates (getD (axes t) k nought) t (endsOf l a p) ≡ false
 
-or-either : (x y : Bool) → x || y ≡ true → (x ≡ true) ⊎ (y ≡ true)
-or-either true y e = inl refl
-or-either false y e = inr e
-
 -- the buffer stays as long as it was
 pub marked-length : (l : Level) (t : Triangle) (g : List ℕ) → pointsOf l ≤ length g → length (marked l t g) ≡ length g
 unfolding marked
@@ -42,7 +38,7 @@ marked-length l t g h = written-length (cellsOf l) (added (marks (cellsOf l) g) 
 module _ (l : Level) (t : Triangle) (w : TriangleWithin l t) where
   module _ (g : List ℕ) where
     marks-in : (a : Axis) (p : Point) → added (marks (cellsOf l) g) (met l t) a p ≡ true → inner (cellsOf l) a p ≡ true
-    marks-in a p e = ⊎-elim (marks-inner (cellsOf l) g a p) (met-inner l t a p w) (or-either (marks (cellsOf l) g a p) (met l t a p) e)
+    marks-in a p e = ⊎-elim (marks-inner (cellsOf l) g a p) (met-inner l t a p w) (or-cases (marks (cellsOf l) g a p) (met l t a p) e)
 
     -- the marks afterwards are those before and those of the edges met
     pub marks-after : marks (cellsOf l) (marked l t g) ≡ added (marks (cellsOf l) g) (met l t)
@@ -72,7 +68,7 @@ module _ (l : Level) (t : Triangle) (w : TriangleWithin l t) where
         there : marks (cellsOf l) (marked l t g) a p ≡ true → (marks (cellsOf l) g a p ≡ true) ⊎ Unseparated l t a p
         there e =
             ⊎-elim inl (λ m. inr (record { exists = and-left x y m; clear = met-exactly t (endsOf l a p) .0 (and-right x y m) }))
-            (or-either (marks (cellsOf l) g a p) (x && y) (sym is ∙ e))
+            (or-cases (marks (cellsOf l) g a p) (x && y) (sym is ∙ e))
 
         back : (marks (cellsOf l) g a p ≡ true) ⊎ Unseparated l t a p → marks (cellsOf l) (marked l t g) a p ≡ true
         back (inl e) = is ∙ ap (λ (b : Bool). b || (x && y)) e

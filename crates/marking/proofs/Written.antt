@@ -1,6 +1,6 @@
 -- A grid with the marks of a set added, byte by byte. Assumes nothing.
 use mathlib.Core.Path.{_≡_, sym, ap, _∙_}
-use mathlib.Core.Bool.{Bool, true, false, _||_}
+use mathlib.Core.Bool.{Bool, true, _||_}
 use mathlib.Core.List.{List, _++_}
 use Prim.Native.Nat.{ℕ, _+_, _-_, _≤_, _<_}
 use native.Mathlib.Decide.{decLt}
@@ -12,19 +12,12 @@ use Rattle.rules.specs.declared.Axis.the-variants.{X, Y, Z}
 use Rattle.rules.specs.declared.Point.{Point}
 use Rattle.rules.specs.Lattice.{Set, OfGrid, pointNumber, pointCount, pointOf}
 use Rattle.rules.specs.Grid.{value, byteAt, bytes, has, marks, isGrid}
-use Rattle.rules.proofs.Numbers.{bytes-length, bytes-at, small-byte}
+use Rattle.rules.proofs.Numbers.{bytes-length, bytes-at, small-byte, byte-most}
 use Rattle.rules.proofs.PointOf.{number-pointOf, pointOf-grid}
 use Rattle.lattice.proofs.Ahead.{byte-ahead}
 use Rattle.lattice.proofs.GridFacts.{grid-byte, grid-marks}
 use Rattle.marking.specs.Met.{added}
 use Rattle.marking.specs.Scan.{Added}
-
-value-most : (b : Bool) (w : ℕ) → value b w ≤ w
-value-most true w = omega arith
-value-most false w = omega arith
-
-byte-most : (E : Set) (p : Point) → byteAt E p ≤ 7
-byte-most E p = let x = value-most (E X p) 1 in let y = value-most (E Y p) 2 in let z = value-most (E Z p) 4 in omega arith
 
 -- what stands in a buffer that holds the bytes of a set, with another's bytes from P on
 module _ (n : ℕ) (E : Set) (g : List ℕ) where

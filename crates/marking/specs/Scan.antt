@@ -12,7 +12,7 @@ use Rattle.rules.specs.declared.Point.{Point}
 use Rattle.rules.specs.declared.Place.{Place}
 use Rattle.rules.specs.declared.Box.{Box}
 use Rattle.rules.specs.Lattice.{coord, samePoint, samePlace, Set, OfGrid, pointCount}
-use Rattle.rules.proofs.Store.{stored}
+use Rattle.rules.specs.Grid.{stored}
 use Rattle.lattice.specs.declared.level.Level.{Level}
 use Rattle.lattice.specs.Levels.{cellsOf, sideOf}
 use Rattle.lattice.specs.Cells.{indexOf}

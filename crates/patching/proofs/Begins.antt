@@ -12,20 +12,17 @@ use Rattle.rules.specs.declared.Axis.the-variants.{X}
 use Rattle.rules.specs.declared.Point.{Point}
 use Rattle.rules.specs.Lattice.{OfGrid, pointNumber, pointOf, faceIn, whole, setOf, pointCount}
 use Rattle.rules.specs.Cell.{oddFace}
-use Rattle.rules.specs.Grid.{has, marks, isGrid}
-use Rattle.rules.specs.Rims.{rims}
+use Rattle.rules.specs.Grid.{has, marks, isGrid, stored}
+use Rattle.rules.specs.Rims.{rims, touch}
 use Rattle.rules.specs.Patch.{patchRim}
-use Rattle.rules.proofs.Rims.{touch}
-use Rattle.rules.proofs.Numbers.{marks-inner}
+use Rattle.rules.proofs.Numbers.{marks-inner, has-high, zero-has, byte-most}
 use Rattle.rules.proofs.Patched.{odd-in}
 use Rattle.rules.proofs.PointOf.{number-pointOf, pointOf-grid}
-use Rattle.rules.proofs.Store.{stored}
 use Rattle.lattice.specs.Cells.{layer, works}
 use Rattle.lattice.proofs.Laws.{num-below}
 use Rattle.lattice.proofs.GridFacts.{grid-byte, grid-marks}
 use Rattle.walking.specs.Walks.{oddIn, Fine, seenB}
 use Rattle.walking.proofs.Faces.{cell-grid, face-cell}
-use Rattle.walking.proofs.Bytes.{has-high, zero-has, byte-most}
 use Rattle.patching.specs.Paint.{paint, nine, eight, nought}
 use Rattle.patching.specs.Marked.{marksFrom}
 use Rattle.patching.specs.Between.{none, Between}

@@ -8,22 +8,23 @@ use native.Mathlib.Decide.{ℕ-discrete}
 use lib.ListN.{length}
 use Rattle.rules.specs.Lists.{_⊕_, parity, All, count}
 use Rattle.rules.proofs.Sums.{parity-each}
-use Rattle.rules.proofs.Lists.{all-pair, all-kept}
+use Rattle.rules.proofs.Lists.{all-pair}
 use Rattle.rules.specs.declared.Axis.{Axis}
 use Rattle.rules.specs.declared.Point.{Point}
 use Rattle.rules.specs.declared.Place.{Place}
-use Rattle.rules.specs.Lattice.{Set, samePlace, samePoint, setOf, edgeIn, whole, places, isIn, pointNumber, pointCount, pointOf}
+use Rattle.rules.specs.Lattice.{Set, samePlace, samePoint, setOf, edgeIn, whole, isIn, pointNumber, pointCount, pointOf}
 use Rattle.rules.specs.Cell.{oddFace}
 use Rattle.rules.specs.Patch.{patchRim, flips}
 use Rattle.rules.specs.Rims.{oddFaces, rims, elem}
-use Rattle.rules.proofs.Rims.{or-true}
+use Rattle.rules.specs.Grid.{stored}
 use Rattle.rules.proofs.PointOf.{pointOf-number}
 use native.Mathlib.Numerals.{add-one}
 use Rattle.rules.proofs.Cuts.{samePlace→}
-use Rattle.rules.proofs.Chains.{same-point, or-left-true, find, any-mono}
+use Rattle.rules.proofs.Chains.{same-point, find, any-mono}
 use Rattle.rules.proofs.Patched.{odd-in, rims-all}
 use Rattle.rules.proofs.Scan.{hit, rim-some}
-use Rattle.rules.proofs.Store.{stored}
+use Rattle.rules.proofs.Bits.{or-true, or-left-true}
+use Rattle.rules.proofs.FaceMarks.{odd-kept}
 use Rattle.lattice.proofs.Laws.{num-below}
 use Rattle.walking.specs.Walks.{Fine}
 use Rattle.walking.proofs.Faces.{cell-grid}
@@ -40,14 +41,14 @@ hits-at n (suc k) j r l o = go (ℕ-discrete j k) (hits-at n k j r)
 
 module _ (n : ℕ) (E : Set) (inner : (a : Axis) (p : Point) → E a p ≡ true → edgeIn (whole n) a p ≡ true) where
   some-hit : All (λ r. hits (pointsBelow n (pointCount n)) r ≡ true) (rims n E)
-  unfolding rims oddFaces
+  unfolding rims
   some-hit = all-pair (λ r. hit (oddFaces n E) r ≡ true) (All (λ x. isIn (oddFace E) x ≡ true)) _
-      (λ r h o. let x = find (λ f. elem f r) (λ f. isIn (oddFace E) f ≡ true) (oddFaces n E) (all-kept (isIn (oddFace E)) (places n)) h in
+      (λ r h o. let x = find (λ f. elem f r) (λ f. isIn (oddFace E) f ≡ true) (oddFaces n E) (odd-kept n E) h in
       let q = face-cells n (x .0 .axis) (x .0 .at) (odd-in n E inner (x .0 .axis) (x .0 .at) (x .2)) in
       let p = x .0 .at in
       let i = cell-grid n p (q .upper) in
       hits-at n (pointCount n) (pointNumber n p) r (num-below n p i) (subst (λ (y : Point). owns y r ≡ true) (sym (pointOf-number n p i)) (own-of (x .0) r (x .1))))
-      (rims n E) (rim-some (oddFaces n E)) (rims-all (λ x. isIn (oddFace E) x ≡ true) (oddFaces n E) (all-kept (isIn (oddFace E)) (places n)))
+      (rims n E) (rim-some (oddFaces n E)) (rims-all (λ x. isIn (oddFace E) x ≡ true) (oddFaces n E) (odd-kept n E))
     where
       own-of : (f : Place) (r : List Place) → elem f r ≡ true → owns (f .at) r ≡ true
       own-of f r e = any-mono (samePlace f) (λ g. samePoint (g .at) (f .at)) (λ g s. subst (λ (y : Place). samePoint (y .at) (f .at) ≡ true) (samePlace→ f g s) (same-point (f .at))) r e

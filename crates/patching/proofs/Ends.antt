@@ -1,26 +1,25 @@
 -- How patch ends: the counts, and every byte of the two buffers. Assumes nothing.
-use mathlib.Core.Path.{_≡_, refl, sym, ap, ap₂, _∙_, subst}
+use mathlib.Core.Path.{_≡_, sym, ap, ap₂, _∙_, subst}
 use mathlib.Core.Bool.{Bool, true}
-use mathlib.Core.List.{List, [], _∷_, _++_, map, map-map}
+use mathlib.Core.List.{List, _++_, map, map-map}
 use Prim.Native.Nat.{ℕ, suc, _+_, _-_, _%_, _≤_}
 use native.Mathlib.Omega.{arith}
 use lib.ListN.{length, getD, take, drop, take-append-drop, length-drop, replicate, length-replicate, getD-replicate}
 use lib.Seq.{ext-getD, getD-take, getD-drop, length-take-le}
-use Rattle.rules.specs.Lists.{_⊕_, All}
+use Rattle.rules.specs.Lists.{_⊕_}
 use Rattle.rules.proofs.Lists.{all-weaken}
 use Rattle.rules.specs.declared.Axis.{Axis}
 use Rattle.rules.specs.declared.Axis.the-variants.{X, Y, Z}
 use Rattle.rules.specs.declared.Point.{Point}
 use Rattle.rules.specs.Lattice.{Set, OfGrid, pointNumber, setOf, points, pointCount}
-use Rattle.rules.specs.Grid.{has, marks, byteAt, value, bytes, isGrid}
+use Rattle.rules.specs.Grid.{has, marks, byteAt, value, bytes, isGrid, stored}
 use Rattle.rules.specs.Rims.{rims}
 use Rattle.rules.specs.Patch.{patched, flips, flipCount}
-use Rattle.rules.proofs.Numbers.{small-byte, take-upto, rising, marks-inner}
+use Rattle.rules.proofs.Numbers.{small-byte, take-upto, rising, marks-inner, has-low}
 use Rattle.rules.proofs.PointOf.{points-grid}
-use Rattle.rules.proofs.Store.{stored}
+use Rattle.rules.proofs.Same.{map-same}
 use Rattle.lattice.specs.Cells.{works}
 use Rattle.lattice.proofs.Laws.{num-below}
-use Rattle.walking.proofs.Bytes.{has-low}
 use Rattle.patching.specs.Paint.{paint, nine, eight, low, nought, gaps}
 use Rattle.patching.specs.Marked.{marksFrom}
 use Rattle.patching.specs.Between.{Finished, AllPatched}
@@ -28,10 +27,6 @@ use Rattle.patching.specs.Call.{counted, patchDone}
 use Rattle.patching.proofs.PaintLaws.{paint-at, paint-past, paint-length}
 use Rattle.patching.proofs.Flips.{gaps-count}
 use Rattle.patching.proofs.Begins.{gridStart, oddFound, workStart, came-bit, now-bit, start, grid-long, work-long, grid-past, work-past}
-
-map-all : (f h : Point → ℕ) (l : List Point) → All (λ p. f p ≡ h p) l → map f l ≡ map h l
-map-all f h [] k = refl
-map-all f h (p ∷ l) k = ap₂ (λ (x : ℕ) (m : List ℕ). x ∷ m) (k .0) (map-all f h l (k .1))
 
 byte-is : (F : Set) (p : Point) (b : ℕ) → ((a : Axis) → has a b ≡ F a p) → b % 8 ≡ byteAt F p
 byte-is F p b h =
@@ -65,7 +60,7 @@ module _ (n : ℕ) (g w : List ℕ) (lg : pointCount n ≤ length g) (lw : point
       sym (take-upto (paint low (pointCount n) g₃) (pointCount n) (omega arith))
       ∙ sym (ap (map (λ i. getD (paint low (pointCount n) g₃) i 0)) (rising n))
       ∙ map-map (λ i. getD (paint low (pointCount n) g₃) i 0) (pointNumber n) (points (suc n))
-      ∙ map-all (λ p. getD (paint low (pointCount n) g₃) (pointNumber n p) 0) (byteAt (patched n (marks n g))) (points (suc n))
+      ∙ map-same (λ p. getD (paint low (pointCount n) g₃) (pointNumber n p) 0) (byteAt (patched n (marks n g))) (points (suc n))
       (all-weaken (OfGrid n) _ (λ p b. paint-at low (pointCount n) g₃ (pointNumber n p) (num-below n p b) s ∙ byte-is (patched n (marks n g)) p (getD g₃ (pointNumber n p) 0) (λ a. mark-is a p b)) (points (suc n)) (points-grid n))
 
   flips-are : gaps (pointCount n) g₃ ≡ flipCount n (marks n g)

@@ -8,25 +8,25 @@ use native.Mathlib.Omega.{arith}
 use lib.ListN.{length, getD}
 use Rattle.rules.specs.Lists.{_⊕_, anyOf, parity, each, All, count}
 use Rattle.rules.proofs.Bits.{⊕-self, xors, same-test}
-use Rattle.rules.proofs.Lists.{all-weaken, all-pair, all-swap, all-kept}
+use Rattle.rules.proofs.Lists.{all-weaken, all-pair, all-swap}
 use Rattle.rules.specs.declared.Axis.{Axis}
 use Rattle.rules.specs.declared.Axis.the-variants.{X}
 use Rattle.rules.specs.declared.Point.{Point}
 use Rattle.rules.specs.declared.Place.{Place}
 use Rattle.rules.specs.declared.Box.{Box}
-use Rattle.rules.specs.Lattice.{up, down, Set, pointNumber, samePlace, samePoint, setOf, edgeIn, whole, places, isIn, pointCount}
+use Rattle.rules.specs.Lattice.{up, down, Set, pointNumber, samePlace, samePoint, setOf, edgeIn, whole, isIn, pointCount}
 use Rattle.rules.specs.Cell.{oddFace, ofCell}
-use Rattle.rules.specs.Rims.{neighbours, oddFaces, rims, elem}
-use Rattle.rules.specs.Patch.{patchRim}
-use Rattle.rules.specs.Grid.{has}
+use Rattle.rules.specs.Rims.{neighbours, oddFaces, rims, elem, touch}
+use Rattle.rules.specs.Patch.{patchRim, patchOf}
+use Rattle.rules.specs.Grid.{has, stored}
 use Rattle.rules.proofs.Cuts.{samePoint→, samePlace→}
-use Rattle.rules.proofs.Rims.{neighbours-cell, touch, apart}
+use Rattle.rules.proofs.Rims.{neighbours-cell, apart}
 use Rattle.rules.proofs.Chains.{same-point, own-upper, own-lower, members, find, any-mono, rim-closed, one-rim, any-rims}
 use Rattle.rules.proofs.OddList.{elem-odd}
 use Rattle.rules.proofs.Scan.{count-or-one}
 use Rattle.rules.proofs.Patched.{odd-in, rims-all}
-use Rattle.rules.proofs.Store.{stored}
-use Rattle.rules.proofs.PatchOf.{patchOf}
+use Rattle.rules.proofs.FaceMarks.{odd-kept}
+use Rattle.rules.proofs.Same.{count-same, anyOf-same, parity-same}
 use Rattle.lattice.specs.Cells.{Cell, turns, works, facesOf}
 use Rattle.walking.specs.Walks.{seenB, New, Found}
 use Rattle.walking.proofs.Faces.{cell-grid}
@@ -36,7 +36,7 @@ use Rattle.halving.proofs.Boxes.{patch-edged}
 use Rattle.halving.specs.Halving.{Fits, Edged}
 use Rattle.patching.specs.Between.{owns, Between}
 use Rattle.patching.proofs.Rim.{newB, S, fits, Result, results, stored-is, face-cells}
-use Rattle.patching.proofs.Tallies.{join-sum, join-any, count-same, any-same, any-no, no-any, parity-all, one-hit}
+use Rattle.patching.proofs.Tallies.{join-sum, join-any, any-no, no-any, one-hit}
 
 -- ---- the rim that has f is the one that touches f's cells
 module _ (n : ℕ) (E : Set) (inner : (a : Axis) (p : Point) → E a p ≡ true → edgeIn (whole n) a p ≡ true) (f : Place) (o : oddFace E (f .axis) (f .at) ≡ true) where
@@ -70,7 +70,7 @@ module _ (n : ℕ) (E : Set) (inner : (a : Axis) (p : Point) → E a p ≡ true 
   shut : (a : Axis) (p : Point) → oddFace E a p ≡ true → Cell n p → Cell n (down a p) → seenB n w p ≡ seenB n w (down a p)
   shut a p o u l =
       B .seen-now p u
-      ∙ any-same (λ r. hit r && touch p r) (λ r. hit r && touch (down a p) r) (rims n E)
+      ∙ anyOf-same (λ r. hit r && touch p r) (λ r. hit r && touch (down a p) r) (rims n E)
       (all-pair (λ r. touch p r ≡ elem (record { axis = a; at = p }) r) (λ r. touch (down a p) r ≡ elem (record { axis = a; at = p }) r) _ (λ r x y. ap (λ (t : Bool). hit r && t) (x ∙ sym y)) (rims n E)
       (touch-has n E inner (record { axis = a; at = p }) o p (own-upper (record { axis = a; at = p })))
       (touch-has n E inner (record { axis = a; at = p }) o (down a p) (own-lower (record { axis = a; at = p }))))
@@ -178,10 +178,10 @@ module _ (n : ℕ) (E : Set) (hit : List Place → Bool) (g₀ w₀ g w : List �
     g-past = B .g-past;
     w-past = B .w-past;
     came-in = B .came-in;
-    marks-now = λ a p l. B .marks-now a p l ∙ ap (λ (x : Bool). stored n g₀ a p ⊕ x) (sym (parity-all _ _ (rims n E) (all-weaken _ _ (λ r e. ap (λ (x : Bool). x && setOf (patchRim r) a p) e) (rims n E) eq)));
+    marks-now = λ a p l. B .marks-now a p l ∙ ap (λ (x : Bool). stored n g₀ a p ⊕ x) (sym (parity-same _ _ (rims n E) (all-weaken _ _ (λ r e. ap (λ (x : Bool). x && setOf (patchRim r) a p) e) (rims n E) eq)));
     work-now = B .work-now;
     odd-now = B .odd-now;
-    seen-now = λ q u. B .seen-now q u ∙ sym (any-same _ _ (rims n E) (all-weaken _ _ (λ r e. ap (λ (x : Bool). x && touch q r) e) (rims n E) eq));
+    seen-now = λ q u. B .seen-now q u ∙ sym (anyOf-same _ _ (rims n E) (all-weaken _ _ (λ r e. ap (λ (x : Bool). x && touch q r) e) (rims n E) eq));
     counted = (let z : k + 0 ≡ k = omega arith in z) ∙ B .counted ∙ sym (count-same (λ s. owns c s || hit s) hit (rims n E) eq);
   }
     where
@@ -200,8 +200,8 @@ module _ (n : ℕ) (E : Set) (hit : List Place → Bool) (g₀ w₀ g w : List �
 
   -- the cell has no odd lower face
   pub none-skip : ((a : Axis) → oddFace E a c ≡ false) → Between n E (λ s. owns c s || hit s) g₀ w₀ g w (k + 0)
-  unfolding rims oddFaces
+  unfolding rims
   none-skip z = same-hit (all-weaken (All (λ x. isIn (oddFace E) x ≡ true)) _ (λ r f o.
       let x = find (λ y. samePoint (y .at) c) (λ y. isIn (oddFace E) y ≡ true) r f o in
       absurd (true≢false (sym (x .2) ∙ ap (oddFace E (x .0 .axis)) (samePoint→ (x .0 .at) c (x .1)) ∙ z (x .0 .axis)))) (rims n E)
-      (rims-all (λ x. isIn (oddFace E) x ≡ true) (oddFaces n E) (all-kept (isIn (oddFace E)) (places n))))
+      (rims-all (λ x. isIn (oddFace E) x ≡ true) (oddFaces n E) (odd-kept n E)))

@@ -14,16 +14,15 @@ use Rattle.rules.specs.declared.Point.{Point}
 use Rattle.rules.specs.declared.Place.{Place}
 use Rattle.rules.specs.Lattice.{Set, OfGrid, isIn, setOf, edgeIn, whole, placesAt, places, pointCount, pointOf, pointNumber}
 use Rattle.rules.specs.Cell.{oddFace}
-use Rattle.rules.specs.Grid.{has, marks, isGrid}
+use Rattle.rules.specs.Grid.{has, marks, isGrid, stored}
 use Rattle.rules.proofs.Boxes.{inBox→}
-use Rattle.rules.proofs.Numbers.{marks-inner}
+use Rattle.rules.proofs.Numbers.{marks-inner, zero-has}
 use Rattle.rules.proofs.PointOf.{number-pointOf, pointOf-grid, places-by-number}
 use Rattle.rules.proofs.Listed.{listed}
-use Rattle.rules.proofs.Store.{stored}
+use Rattle.rules.proofs.Same.{keep-same, each-same}
 use Rattle.lattice.specs.Cells.{works, facesOf}
 use Rattle.lattice.proofs.GridFacts.{grid-marks}
 use Rattle.halving.specs.Halving.{Edged}
-use Rattle.walking.proofs.Bytes.{zero-has}
 use Rattle.halving.proofs.Turns.{works-append, turns-length, turns-high, turns-past, stored-works, low-faces}
 use Rattle.patching.specs.Marked.{markAt, marksAt, marksFrom}
 
@@ -66,18 +65,10 @@ module _ {A : Type 0} where
       go true e = ap (λ (k : List A). x ∷ k) e
       go false e = e
 
-  keep-same : (w v : A → Bool) (l : List A) → All (λ x. w x ≡ v x) l → keep w l ≡ keep v l
-  keep-same w v [] h = refl
-  keep-same w v (x ∷ l) h = ap₂ (λ (b : Bool) (k : List A). cond b (x ∷ k) k) (h .0) (keep-same w v l (h .1))
-
 module _ {A B : Type 0} where
   keep-each : (w : B → Bool) (f : A → List B) (l : List A) → keep w (each f l) ≡ each (λ x. keep w (f x)) l
   keep-each w f [] = refl
   keep-each w f (x ∷ l) = keep-append w (f x) (each f l) ∙ ap (λ (k : List B). keep w (f x) ++ k) (keep-each w f l)
-
-  each-same : (f h : A → List B) (l : List A) → All (λ x. f x ≡ h x) l → each f l ≡ each h l
-  each-same f h [] k = refl
-  each-same f h (x ∷ l) k = ap₂ (λ (a b : List B). a ++ b) (k .0) (each-same f h l (k .1))
 
 -- ---- the points one after the other
 from-more : (n : ℕ) (g : List ℕ) (p k : ℕ) → 1 ≤ k → marksFrom n g p k ≡ marksAt (getD g p 0) (pointOf n p) ++ marksFrom n g (p + 1) (k - 1)

@@ -13,15 +13,14 @@ use Rattle.rules.specs.declared.Point.{Point}
 use Rattle.rules.specs.declared.Box.{Box}
 use Rattle.rules.specs.Lattice.{Set, pointNumber, faceIn, whole, OfGrid, pointCount, pointOf}
 use Rattle.rules.specs.Cell.{oddFace}
-use Rattle.rules.specs.Grid.{has, value}
-use Rattle.rules.proofs.Numbers.{small-byte}
+use Rattle.rules.specs.Grid.{has, value, stored}
+use Rattle.rules.specs.Patch.{patchOf}
+use Rattle.rules.proofs.Numbers.{small-byte, has-low, zero-has}
 use Rattle.rules.proofs.PointOf.{number-pointOf, pointOf-grid}
-use Rattle.rules.proofs.Store.{stored}
-use Rattle.rules.proofs.PatchOf.{patchOf}
 use Rattle.lattice.specs.Cells.{Cell, layer, turns, works, facesOf}
 use Rattle.walking.specs.Walks.{oddIn, Fine, seenB, Found}
 use Rattle.walking.proofs.Faces.{cell-grid, face-cell}
-use Rattle.walking.proofs.Bytes.{has-low, zero-has, odd-face}
+use Rattle.walking.proofs.Bytes.{odd-face}
 use Rattle.halving.proofs.Turns.{turns-high, low-faces}
 use Rattle.halving.proofs.Boxes.{patch-edged}
 use Rattle.halving.specs.Halving.{Fits}

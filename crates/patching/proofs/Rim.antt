@@ -7,51 +7,42 @@ use Prim.Native.Nat.{ℕ, suc, pred, _+_, _≤_, _<_}
 use native.Mathlib.Omega.{arith}
 use lib.ListN.{getD}
 use Rattle.rules.specs.Lists.{All}
-use Rattle.rules.proofs.Bits.{and-left, and-right, both, same-test}
+use Rattle.rules.proofs.Bits.{and-left, and-right, both, same-test, or-cases, or-true}
 use Rattle.rules.proofs.Lists.{all-weaken, all-pair, all-swap}
 use Rattle.rules.specs.declared.Axis.{Axis}
 use Rattle.rules.specs.declared.Axis.the-variants.{X, Y, Z}
 use Rattle.rules.specs.declared.Point.{Point}
 use Rattle.rules.specs.declared.Place.{Place}
 use Rattle.rules.specs.declared.Box.{Box}
-use Rattle.rules.specs.Lattice.{coord, up, down, Set, pointNumber, samePlace, samePoint, setOf, edgeIn, faceIn, whole}
+use Rattle.rules.specs.Lattice.{coord, up, down, Set, pointNumber, samePlace, samePoint, setOf, edgeIn, faceIn, whole, Sub}
 use Rattle.rules.specs.Cell.{oddFace, oddCell, ofCell}
-use Rattle.rules.specs.Rims.{neighbours, boxOf, ownBox, oddFaces, rims, elem, Chain, stay, link}
-use Rattle.rules.specs.Patch.{patchRim, patch, size}
+use Rattle.rules.specs.Rims.{boxOf, ownBox, oddFaces, rims, elem, Chain, stay, link, touch}
+use Rattle.rules.specs.Patch.{patchRim, patchOf}
 use Rattle.rules.proofs.Cuts.{samePoint→, samePlace→}
-use Rattle.rules.proofs.Rims.{neighbours-cell, rims-even, touch}
+use Rattle.rules.proofs.Rims.{neighbours-cell, rims-even, down-up}
 use Rattle.rules.proofs.Patched.{odd-in, odd-listed, odd-inner, Inner, rims-all, rim-ends}
 use Rattle.rules.proofs.Oddness.{cell-even}
-use Rattle.rules.proofs.Chains.{same-point, neighbours-cells, own-upper, own-lower, or-cases, members, find, any-mono}
+use Rattle.rules.proofs.Chains.{same-point, neighbours-cells, own-upper, own-lower, members, find, any-mono, chain-add}
 use Rattle.rules.proofs.OddList.{elem-odd, rim-set}
 use Rattle.rules.proofs.Fill.{fill-rim}
-use Rattle.rules.proofs.RimBox.{Sub, box-holds, box-least, eq6}
-use Rattle.rules.proofs.Store.{stored}
-use Rattle.rules.proofs.PatchOf.{patchOf}
+use Rattle.rules.proofs.RimBox.{box-holds, box-least, eq6, sub-trans}
 use Rattle.lattice.specs.Cells.{faceOf, indexOf, Cell}
 use Rattle.rules.specs.Lattice.{OfGrid}
+use Rattle.rules.specs.Grid.{stored}
 use Rattle.walking.specs.Walks.{seenB, acrossOf, cellBox, Route, here, over, New, Found}
-use Rattle.lattice.proofs.PointSteps.{up-down}
-use Rattle.walking.proofs.Faces.{which, face-lower, face-upper, across-lower, across-upper, index-small, down-up, pred-most, cell-grid, face-cell, down-cell}
+use Rattle.lattice.proofs.PointSteps.{up-down, pred-most, down-cell}
+use Rattle.walking.proofs.Faces.{which, face-lower, face-upper, across-lower, across-upper, index-small, cell-grid, face-cell}
 use Rattle.walking.proofs.Bytes.{seen-same}
 use Rattle.halving.proofs.Boxes.{patchOf-cong, face-grid as box-face}
 use Rattle.halving.specs.Halving.{Fits}
-
-chain-snoc : (l : List Place) (f g h : Place) → Chain l f g → neighbours g h ≡ true → elem h l ≡ true → Chain l f h
-chain-snoc l f g h stay n k = link n k stay
-chain-snoc l f g h (link {g = m} a b c) n k = link a b (chain-snoc l m g h c n k)
 
 -- a face of the table belongs to its cell and to the one across
 of-own : (f : ℕ) (q : Point) → f < 6 → ofCell q (faceOf f q) ≡ true
 of-own f q l = go (which f l)
   where
-    two : (x y : Bool) → y ≡ true → x || y ≡ true
-    two true y e = refl
-    two false y e = e
-
     go : ((a : Axis) × (f ≡ indexOf a)) ⊎ ((a : Axis) × (f ≡ indexOf a + 3)) → ofCell q (faceOf f q) ≡ true
     go (inl e) = subst (λ (x : Place). ofCell q x ≡ true) (sym (ap (λ (g : ℕ). faceOf g q) (e .1) ∙ face-lower (e .0) q)) (ap (λ (x : Bool). x || samePoint q (up (e .0) q)) (same-point q))
-    go (inr e) = subst (λ (x : Place). ofCell q x ≡ true) (sym (ap (λ (g : ℕ). faceOf g q) (e .1) ∙ face-upper (e .0) q)) (two (samePoint (up (e .0) q) q) (samePoint (up (e .0) q) (up (e .0) q)) (same-point (up (e .0) q)))
+    go (inr e) = subst (λ (x : Place). ofCell q x ≡ true) (sym (ap (λ (g : ℕ). faceOf g q) (e .1) ∙ face-upper (e .0) q)) (or-true (samePoint (up (e .0) q) q) (samePoint (up (e .0) q) (up (e .0) q)) (same-point (up (e .0) q)))
 
 of-across : (f : ℕ) (q : Point) → f < 6 → ofCell (acrossOf f q) (faceOf f q) ≡ true
 of-across f q l = go (which f l)
@@ -97,9 +88,6 @@ cell-whole n q h = omega arith
 
 pub fits-of : (n : ℕ) (b : Box) (c : Point) → Sub b (whole n) → Sub (cellBox c) b → Fits n b
 fits-of n b c u t = omega arith
-
-sub-trans : (a b c : Box) → Sub a b → Sub b c → Sub a c
-sub-trans a b c h k = omega arith
 
 module _ (n : ℕ) (E : Set) (inner : (a : Axis) (p : Point) → E a p ≡ true → edgeIn (whole n) a p ≡ true)
     (w v : List ℕ) (c : Point) (b : Box) (F : Found n (oddFace E) w v c b) (a₀ : Axis) (o₀ : oddFace E a₀ c ≡ true)
@@ -159,7 +147,7 @@ module _ (n : ℕ) (E : Set) (inner : (a : Axis) (p : Point) → E a p ≡ true 
   reach : (q : Point) → Route (oddFace E) c q → (h : Place) → ofCell q h ≡ true → oddFace E (h .axis) (h .at) ≡ true → Chain (oddFaces n E) f₀ h
   reach q here h k o = link (neighbours-cell c f₀ h (own-upper f₀) k) (listed h o) stay
   reach q (over {q = p} r f l e) h k o =
-      chain-snoc (oddFaces n E) f₀ (faceOf f p) h (reach p r (faceOf f p) (of-own f p l) e) (neighbours-cell (acrossOf f p) (faceOf f p) h (of-across f p l) k) (listed h o)
+      chain-add (oddFaces n E) f₀ (faceOf f p) h (reach p r (faceOf f p) (of-own f p l) e) (neighbours-cell (acrossOf f p) (faceOf f p) h (of-across f p l) k) (listed h o)
 
   -- each new cell has an odd face
   some-face : (q : Point) → Route (oddFace E) c q → (h : Place) × (ofCell q h ≡ true) × (oddFace E (h .axis) (h .at) ≡ true)
@@ -210,12 +198,12 @@ module _ (n : ℕ) (E : Set) (inner : (a : Axis) (p : Point) → E a p ≡ true 
     pub touches : (q : Point) → Cell n q → touch q r ≡ newB q
 
   result : (r : List Place) → elem f₀ r ≡ true → ((g : Place) → S g ≡ elem g r) → ((g : Place) → setOf r (g .axis) (g .at) ≡ elem g r) → All Inner r → ((p : Point) → oddCell (setOf r) p ≡ false) → Result r
-  unfolding patchRim patchOf
+  unfolding patchRim
   result [] e s d i z = absurd (false≢true e)
   result (f ∷ l) e s d i z = record {
     box = box-is;
     patches = patchOf-cong b (stored n v) (setOf (f ∷ l)) (λ a p k. stored-is a p (in-low a p k) ∙ s (record { axis = a; at = p }) ∙ sym (d (record { axis = a; at = p })))
-        ∙ ap (λ (x : Box). patch (size x) x (setOf (f ∷ l))) box-is;
+        ∙ ap (λ (x : Box). patchOf x (setOf (f ∷ l))) box-is;
     clears = λ a p. rim-ends (f ∷ l) i z a p ∙ d (record { axis = a; at = p }) ∙ sym (s (record { axis = a; at = p }));
     touches = λ q cell. same-test (touch q (f ∷ l)) (newB q)
         (λ k. let x = find (ofCell q) (λ g. elem g (f ∷ l) ≡ true) (f ∷ l) (members (f ∷ l)) k in

@@ -2,12 +2,11 @@
 use mathlib.Core.Path.{_≡_, refl, sym, ap, ap₂, _∙_, subst}
 use mathlib.Core.Bool.{Bool, true, false, _&&_, _||_, cond, true≢false}
 use mathlib.Core.List.{List, [], _∷_}
-use Prim.Native.Nat.{ℕ, suc, _≤_}
+use Prim.Native.Nat.{suc, _≤_}
 use native.Mathlib.Omega.{arith}
 use Rattle.rules.specs.Lists.{_⊕_, anyOf, parity, All, count}
-use Rattle.rules.proofs.Bits.{xors}
+use Rattle.rules.proofs.Bits.{xors, or-no-left, or-no-right}
 use Rattle.rules.proofs.Lists.{all-weaken}
-use Rattle.rules.proofs.Chains.{or-no-left, or-no-right}
 
 module _ {R : Type 0} where
   none-sum : (x y z : R → Bool) (rs : List R) → All (λ r. x r ≡ false) rs → parity (λ r. (x r || y r) && z r) rs ≡ parity (λ r. y r && z r) rs
@@ -70,14 +69,6 @@ module _ {R : Type 0} where
           assoc true q s = refl
           assoc false q s = refl
 
-  pub count-same : (x y : R → Bool) (rs : List R) → All (λ r. x r ≡ y r) rs → count x rs ≡ count y rs
-  count-same x y [] h = refl
-  count-same x y (r ∷ rs) h = ap₂ (λ (b : Bool) (k : ℕ). cond b (suc k) k) (h .0) (count-same x y rs (h .1))
-
-  pub any-same : (x y : R → Bool) (rs : List R) → All (λ r. x r ≡ y r) rs → anyOf x rs ≡ anyOf y rs
-  any-same x y [] h = refl
-  any-same x y (r ∷ rs) h = ap₂ (λ (a b : Bool). a || b) (h .0) (any-same x y rs (h .1))
-
   pub any-no : (x : R → Bool) (rs : List R) → anyOf x rs ≡ false → All (λ r. x r ≡ false) rs
   any-no x [] h = tt
   any-no x (r ∷ rs) h = (or-no-left (x r) (anyOf x rs) h, any-no x rs (or-no-right (x r) (anyOf x rs) h))
@@ -85,10 +76,6 @@ module _ {R : Type 0} where
   pub no-any : (x : R → Bool) (rs : List R) → All (λ r. x r ≡ false) rs → anyOf x rs ≡ false
   no-any x [] h = refl
   no-any x (r ∷ rs) h = ap₂ (λ (a b : Bool). a || b) (h .0) (no-any x rs (h .1))
-
-  pub parity-all : (x y : R → Bool) (rs : List R) → All (λ r. x r ≡ y r) rs → parity x rs ≡ parity y rs
-  parity-all x y [] h = refl
-  parity-all x y (r ∷ rs) h = ap₂ (λ (a b : Bool). a ⊕ b) (h .0) (parity-all x y rs (h .1))
 
   pub one-hit : (x y : R → Bool) (rs : List R) → count x rs ≤ 1 → anyOf (λ r. y r && x r) rs ≡ true → All (λ r. x r ≡ true → y r ≡ true) rs
   one-hit x y [] h e = tt

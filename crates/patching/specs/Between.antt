@@ -10,10 +10,9 @@ use Rattle.rules.specs.declared.Point.{Point}
 use Rattle.rules.specs.declared.Place.{Place}
 use Rattle.rules.specs.Lattice.{Set, setOf, samePoint, edgeIn, whole, pointCount, pointOf, OfGrid}
 use Rattle.rules.specs.Cell.{oddFace}
-use Rattle.rules.specs.Rims.{rims}
+use Rattle.rules.specs.Rims.{rims, touch}
 use Rattle.rules.specs.Patch.{flips, patchRim}
-use Rattle.rules.proofs.Rims.{touch}
-use Rattle.rules.proofs.Store.{stored}
+use Rattle.rules.specs.Grid.{stored}
 use Rattle.lattice.specs.Cells.{Cell}
 use Rattle.walking.specs.Walks.{oddIn, seenB}
 

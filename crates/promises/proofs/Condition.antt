@@ -1,5 +1,5 @@
 -- Conditions 2 and 3 of the calls: what patch leaves where it is done, whatever it is lent. Assumes nothing.
-use mathlib.Core.Path.{_≡_, refl, sym, ap, subst, subst₂, _∙_}
+use mathlib.Core.Path.{_≡_, sym, ap, subst, subst₂, _∙_}
 use mathlib.Core.Bool.{Bool, true, false}
 use mathlib.Core.List.{List, _++_}
 use mathlib.Core.Logic.{_↔_, _≢_}
@@ -12,10 +12,10 @@ use Rattle.rules.specs.declared.Place.{Place}
 use Rattle.rules.specs.Lists.{parity, anyOf}
 use Rattle.rules.specs.Lattice.{up, OfGrid, Set, isIn, edgeIn, inner, pointCount}
 use Rattle.rules.specs.Cell.{oddFace}
-use Rattle.rules.specs.Grid.{value, marks, bytes, isGrid}
+use Rattle.rules.specs.Grid.{marks, bytes, isGrid}
 use Rattle.rules.specs.Rims.{boxOf, rims}
 use Rattle.rules.specs.Patch.{patched}
-use Rattle.rules.specs.Signs.{sign, signBytes}
+use Rattle.rules.specs.Signs.{sign, signBytes, inside}
 use Rattle.rules.specs.Condition.{Route, stop, upward, downward}
 use Rattle.rules.proofs.Bits.{differ}
 use Rattle.rules.proofs.Signs.{route-parity}
@@ -27,8 +27,7 @@ use Rattle.lattice.proofs.Ahead.{bytes-are-grid, bytes-have-marks}
 use Rattle.refusals.specs.Columns.{badLevel}
 use Rattle.patching.specs.Call.{Outcome as Patching, patchCall, patchDone}
 use Rattle.signing.specs.Call.{Outcome as Signing, done, signCall}
-use Rattle.signing.specs.SignBytes.{signByte}
-use Rattle.signing.proofs.Only.{sign-byte}
+use Rattle.signing.proofs.Only.{sign-inside}
 use Rattle.promises.specs.Table.{cells, pointsAt}
 use Rattle.promises.specs.Stage.{Stage, promised, Keeps, Condition1, Condition2, Condition3}
 use Rattle.promises.proofs.Numbers.{promised-condition-1}
@@ -40,13 +39,6 @@ route-ends n p q l (stop h) = (h, h)
 route-ends n p q l (upward {p = r} {l = m} a h w) = (h, route-ends n (up a r) q m w .1)
 route-ends n p q l (downward {p = r} {l = m} a h w) = (h, route-ends n r q m w .1)
 
--- two sign bytes differ exactly when the signs do
-bytes-differ : (a b : Bool) → (a ≢ b) ↔ (value a 1 ≢ value b 1)
-bytes-differ true true = (λ h e. h refl, λ h e. h refl)
-bytes-differ true false = (λ h e. omega arith, λ h e. h (ap (λ (c : Bool). value c 1) e))
-bytes-differ false true = (λ h e. omega arith, λ h e. h (ap (λ (c : Bool). value c 1) e))
-bytes-differ false false = (λ h e. h refl, λ h e. h refl)
-
 -- ---- a grid without odd faces, at a known level
 module _ (L : ℕ) (good : badLevel L ≡ false) (h : List ℕ) (long : pointsAt L ≤ length h) (grid : isGrid (cells L) h ≡ true)
     (even : (a : Axis) (p : Point) → oddFace (marks (cells L) h) a p ≡ false) (b : List ℕ) (room : pointsAt L ≤ length b) where
@@ -54,23 +46,21 @@ module _ (L : ℕ) (good : badLevel L ≡ false) (h : List ℕ) (long : pointsAt
   taken : signCall L h b ≡ done (signBytes (cells L) (marks (cells L) h) ++ drop (pointsAt L) b)
   taken = sign-taken L good h b long room grid (even-all (cells L) (marks (cells L) h) (marks-inner (cells L) h) .1 even)
 
-  -- and its bytes are the signs
-  byte : (p : Point) → OfGrid (cells L) p → signByte (cells L) (signCall L h b .signs) p ≡ value (sign (marks (cells L) h) p) 1
-  byte p o =
-      ap (λ (x : Signing). signByte (cells L) (x .signs) p) taken
-      ∙ sign-byte (cells L) (marks (cells L) h) (drop (pointsAt L) b) p o
+  -- and its bytes say the signs
+  said : (p : Point) → OfGrid (cells L) p → inside (cells L) (signCall L h b .signs) p ≡ sign (marks (cells L) h) p
+  said p o =
+      ap (λ (x : Signing). inside (cells L) (x .signs) p) taken
+      ∙ sign-inside (cells L) (marks (cells L) h) (drop (pointsAt L) b) p o
 
-  -- along any route the marks met are odd in number exactly when the bytes differ
+  -- along any route the marks met are odd in number exactly when what is said of its ends differs
   route : (p q : Point) (r : List Place) → Route (cells L) p q r → (parity (isIn (marks (cells L) h)) r ≡ true)
-      ↔ (signByte (cells L) (signCall L h b .signs) p ≢ signByte (cells L) (signCall L h b .signs) q)
+      ↔ (inside (cells L) (signCall L h b .signs) p ≢ inside (cells L) (signCall L h b .signs) q)
   route p q r w =
       let E = marks (cells L) h in
       let ends = route-ends (cells L) p q r w in
       let e = route-parity E even (cells L) p q r w in
-      subst₂ (λ (x y : ℕ). (parity (isIn E) r ≡ true) ↔ (x ≢ y)) (sym (byte p (ends .0))) (sym (byte q (ends .1))) (
-        λ o. bytes-differ (sign E p) (sign E q) .0 (differ (sign E p) (sign E q) .0 (sym e ∙ o)),
-        λ d. e ∙ differ (sign E p) (sign E q) .1 (bytes-differ (sign E p) (sign E q) .1 d),
-      )
+      subst₂ (λ (x y : Bool). (parity (isIn E) r ≡ true) ↔ (x ≢ y)) (sym (said p (ends .0))) (sym (said q (ends .1)))
+      (λ o. differ (sign E p) (sign E q) .0 (sym e ∙ o), λ d. e ∙ differ (sign E p) (sign E q) .1 d)
 
 -- condition 3's parity, of one grid
 pub record Parity (L : ℕ) (h : List ℕ) : Type 0 where
@@ -78,7 +68,7 @@ pub record Parity (L : ℕ) (h : List ℕ) : Type 0 where
   pub signed : (b : List ℕ) → pointsAt L ≤ length b → signCall L h b .number ≡ 0
   pub routed : (b : List ℕ) → pointsAt L ≤ length b → (p q : Point) (l : List Place) → Route (cells L) p q l →
       (parity (isIn (marks (cells L) h)) l ≡ true)
-      ↔ (signByte (cells L) (signCall L h b .signs) p ≢ signByte (cells L) (signCall L h b .signs) q)
+      ↔ (inside (cells L) (signCall L h b .signs) p ≢ inside (cells L) (signCall L h b .signs) q)
 
 -- the bytes of marks on inner edges without odd faces have it, with anything behind them
 pub parity-of : (L : ℕ) → badLevel L ≡ false → (F : Set) → ((a : Axis) (p : Point) → F a p ≡ true → inner (cells L) a p ≡ true) →

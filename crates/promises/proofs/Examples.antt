@@ -6,10 +6,10 @@ use lib.ListN.{replicate}
 use Rattle.rules.specs.Lists.{allOf}
 use Rattle.rules.specs.Grid.{bytes, marks, isGrid}
 use Rattle.rules.specs.Rims.{oddFaces, evenFaces, rims}
-use Rattle.rules.specs.Patch.{patchRim, flips, patched, flipCount}
 use Rattle.rules.specs.Signs.{signBytes}
 use Rattle.rules.specs.Quads.{quads}
 use Rattle.rules.specs.Examples.{single, gap, pair}
+use Rattle.rules.specs.Patch.{patchRim, patchOf, flips, patched, flipCount}
 use Rattle.lattice.specs.Levels.{levelOf}
 use Rattle.refusals.specs.Columns.{badLevel, levelAt}
 use Rattle.triangles.specs.Vectors.{along, minus, cross, dot}
@@ -22,7 +22,7 @@ use Rattle.marking.specs.Open.{opened, openRows, openCall}
 use Rattle.marking.specs.Mark.{markRows, markCall}
 use Rattle.patching.specs.Call.{patchDone, patchRows, patchCall}
 use Rattle.signing.specs.Call.{signRows, signCall}
-use Rattle.surfacing.specs.Fit.{edgeFits, pointFits, signsFit}
+use Rattle.surfacing.specs.Fit.{edgeFits, pointFits, signsFit, smallSigns}
 use Rattle.surfacing.specs.Listing.{quadCount}
 use Rattle.surfacing.specs.Call.{surfaceDone, surfaceRows, surfaceCall}
 use Rattle.promises.specs.Examples.{run, right, examples, ninth, listing}
@@ -30,11 +30,11 @@ use Rattle.promises.specs.Examples.{run, right, examples, ninth, listing
 -- the calls' definitions, computed
 computed : (allOf right examples ≡ true) × (run ninth .surfacing ≡ record { number = 0; quads = 6; list = listing ++ replicate 360 65535 })
 unfolding
-    examples single gap pair bytes marks isGrid oddFaces evenFaces rims patchRim flips patched flipCount signBytes quads levelOf
+    examples single gap pair bytes marks isGrid oddFaces evenFaces rims patchRim patchOf flips patched flipCount signBytes quads levelOf
     along minus cross dot lesser greater apart units sides normal crossEach crossed axes
     triangleSpan edgeSpan separates noneSeparates edgeMet inRange latticeOf allInRange vertexAt triangleOf placeOf endsOf met marked
     badLevel levelAt opened openRows openCall markRows markCall patchDone patchRows patchCall signRows signCall
-    edgeFits pointFits signsFit quadCount surfaceDone surfaceRows surfaceCall
+    edgeFits pointFits signsFit smallSigns quadCount surfaceDone surfaceRows surfaceCall
 computed = (refl, refl)
 
 -- the single claim: every example of the table is right

@@ -10,7 +10,7 @@ use Rattle.rules.specs.Lattice.{Edge, setOf}
 use Rattle.rules.specs.Cell.{oddFace}
 use Rattle.rules.specs.Grid.{marks, bytes, isGrid}
 use Rattle.rules.specs.Rims.{rims, oddFaces}
-use Rattle.rules.specs.Patch.{patchRim, flips, patched}
+use Rattle.rules.specs.Patch.{patchRim, patchOf, flips, patched}
 use Rattle.rules.specs.Examples.{single}
 use Rattle.lattice.specs.Levels.{levelOf}
 use Rattle.refusals.specs.Columns.{badLevel, levelAt}
@@ -79,7 +79,7 @@ leaving-breaks-even s takes leaves even =
 
 -- ---- one that takes it, patches its first rim and only counts the others breaks condition 3's even faces, by example 5
 pub first-rim-breaks-even : (s : Stage) → Takes s → Yields firstPatched s → ¬ (Even s)
-unfolding patchCall patchRows patchDone badLevel levelAt levelOf isGrid bytes marks rims oddFaces patchRim
+unfolding patchCall patchRows patchDone badLevel levelAt levelOf isGrid bytes marks rims oddFaces patchRim patchOf
 first-rim-breaks-even s takes first even =
     let g = buffer (xEdge 0 1 1 ∷ (xEdge 2 3 3 ∷ [])) in
     let d = takes 2 g work refl in

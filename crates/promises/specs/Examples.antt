@@ -13,13 +13,13 @@ use Rattle.rules.specs.Lattice as Lattice
 use Rattle.rules.specs.Lattice.{Edge, Set, isIn, setOf, samePoint}
 use Rattle.rules.specs.Grid as Grid
 use Rattle.rules.specs.Rims as Rims
+use Rattle.rules.specs.Signs as Signs
 use Rattle.rules.specs.Examples as Drawn
 use Rattle.marking.specs.Outcome as Marking
 use Rattle.marking.specs.Open.{openCall}
 use Rattle.marking.specs.Mark.{markCall}
 use Rattle.patching.specs.Call as Patching
 use Rattle.signing.specs.Call as Signing
-use Rattle.signing.specs.SignBytes as Signs
 use Rattle.surfacing.specs.Call as Surfacing
 
 -- edge x(i,j,k), y(i,j,k) or z(i,j,k)

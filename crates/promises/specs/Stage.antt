@@ -16,12 +16,12 @@ use Rattle.rules.specs.Grid.{marks, isGrid}
 use Rattle.rules.specs.Rims.{boxOf, rims}
 use Rattle.rules.specs.Patch.{patched, flipCount}
 use Rattle.rules.specs.Condition.{Route}
+use Rattle.rules.specs.Signs.{inside}
 use Rattle.marking.specs.Outcome.{Outcome as Marking}
 use Rattle.marking.specs.Open.{openCall}
 use Rattle.marking.specs.Mark.{markCall}
 use Rattle.patching.specs.Call.{Outcome as Patching, patchCall}
 use Rattle.signing.specs.Call.{Outcome as Signing, signCall}
-use Rattle.signing.specs.SignBytes.{signByte}
 use Rattle.surfacing.specs.Call.{Outcome as Surfacing, surfaceCall}
 use Rattle.refusals.specs.Rows.{Given, Lowest, rising}
 use Rattle.promises.specs.Table.{cells, pointsAt, Call, Open, Mark, Patch, Sign, Surface, table}
@@ -104,11 +104,11 @@ Even s = (L : ℕ) (g w : List ℕ) → Done s L g w → (a : Axis) (p : Point) 
 abbrev pub Signed : Stage → Type 0
 Signed s = (L : ℕ) (g w : List ℕ) → Done s L g w → (b : List ℕ) → pointsAt L ≤ length b → signAfter s L g w b .number ≡ 0
 
--- along any route between two grid points the marked edges met are odd in number exactly when the two sign bytes differ
+-- along any route between two grid points the marked edges met are odd in number exactly when one of the two is inside and the other is not
 abbrev pub Routed : Stage → Type 0
 Routed s = (L : ℕ) (g w : List ℕ) → Done s L g w → (b : List ℕ) → pointsAt L ≤ length b →
     (p q : Point) (l : List Place) → Route (cells L) p q l → (parity (isIn (marksAfter s L g w)) l ≡ true)
-    ↔ (signByte (cells L) (signAfter s L g w b .signs) p ≢ signByte (cells L) (signAfter s L g w b .signs) q)
+    ↔ (inside (cells L) (signAfter s L g w b .signs) p ≢ inside (cells L) (signAfter s L g w b .signs) q)
 
 -- no edge is altered unless all four cells around it lie in the box of one rim of the grid as it came
 abbrev pub Boxed : Stage → Type 0

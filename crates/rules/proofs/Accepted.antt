@@ -6,14 +6,14 @@ use Rattle.rules.specs.Lists.{allOf}
 use Rattle.rules.specs.Lattice.{setOf}
 use Rattle.rules.specs.Grid.{bytes, marks}
 use Rattle.rules.specs.Rims.{oddFaces, rims}
-use Rattle.rules.specs.Patch.{patchRim, flips, patched, flipCount}
+use Rattle.rules.specs.Patch.{patchRim, flips, patched, flipCount, patchOf}
 use Rattle.rules.specs.Signs.{sign}
 use Rattle.rules.specs.Quads.{quads}
 use Rattle.rules.specs.Examples.{single, gap, pair, ring, table, right}
 
 -- the single claim: every row of the table is right
 pub examples-hold : allOf right table ≡ true
-unfolding table single gap pair ring rims flips patched oddFaces patchRim flipCount bytes marks
+unfolding table single gap pair ring rims flips patched oddFaces patchRim patchOf flipCount bytes marks
 examples-hold = refl
 
 -- the quads that the rules list for one point inside

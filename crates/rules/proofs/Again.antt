@@ -1,55 +1,70 @@
 -- A patched grid is a grid; patching it again finds no rim and changes nothing. Assumes nothing.
-use mathlib.Core.Bool.{Bool, false, not, true, _&&_, _||_}
+use mathlib.Core.Bool.{Bool, false, not, true, _&&_, _||_, true≢false}
 use mathlib.Core.List.{List, []}
 use mathlib.Core.Path.{ap, fun-ext, refl, sym, _∙_, _≡_}
 use Prim.Native.Nat.{suc, ℕ, _≤_}
 use native.Mathlib.Omega.{arith}
-use lib.Dec.{leb}
 use lib.ListN.{getD}
 use Rattle.rules.specs.Lists.{_⊕_}
-use Rattle.rules.specs.Lattice.{OfGrid, pointNumber, points, places, Set, inner, isIn, Axis, X, Y, Z, Point}
-use Rattle.rules.specs.Grid.{value, byteAt, bytes, has, marks, goodByte, isGrid}
+use Rattle.rules.specs.Lattice.{OfGrid, pointNumber, points, places, Set, inner, isIn, Axis, X, Y, Z, Point, whole, sameAxis}
+use Rattle.rules.specs.Grid.{bytes, has, marks, goodByte, isGrid, stored}
 use Rattle.rules.specs.Cell.{oddFace}
 use Rattle.rules.specs.Rims.{rims}
 use Rattle.rules.specs.Patch.{patched, flipCount}
-use Rattle.rules.proofs.Bits.{⊕-self, both, leb-yes}
+use Rattle.rules.proofs.Bits.{⊕-self, both, leb-yes, is-false}
 use Rattle.rules.proofs.Lists.{all-weaken, allOf←, count-none}
-use Rattle.rules.proofs.Numbers.{bytes-at, has-bit, three-of, marks-inner, marks-bytes}
+use Rattle.rules.proofs.Numbers.{bytes-at, has-bit, three-of, marks-inner, byte-most}
 use Rattle.rules.proofs.PointOf.{points-grid}
 use Rattle.rules.proofs.Patched.{patched-even, patched-inner, even-rims, even-still}
-
-value-le : (x : Bool) (w : ℕ) → value x w ≤ w
-value-le true w = omega arith
-value-le false w = omega arith
+use Rattle.rules.proofs.Boxes.{inBox→}
 
 imp← : (x y : Bool) → (x ≡ true → y ≡ true) → not x || y ≡ true
 imp← true y h = h refl
 imp← false y h = refl
 
-module _ (n : ℕ) (E : Set) (inside : (a : Axis) (p : Point) → E a p ≡ true → inner n a p ≡ true) where
-  good-byte : (p : Point) → OfGrid n p → goodByte n (bytes n E) p ≡ true
-  good-byte p o = go (getD (bytes n E) (pointNumber n p) 0) (bytes-at n E p (o .i) (o .j) (o .k))
+-- an inner edge's point is a point of the grid
+pub inner-point : (n : ℕ) (a : Axis) (p : Point) → inner n a p ≡ true → OfGrid n p
+inner-point n a p e =
+    let k = inBox→ (whole n) (not (sameAxis a X)) (not (sameAxis a Y)) (not (sameAxis a Z)) p e in
+    record { i = omega arith; j = omega arith; k = omega arith }
+
+-- ---- a buffer without a byte above 7 that holds marks on inner edges
+module _ (n : ℕ) (E : Set) (inside : (a : Axis) (p : Point) → E a p ≡ true → inner n a p ≡ true) (h : List ℕ)
+    (small : (p : Point) → OfGrid n p → getD h (pointNumber n p) 0 ≤ 7) (holds : (a : Axis) (p : Point) → OfGrid n p → stored n h a p ≡ E a p) where
+  good-byte : (p : Point) → OfGrid n p → goodByte n h p ≡ true
+  good-byte p o = both _ _ (leb-yes _ 7 (small p o)) (both _ _ (marked X) (both _ _ (marked Y) (marked Z)))
     where
-      go : (b : ℕ) → b ≡ byteAt E p →
-          leb b 7 && ((not (has X b) || inner n X p) && ((not (has Y b) || inner n Y p) && (not (has Z b) || inner n Z p))) ≡ true
-      go b e =
-          let x = value-le (E X p) 1 in
-          let y = value-le (E Y p) 2 in
-          let z = value-le (E Z p) 4 in
-          both _ _ (leb-yes b 7 (omega arith)) (both _ _ (marked X) (both _ _ (marked Y) (marked Z)))
-        where
-          marked : (a : Axis) → not (has a b) || inner n a p ≡ true
-          marked a =
-              imp← (has a b) (inner n a p) (λ h. inside a p (sym (ap (has a) e ∙ has-bit a (E X p) (E Y p) (E Z p) ∙ three-of a E p) ∙ h))
+      marked : (a : Axis) → not (stored n h a p) || inner n a p ≡ true
+      marked a = imp← (stored n h a p) (inner n a p) (λ e. inside a p (sym (holds a p o) ∙ e))
+
+  -- is a grid
+  pub held-grid : isGrid n h ≡ true
+  unfolding isGrid
+  held-grid = allOf← (goodByte n h) (points (suc n)) (all-weaken _ _ good-byte (points (suc n)) (points-grid n))
+
+  -- with those marks
+  pub held-marks : marks n h ≡ E
+  unfolding marks
+  held-marks = fun-ext (λ a. fun-ext (λ p. go a p (inner n a p) refl))
+    where
+      go : (a : Axis) (p : Point) (c : Bool) → inner n a p ≡ c → c && stored n h a p ≡ E a p
+      go a p true e = holds a p (inner-point n a p e)
+      go a p false e = sym (is-false (E a p) (λ t. true≢false (sym (inside a p t) ∙ e)))
+
+module _ (n : ℕ) (E : Set) (inside : (a : Axis) (p : Point) → E a p ≡ true → inner n a p ≡ true) where
+  bytes-small : (p : Point) → OfGrid n p → getD (bytes n E) (pointNumber n p) 0 ≤ 7
+  bytes-small p o = let e = bytes-at n E p (o .i) (o .j) (o .k) in let m = byte-most E p in omega arith
+
+  bytes-hold : (a : Axis) (p : Point) → OfGrid n p → stored n (bytes n E) a p ≡ E a p
+  bytes-hold a p o = ap (has a) (bytes-at n E p (o .i) (o .j) (o .k)) ∙ has-bit a (E X p) (E Y p) (E Z p) ∙ three-of a E p
 
   -- the bytes of marks on inner edges are a grid
   pub bytes-grid : isGrid n (bytes n E) ≡ true
-  unfolding isGrid
-  bytes-grid = allOf← (goodByte n (bytes n E)) (points (suc n)) (all-weaken _ _ good-byte (points (suc n)) (points-grid n))
+  bytes-grid = held-grid n E inside (bytes n E) bytes-small bytes-hold
 
   -- and are read back as those marks
   pub read-back : marks n (bytes n E) ≡ E
-  read-back = fun-ext (λ a. fun-ext (λ p. marks-bytes n E inside a p))
+  read-back = held-marks n E inside (bytes n E) bytes-small bytes-hold
 
 pub no-flips : (n : ℕ) (E : Set) → patched n E ≡ E → flipCount n E ≡ 0
 unfolding flipCount

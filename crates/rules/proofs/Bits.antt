@@ -1,6 +1,6 @@
 -- Laws of odd and even, of tests, and of numbers between bounds. Assumes nothing.
-use mathlib.Core.Bool.{Bool, and-assoc, and-comm, and-false, and-self, and-self-left, and-true, false, false≢true, true, true≢false, _&&_}
-use mathlib.Core.Logic.{_↔_, _≢_}
+use mathlib.Core.Bool.{Bool, Bool·beq, and-assoc, and-comm, and-false, and-self, and-self-left, and-true, false, false≢true, not, true, true≢false, _&&_, _||_}
+use mathlib.Core.Logic.{_↔_, _≢_, _⊎_, inl, inr}
 use mathlib.Core.Path.{refl, subst, sym, _≡_}
 use Prim.Native.Nat.{suc, ℕ, _<_, _≤_}
 use native.Mathlib.Omega.{arith}
@@ -69,6 +69,31 @@ pub &&-⊕ : (a b c : Bool) → a && (b ⊕ c) ≡ (a && b) ⊕ (a && c)
 
 pub ruleset ands = (&&-assoc, &&-comm, &&-left, &&-self, &&-again)
 
+-- a test or its opposite
+pub &&-split : (a b : Bool) → (a && b) ⊕ (not a && b) ≡ b
+&&-split true b = ⊕-false b
+&&-split false b = refl
+
+-- ---- tests of which one passes, or none
+pub or-left-true : (a b : Bool) → a ≡ true → a || b ≡ true
+or-left-true a b e = rw e
+
+pub or-true : (a b : Bool) → b ≡ true → a || b ≡ true
+or-true true b e = refl
+or-true false b e = e
+
+pub or-cases : (a b : Bool) → a || b ≡ true → (a ≡ true) ⊎ (b ≡ true)
+or-cases true b e = inl refl
+or-cases false b e = inr e
+
+pub or-no-left : (a b : Bool) → a || b ≡ false → a ≡ false
+or-no-left true b e = e
+or-no-left false b e = refl
+
+pub or-no-right : (a b : Bool) → a || b ≡ false → b ≡ false
+or-no-right true b e = absurd (true≢false e)
+or-no-right false b e = e
+
 -- tests of numbers, as paths
 pub T→eq : (b : Bool) → T b → b ≡ true
 T→eq true t = refl
@@ -130,6 +155,16 @@ pub same-test : (a b : Bool) → (a ≡ true → b ≡ true) → (b ≡ true →
 same-test true b f g = sym (f refl)
 same-test false true f g = g refl
 same-test false false f g = refl
+
+pub beq→ : (a b : Bool) → Bool·beq a b ≡ true → a ≡ b
+beq→ true true e = refl
+beq→ true false e = sym e
+beq→ false true e = e
+beq→ false false e = refl
+
+pub beq← : (a b : Bool) → a ≡ b → Bool·beq a b ≡ true
+beq← true b e = subst (λ (c : Bool). Bool·beq true c ≡ true) e refl
+beq← false b e = subst (λ (c : Bool). Bool·beq false c ≡ true) e refl
 
 -- three tests that all pass
 pub three→ : (a b c : Bool) → a && (b && c) ≡ true → (a ≡ true) × (b ≡ true) × (c ≡ true)

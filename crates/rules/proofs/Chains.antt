@@ -8,12 +8,12 @@ use native.Mathlib.Omega.{arith}
 use Rattle.rules.specs.Lists.{count, keep, anyOf, All, each}
 use Rattle.rules.specs.Lattice.{earlier, later, coord, pointAt, sameAxis, up, down, samePoint, samePlace, Axis, X, Y, Z, Point, Place}
 use Rattle.rules.specs.Cell.{ofCell}
-use Rattle.rules.specs.Rims.{neighbours, elem, Chain, joins, rimsOf, stay, link}
-use Rattle.rules.proofs.Bits.{eqb-yes, both}
+use Rattle.rules.specs.Rims.{neighbours, elem, Chain, joins, rimsOf, stay, link, touch}
+use Rattle.rules.proofs.Bits.{eqb-yes, both, or-true, or-left-true, or-cases}
 use Rattle.rules.proofs.Lists.{all-every, all-weaken, all-keep, all-kept, all-pair}
 use Rattle.rules.proofs.Oddness.{up-own, pointAt-coord}
 use Rattle.rules.proofs.Cuts.{samePlace→}
-use Rattle.rules.proofs.Rims.{or-true, touch, neighbours-cell, any-append, apart}
+use Rattle.rules.proofs.Rims.{neighbours-cell, any-append, apart}
 use Rattle.rules.proofs.Patched.{rims-all}
 
 -- ---- sameness
@@ -28,22 +28,6 @@ same-point p = both _ _ (eqb-yes (p .i) (p .i) refl) (both _ _ (eqb-yes (p .j) (
 
 pub same-self : (f : Place) → samePlace f f ≡ true
 same-self f = both _ _ (same-axis (f .axis)) (same-point (f .at))
-
--- tests of which one passes, or none
-pub or-left-true : (a b : Bool) → a ≡ true → a || b ≡ true
-or-left-true a b e = rw e
-
-pub or-cases : (a b : Bool) → a || b ≡ true → (a ≡ true) ⊎ (b ≡ true)
-or-cases true b e = inl refl
-or-cases false b e = inr e
-
-pub or-no-left : (a b : Bool) → a || b ≡ false → a ≡ false
-or-no-left true b e = e
-or-no-left false b e = refl
-
-pub or-no-right : (a b : Bool) → a || b ≡ false → b ≡ false
-or-no-right true b e = absurd (true≢false e)
-or-no-right false b e = e
 
 or-left : (a b c : Bool) → a || (b || c) ≡ b || (a || c)
 or-left true true c = refl
@@ -295,7 +279,7 @@ rim-whole S (f ∷ l) h =
         let g = beside (r .0) (r .2) in
         r .2 .0 (g .0) y (g .2 .0) (r .1) (h f (g .0) (g .1) (or-true (samePlace (g .0) f) (elem (g .0) l) (g .2 .1)) sf)
 
-chain-add : (l : List Place) (f g h : Place) → Chain l f g → neighbours g h ≡ true → elem h l ≡ true → Chain l f h
+pub chain-add : (l : List Place) (f g h : Place) → Chain l f g → neighbours g h ≡ true → elem h l ≡ true → Chain l f h
 chain-add l f g h stay n m = link n m stay
 chain-add l f g h (link e k w) n m = link e k (chain-add l _ g h w n m)
 

@@ -1,5 +1,5 @@
 -- Condition 3: the patched grid of any accepted grid is a repair of it. Assumes nothing.
-use mathlib.Core.Path.{_≡_, fun-ext, subst, sym, _∙_}
+use mathlib.Core.Path.{_≡_, subst, sym, _∙_}
 use mathlib.Core.Bool.{true}
 use mathlib.Core.List.{List}
 use Prim.Native.Nat.{ℕ}
@@ -10,8 +10,9 @@ use Rattle.rules.specs.Signs.{sign}
 use Rattle.rules.specs.Condition.{Repaired}
 use Rattle.rules.proofs.Bits.{⊕-cancel, differ}
 use Rattle.rules.proofs.Signs.{route-parity}
-use Rattle.rules.proofs.Numbers.{marks-inner, marks-bytes}
+use Rattle.rules.proofs.Numbers.{marks-inner}
 use Rattle.rules.proofs.Patched.{patched-even, patched-inner, altered-in}
+use Rattle.rules.proofs.Again.{read-back}
 
 -- for any n, and any marks on inner edges alone
 pub patched-repaired : (n : ℕ) (E : Set) → ((a : Axis) (p : Point) → E a p ≡ true → inner n a p ≡ true) → Repaired n E (patched n E)
@@ -34,6 +35,4 @@ grid-repaired n g grid = patched-repaired n (marks n g) (marks-inner n g)
 -- and to the marks of the bytes that are written
 pub bytes-repaired : (n : ℕ) (g : List ℕ) → isGrid n g ≡ true → Repaired n (marks n g) (marks n (bytes n (patched n (marks n g))))
 bytes-repaired n g grid =
-    subst (Repaired n (marks n g))
-    (fun-ext (λ a. fun-ext (λ p. sym (marks-bytes n (patched n (marks n g)) (patched-inner n (marks n g) (marks-inner n g)) a p))))
-    (grid-repaired n g grid)
+    subst (Repaired n (marks n g)) (sym (read-back n (patched n (marks n g)) (patched-inner n (marks n g) (marks-inner n g)))) (grid-repaired n g grid)

@@ -1,15 +1,16 @@
--- The number of marks of a face. Assumes nothing.
-use mathlib.Core.Bool.{Bool, false, _||_}
-use mathlib.Core.Path.{ap, refl, sym, _∙_, _≡_}
+-- The number of marks of a face, and the lists of odd and of even faces. Assumes nothing.
+use mathlib.Core.Bool.{Bool, false, _||_, true, not}
+use mathlib.Core.Path.{ap, refl, sym, _∙_, _≡_, subst}
 use Prim.Native.Nat.{suc, zero, ℕ, _%_, _≤_}
 use native.Mathlib.Omega.{arith}
 use lib.Dec.{eqb}
-use Rattle.rules.specs.Lists.{_⊕_, parity}
-use Rattle.rules.specs.Lattice.{earlier, later, up, Set, isIn, Axis, Point}
+use Rattle.rules.specs.Lists.{_⊕_, parity, keep, allOf, All}
+use Rattle.rules.specs.Lattice.{earlier, later, up, Set, isIn, Axis, Point, places}
 use Rattle.rules.specs.Cell.{faceEdges, faceMarks, oddFace}
+use Rattle.rules.specs.Rims.{oddFaces, evenFaces}
 use Rattle.rules.proofs.Bits.{⊕-false, ⊕-assoc}
 use Rattle.rules.proofs.Sums.{parity-count}
-use Rattle.rules.proofs.Lists.{count-length}
+use Rattle.rules.proofs.Lists.{count-length, all-kept}
 
 -- the parity of a face's edges, as listed
 pub odd-edges : (E : Set) (a : Axis) (p : Point) → oddFace E a p ≡ parity (isIn E) (faceEdges a p)
@@ -33,3 +34,18 @@ one-or-three E a p =
     odd-edges E a p
     ∙ parity-count (isIn E) (faceEdges a p)
     ∙ odd-to-four (faceMarks E a p) (count-length (isIn E) (faceEdges a p))
+
+-- ---- the odd faces, as the lists have them
+-- what is listed are the odd faces
+pub odd-list : (n : ℕ) (E : Set) → oddFaces n E ≡ keep (isIn (oddFace E)) (places n)
+unfolding oddFaces
+odd-list n E = refl
+
+-- every face that is listed is odd
+pub odd-kept : (n : ℕ) (E : Set) → All (λ f. isIn (oddFace E) f ≡ true) (oddFaces n E)
+odd-kept n E = subst (All (λ f. isIn (oddFace E) f ≡ true)) (sym (odd-list n E)) (all-kept (isIn (oddFace E)) (places n))
+
+-- what is tested is that no face is odd
+pub even-list : (n : ℕ) (E : Set) → evenFaces n E ≡ allOf (λ f. not (isIn (oddFace E) f)) (places n)
+unfolding evenFaces
+even-list n E = refl

@@ -5,18 +5,19 @@ use mathlib.Core.Logic.{_↔_}
 use mathlib.Core.Path.{subst, sym, _∙_, _≡_}
 use Prim.Native.Nat.{ℕ}
 use Rattle.rules.specs.Lists.{count, anyOf, All}
-use Rattle.rules.specs.Lattice.{Set, isIn, inner, samePlace, whole, places, down, Axis, Point, Box, Face}
+use Rattle.rules.specs.Lattice.{Set, isIn, inner, samePlace, whole, down, Axis, Point, Box, Face, Sub}
 use Rattle.rules.specs.Cell.{oddFace}
 use Rattle.rules.specs.Rims.{oddFaces, elem, Chain, joins, rimsOf, rims, ownBox, boxOf}
 use Rattle.rules.proofs.Bits.{and-left, and-right, both}
-use Rattle.rules.proofs.Lists.{all-weaken, all-pair, all-keep, all-kept}
+use Rattle.rules.proofs.Lists.{all-weaken, all-pair, all-keep}
 use Rattle.rules.proofs.Boxes.{inBox→}
 use Rattle.rules.proofs.Cells.{BothCells, face-cells}
 use Rattle.rules.proofs.Patched.{Inner, FaceOf, rims-all, box-all, odd-in, odd-inner}
 use Rattle.rules.proofs.Chains.{find, members, any-where, any-rims, one-rim, chain-in, rim-chain}
 use Rattle.rules.proofs.Cuts.{samePlace→}
-use Rattle.rules.proofs.RimBox.{Sub, eq6, box-holds, box-least}
+use Rattle.rules.proofs.RimBox.{eq6, box-holds, box-least}
 use Rattle.rules.proofs.OddList.{elem-odd}
+use Rattle.rules.proofs.FaceMarks.{odd-kept}
 
 -- ---- a rim's box
 -- the box holds both cells of each face of the rim, and lies in any box that does
@@ -71,8 +72,8 @@ module _ (n : ℕ) (E : Set) (inside : (a : Axis) (p : Point) → E a p ≡ true
 
   -- only odd faces are in rims
   pub rim-odd : All (All (λ f. isIn (oddFace E) f ≡ true)) (rims n E)
-  unfolding rims oddFaces
-  rim-odd = rims-all (λ f. isIn (oddFace E) f ≡ true) (oddFaces n E) (all-kept (isIn (oddFace E)) (places n))
+  unfolding rims
+  rim-odd = rims-all (λ f. isIn (oddFace E) f ≡ true) (oddFaces n E) (odd-kept n E)
 
   -- each odd face is in exactly one rim
   pub odd-one-rim : (f : Face) → isIn (oddFace E) f ≡ true → count (elem f) (rims n E) ≡ 1

@@ -9,7 +9,7 @@ use Rattle.rules.specs.Lists.{_⊕_}
 use Rattle.rules.specs.Lattice.{earlier, later, sameAxis, coord, pointAt, up, withCoord, Set, raise, faceIn, Axis, X, Y, Z, Point, Box}
 use Rattle.rules.specs.Cell.{oddCell}
 use Rattle.rules.specs.Patch.{lower, upper}
-use Rattle.rules.proofs.Bits.{⊕-false, &&-false, &&-assoc, leb-yes, leb-no, Bounds, and-left, and-right, both, leb→, same-test}
+use Rattle.rules.proofs.Bits.{&&-false, &&-assoc, leb-yes, leb-no, Bounds, and-left, and-right, both, leb→, same-test, &&-split}
 use Rattle.rules.proofs.Oddness.{pointAt-coord}
 use Rattle.rules.proofs.Boxes.{within, faceIn→, faceIn←, In, frame→, frame←, with-coord}
 use Rattle.rules.proofs.Cuts.{sameAxis→}
@@ -171,8 +171,4 @@ module _ (b : Box) (a : Axis) (m : ℕ) (c : Bounds (suc (coord a (b .lo))) (coo
 
     -- and together they have all that the box has
     pub halves : (d : Axis) (p : Point) → within (lower b a m) W d p ⊕ within (upper b a m) W d p ≡ within b W d p
-    halves d p = ap₂ _⊕_ (lower-within d p) (upper-within d p) ∙ join (ltb (coord a p) m) (within b W d p)
-      where
-        join : (x g : Bool) → (x && g) ⊕ (not x && g) ≡ g
-        join true g = ⊕-false g
-        join false g = refl
+    halves d p = ap₂ _⊕_ (lower-within d p) (upper-within d p) ∙ &&-split (ltb (coord a p) m) (within b W d p)

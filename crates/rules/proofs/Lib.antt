@@ -4,6 +4,7 @@ pub mod Accepted
 pub mod Bits
 pub mod Sums
 pub mod Lists
+pub mod Same
 -- the patch of a box
 pub mod Oddness
 pub mod FaceMarks

@@ -1,11 +1,13 @@
 -- The places are listed each once, so a set is what is listed of it. Assumes nothing.
-use mathlib.Core.Bool.{Bool, false, true, _&&_}
+use mathlib.Core.Bool.{Bool, false, true, _&&_, cond}
 use mathlib.Core.Path.{ap, fun-ext, refl, _∙_, _≡_}
 use Prim.Native.Nat.{suc, ℕ, _+_, _<_}
 use native.Mathlib.Nat.{zero-add}
+use native.Mathlib.Omega.{arith}
 use lib.Dec.{eqb, ltb}
-use Rattle.rules.specs.Lists.{parity, keep, upto, parityTo}
-use Rattle.rules.specs.Lattice.{samePoint, points, samePlace, placesAt, places, Set, isIn, setOf, Axis, X, Y, Z, Point}
+use Rattle.rules.specs.Lists.{parity, keep, upto, parityTo, count}
+use Rattle.rules.specs.Lattice.{samePoint, points, samePlace, placesAt, places, Set, isIn, setOf, Axis, X, Y, Z, Point, Place}
+use Rattle.rules.specs.Grid.{value}
 use Rattle.rules.proofs.Bits.{⊕-false, &&-false, &&-left, ands, leb-yes}
 use Rattle.rules.proofs.Sums.{parity-keep, parity-map, parity-each, parityTo-cong, parity-upto, parityTo-one}
 
@@ -38,6 +40,18 @@ three-places : (F : Set) (a : Axis) (p q : Point) →
 three-places F X p q = rw (&&-false (F Y q), &&-false (F Z q)) (⊕-false (F X q && samePoint q p))
 three-places F Y p q = rw (&&-false (F X q), &&-false (F Z q)) (⊕-false (F Y q && samePoint q p))
 three-places F Z p q = rw (&&-false (F X q), &&-false (F Y q)) (⊕-false (F Z q && samePoint q p))
+
+-- how many of the three pass
+pub count-places : (t : Place → Bool) (p : Point) →
+    count t (placesAt p) ≡ value (t (record { axis = X; at = p })) 1 + (value (t (record { axis = Y; at = p })) 1 + value (t (record { axis = Z; at = p })) 1)
+count-places t p = go (t (record { axis = X; at = p })) (t (record { axis = Y; at = p })) (t (record { axis = Z; at = p }))
+  where
+    one : (b : Bool) (k : ℕ) → cond b (suc k) k ≡ value b 1 + k
+    one true k = omega arith
+    one false k = omega arith
+
+    go : (x y z : Bool) → cond x (suc (cond y (suc (cond z 1 0)) (cond z 1 0))) (cond y (suc (cond z 1 0)) (cond z 1 0)) ≡ value x 1 + (value y 1 + value z 1)
+    go x y z = let a = one x (cond y (suc (cond z 1 0)) (cond z 1 0)) in let b = one y (cond z 1 0) in let c = one z 0 in omega arith
 
 -- the members that are listed are all, if none lies beyond n
 pub listed : (n : ℕ) (F : Set) → ((a : Axis) (p : Point) → F a p ≡ true → (p .i < n) × (p .j < n) × (p .k < n)) → (a : Axis) (p : Point) →

@@ -1,14 +1,15 @@
 -- What holds of each member of a list, what is said of a mapped list, and tests of a range of numbers. Assumes nothing.
 use mathlib.Core.Bool.{Bool, cond, false, false≢true, not, true, _&&_, _||_}
-use mathlib.Core.List.{List, [], map, _++_, _∷_}
+use mathlib.Core.List.{List, [], map, _++_, _∷_, append-assoc}
 use mathlib.Core.Logic.{_↔_}
 use mathlib.Core.Path.{ap, ap₂, refl, subst, sym, _∙_, _≡_}
 use Prim.Native.Nat.{suc, zero, ℕ, _+_, _-_, _<_, _≤_}
 use native.Mathlib.Decide.{ℕ-discrete}
 use native.Mathlib.Omega.{arith}
-use lib.ListN.{length}
+use native.Mathlib.Nat.{le-of-suc-le-suc, not-suc-le-zero}
+use lib.ListN.{length, getD}
 use Rattle.rules.specs.Lists.{keep, count, anyOf, allOf, All, each, upto}
-use Rattle.rules.proofs.Bits.{Bounds, and-left, and-right, both}
+use Rattle.rules.proofs.Bits.{Bounds, and-left, and-right, both, ands}
 
 -- ---- what holds of each member of a list
 module _ {A : Type 0} where
@@ -48,6 +49,12 @@ module _ {A : Type 0} where
   all-swap Q [] h = tt
   all-swap Q (x ∷ l) h = (λ i. h i .0, all-swap Q l (λ i. h i .1))
 
+  -- a fact of every member, of the one at an index
+  pub all-at : (P : A → Type 0) (l : List A) → All P l → (i : ℕ) (d : A) → i < length l → P (getD l i d)
+  all-at P [] h i d k = absurd (not-suc-le-zero k)
+  all-at P (x ∷ l) h zero d k = h .0
+  all-at P (x ∷ l) h (suc i) d k = all-at P l (h .1) i d (le-of-suc-le-suc k)
+
   -- a mapped list whose members stay as they are
   pub map-id : (f : A → A) (l : List A) → All (λ x. f x ≡ x) l → map f l ≡ l
   map-id f [] h = refl
@@ -74,6 +81,20 @@ module _ {A : Type 0} where
   pub allOf← : (w : A → Bool) (l : List A) → All (λ x. w x ≡ true) l → allOf w l ≡ true
   allOf← w [] h = refl
   allOf← w (x ∷ l) h = both (w x) (allOf w l) (h .0) (allOf← w l (h .1))
+
+  -- two tests of every member, at once or one after the other
+  pub allOf-and : (v w : A → Bool) (l : List A) → allOf (λ x. v x && w x) l ≡ allOf v l && allOf w l
+  allOf-and v w [] = refl
+  allOf-and v w (x ∷ l) = rw (allOf-and v w l) (simp ands)
+
+  -- not every member passes: one does not
+  pub one-fails : (w : A → Bool) (P : A → Type 0) (l : List A) → All P l → allOf w l ≡ false → (x : A) × P x × (w x ≡ false)
+  one-fails w P [] h e = absurd (false≢true (sym e))
+  one-fails w P (x ∷ l) h e = go (w x) refl e (one-fails w P l (h .1))
+    where
+      go : (c : Bool) → w x ≡ c → c && allOf w l ≡ false → (allOf w l ≡ false → (y : A) × P y × (w y ≡ false)) → (y : A) × P y × (w y ≡ false)
+      go true f g k = k g
+      go false f g k = (x, h .0, f)
 
   pub count-none : (w : A → Bool) → ((x : A) → w x ≡ false) → (l : List A) → count w l ≡ 0
   count-none w h [] = refl
@@ -123,6 +144,10 @@ module _ {A B : Type 0} where
           cond c (g x ∷ keep f (map g l)) (keep f (map g l)) ≡ map g (cond c (x ∷ keep (λ y. f (g y)) l) (keep (λ y. f (g y)) l))
       go true i = ap (λ (m : List B). g x ∷ m) i
       go false i = i
+
+  pub each-append : (f : A → List B) (l m : List A) → each f (l ++ m) ≡ each f l ++ each f m
+  each-append f [] m = refl
+  each-append f (x ∷ l) m = ap (λ (r : List B). f x ++ r) (each-append f l m) ∙ sym (append-assoc (f x) (each f l) (each f m))
 
 module _ {A B C : Type 0} where
   pub each-map : (f : B → List C) (g : A → B) (l : List A) → each f (map g l) ≡ each (λ x. f (g x)) l

@@ -1,5 +1,5 @@
 -- Point numbers rise; bytes and marks, both ways. Assumes nothing.
-use mathlib.Core.Bool.{Bool, false, not, true, true≢false, _&&_, _||_}
+use mathlib.Core.Bool.{Bool, false, not, true, _&&_, _||_}
 use mathlib.Core.List.{List, [], map, map-map, _++_, _∷_}
 use mathlib.Core.Path.{ap, ap₂, fun-ext, refl, subst, sym, _∙_, _≡_}
 use Prim.Native.Nat.{suc, zero, ℕ, _*_, _+_, _/_, _%_, _<_, _≤_}
@@ -9,11 +9,10 @@ use lib.Dec.{eqb, leb}
 use lib.ListN.{List·getD-append, getD, length, length-append, length-map, length-take, take}
 use lib.Seq.{ext-getD, getD-append-add, getD-take}
 use Rattle.rules.specs.Lists.{allOf, each, upto}
-use Rattle.rules.specs.Lattice.{sameAxis, pointNumber, pointCount, points, Set, edgeIn, whole, inner, Axis, X, Y, Z, Point}
+use Rattle.rules.specs.Lattice.{pointNumber, pointCount, points, Set, edgeIn, whole, inner, Axis, X, Y, Z, Point}
 use Rattle.rules.specs.Grid.{value, byteAt, bytes, has, marks, goodByte, isGrid}
-use Rattle.rules.proofs.Bits.{and-left, and-right, leb→, is-false}
+use Rattle.rules.proofs.Bits.{and-left, and-right, leb→}
 use Rattle.rules.proofs.Lists.{each-map, map-each}
-use Rattle.rules.proofs.Boxes.{inBox→}
 
 length-upto : (i k : ℕ) → length (upto i k) ≡ k
 length-upto i zero = refl
@@ -115,11 +114,15 @@ three-of Y E p = refl
 three-of Z E p = refl
 
 -- a value is its weight or nothing
+pub value-most : (x : Bool) (w : ℕ) → value x w ≤ w
+value-most true w = omega arith
+value-most false w = omega arith
+
 value-cases : (x : Bool) (w : ℕ) → (value x w ≡ w * value x 1) × (value x 1 ≤ 1)
 value-cases true w = omega arith
 value-cases false w = omega arith
 
-value-bit : (x : Bool) → eqb (value x 1) 1 ≡ x
+pub value-bit : (x : Bool) → eqb (value x 1) 1 ≡ x
 value-bit true = refl
 value-bit false = refl
 
@@ -136,22 +139,28 @@ has-bit a x y z = go a (value-cases x 1) (value-cases y 2) (value-cases z 4)
     go Z p q r =
         ap (λ (k : ℕ). eqb k 1) (let e : (value x 1 + (value y 2 + value z 4)) / 4 % 2 ≡ value z 1 = omega arith in e) ∙ value-bit z
 
+-- and comes to 7 at most
+pub byte-most : (E : Set) (p : Point) → byteAt E p ≤ 7
+byte-most E p = let x = value-most (E X p) 1 in let y = value-most (E Y p) 2 in let z = value-most (E Z p) 4 in omega arith
+
+-- what lies above the lowest three bits is no mark
+pub has-high : (a : Axis) (b m : ℕ) → has a (b + 8 * m) ≡ has a b
+has-high X b m = ap (λ (k : ℕ). eqb k 1) (let e : (b + 8 * m) % 2 ≡ b % 2 = omega arith in e)
+has-high Y b m = ap (λ (k : ℕ). eqb k 1) (let e : (b + 8 * m) / 2 % 2 ≡ b / 2 % 2 = omega arith in e)
+has-high Z b m = ap (λ (k : ℕ). eqb k 1) (let e : (b + 8 * m) / 4 % 2 ≡ b / 4 % 2 = omega arith in e)
+
+pub has-low : (a : Axis) (b : ℕ) → has a (b % 8) ≡ has a b
+has-low a b = sym (has-high a (b % 8) (b / 8)) ∙ ap (has a) (let e : b % 8 + 8 * (b / 8) ≡ b = omega arith in e)
+
+pub zero-has : (a : Axis) → has a 0 ≡ false
+zero-has X = refl
+zero-has Y = refl
+zero-has Z = refl
+
 -- only inner edges are marked
 pub marks-inner : (n : ℕ) (g : List ℕ) (a : Axis) (p : Point) → marks n g a p ≡ true → inner n a p ≡ true
 unfolding marks
 marks-inner n g a p e = and-left (inner n a p) (has a (getD g (pointNumber n p) 0)) e
-
--- what is written is read back
-pub marks-bytes : (n : ℕ) (E : Set) → ((a : Axis) (p : Point) → E a p ≡ true → edgeIn (whole n) a p ≡ true) → (a : Axis) (p : Point) →
-    marks n (bytes n E) a p ≡ E a p
-unfolding marks
-marks-bytes n E inner a p = go (edgeIn (whole n) a p) refl
-  where
-    go : (c : Bool) → edgeIn (whole n) a p ≡ c → c && has a (getD (bytes n E) (pointNumber n p) 0) ≡ E a p
-    go true e =
-        let k = inBox→ (whole n) (not (sameAxis a X)) (not (sameAxis a Y)) (not (sameAxis a Z)) p e in
-        ap (has a) (bytes-at n E p (omega arith) (omega arith) (omega arith)) ∙ has-bit a (E X p) (E Y p) (E Z p) ∙ three-of a E p
-    go false e = sym (is-false (E a p) (λ t. true≢false (sym (inner a p t) ∙ e)))
 
 -- ---- the points are listed by rising number, none left out
 upto-append : (i a b : ℕ) → upto i a ++ upto (i + a) b ≡ upto i (a + b)
@@ -195,7 +204,7 @@ pub rising : (n : ℕ) → map (pointNumber n) (points (suc n)) ≡ upto 0 (poin
 rising n = rising-at (suc n)
 
 -- ---- a buffer that is a grid is the bytes of its marks
-bit-value : (k w : ℕ) → k < 2 → value (eqb k 1) w ≡ w * k
+pub bit-value : (k w : ℕ) → k < 2 → value (eqb k 1) w ≡ w * k
 bit-value zero w h = omega arith
 bit-value (suc zero) w h = omega arith
 bit-value (suc (suc k)) w h = absurd (omega arith)

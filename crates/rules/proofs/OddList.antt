@@ -10,18 +10,18 @@ use Rattle.rules.specs.Cell.{oddFace}
 use Rattle.rules.specs.Rims.{oddFaces, evenFaces, elem, rims}
 use Rattle.rules.specs.Patch.{flips, patched}
 use Rattle.rules.proofs.Bits.{⊕-cancel, same-test}
-use Rattle.rules.proofs.Lists.{all-kept, none-kept, keep-none}
+use Rattle.rules.proofs.Lists.{none-kept, keep-none}
 use Rattle.rules.proofs.Cuts.{samePlace→}
 use Rattle.rules.proofs.Patched.{odd-listed}
 use Rattle.rules.proofs.Chains.{find}
 use Rattle.rules.proofs.Scan.{setOf-elem, set-rims}
+use Rattle.rules.proofs.FaceMarks.{odd-list, odd-kept, even-list}
 
 module _ (n : ℕ) (E : Set) (inner : (a : Axis) (p : Point) → E a p ≡ true → edgeIn (whole n) a p ≡ true) where
   -- the list has exactly the odd faces
   pub elem-odd : (f : Place) → elem f (oddFaces n E) ≡ oddFace E (f .axis) (f .at)
-  unfolding oddFaces
   elem-odd f = same-test (elem f (oddFaces n E)) (oddFace E (f .axis) (f .at))
-      (λ e. let g = find (samePlace f) (λ x. isIn (oddFace E) x ≡ true) (oddFaces n E) (all-kept (isIn (oddFace E)) (places n)) e in
+      (λ e. let g = find (samePlace f) (λ x. isIn (oddFace E) x ≡ true) (oddFaces n E) (odd-kept n E) e in
       subst (λ (x : Place). isIn (oddFace E) x ≡ true) (sym (samePlace→ f (g .0) (g .1))) (g .2))
       (λ e. setOf-elem f (oddFaces n E) (odd-listed n E inner (f .axis) (f .at) ∙ e))
 
@@ -35,13 +35,11 @@ module _ (n : ℕ) (E : Set) (inner : (a : Axis) (p : Point) → E a p ≡ true 
   none-odd→ e a p = sym (odd-listed n E inner a p) ∙ ap (λ (l : List Place). setOf l a p) e
 
   pub none-odd← : ((a : Axis) (p : Point) → oddFace E a p ≡ false) → oddFaces n E ≡ []
-  unfolding oddFaces
-  none-odd← h = keep-none (isIn (oddFace E)) (λ f. h (f .axis) (f .at)) (places n)
+  none-odd← h = odd-list n E ∙ keep-none (isIn (oddFace E)) (λ f. h (f .axis) (f .at)) (places n)
 
   -- no face of the grid is odd exactly when none is listed, and exactly when no face at all is
   pub even-none : (evenFaces n E ≡ true) ↔ (oddFaces n E ≡ [])
-  unfolding evenFaces oddFaces
-  even-none = none-kept (isIn (oddFace E)) (places n)
+  even-none = rw (even-list n E, odd-list n E) (none-kept (isIn (oddFace E)) (places n))
 
   pub even-all : (evenFaces n E ≡ true) ↔ ((a : Axis) (p : Point) → oddFace E a p ≡ false)
   even-all = (λ e. none-odd→ (even-none .0 e), λ h. even-none .1 (none-odd← h))

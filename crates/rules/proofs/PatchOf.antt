@@ -6,15 +6,11 @@ use Prim.Native.Nat.{suc, zero, ℕ}
 use native.Mathlib.Omega.{arith}
 use Rattle.rules.specs.Lattice.{Set, setOf, symdiff, faceIn, Axis, Point, Place, Box}
 use Rattle.rules.specs.Cell.{oddFace}
-use Rattle.rules.specs.Patch.{oneCell, longest, middle, lower, upper, plane, inPlane, paths, cut, after, patch, size}
+use Rattle.rules.specs.Patch.{oneCell, longest, middle, lower, upper, plane, inPlane, paths, cut, after, patch, size, patchOf}
 use Rattle.rules.proofs.Lists.{keep-none}
 use Rattle.rules.proofs.Halving.{lower-size, upper-size, one-cell←, side-size, middle-in, patch-one, patch-cut}
 use Rattle.rules.proofs.Recursion.{patch-cong}
 use Rattle.rules.proofs.Order.{upper-after}
-
--- ---- the patch of a box with no fuel in sight, as code recurses
-unfoldable pub patchOf : Box → Set → List Place
-patchOf b W = patch (size b) b W
 
 -- a box of one cell gives nothing
 pub patchOf-one : (b : Box) (W : Set) → oneCell b ≡ true → patchOf b W ≡ []

@@ -1,25 +1,27 @@
 -- The patched grid: every face is even, and no edge is altered outside the boxes of the rims. Assumes nothing.
 use mathlib.Core.Bool.{Bool, false, false≢true, not, true, _&&_, _||_}
 use mathlib.Core.List.{List, [], _∷_}
-use mathlib.Core.Path.{ap, ap₂, fun-ext, refl, sym, _∙_, _≡_}
+use mathlib.Core.Path.{ap, fun-ext, refl, sym, _∙_, _≡_}
 use Prim.Native.Nat.{suc, ℕ, _<_}
 use native.Mathlib.Omega.{arith}
 use Rattle.rules.specs.Lists.{_⊕_, parity, keep, anyOf, All, each}
-use Rattle.rules.specs.Lattice.{earlier, later, sameAxis, coord, up, samePlace, places, Set, isIn, setOf, faceIn, edgeIn, whole, inner, Axis, X, Y, Z, Point, Place, Box}
+use Rattle.rules.specs.Lattice.{earlier, later, sameAxis, coord, up, samePlace, places, Set, isIn, setOf, faceIn, edgeIn, whole, inner, Axis, X, Y, Z, Point, Place, Box, Sub}
 use Rattle.rules.specs.Cell.{oddFace, oddCell}
 use Rattle.rules.specs.Rims.{oddFaces, joins, rimsOf, rims, ownBox, boxOf}
-use Rattle.rules.specs.Patch.{size, patchRim, flips, patched}
-use Rattle.rules.proofs.Bits.{⊕-false, ⊕-self, &&-false, and-left}
+use Rattle.rules.specs.Patch.{size, patchRim, flips, patched, patchOf}
+use Rattle.rules.proofs.Bits.{⊕-false, ⊕-self, &&-false, and-left, or-true}
 use Rattle.rules.proofs.Sums.{parity-each}
-use Rattle.rules.proofs.Lists.{all-every, all-weaken, all-keep, all-kept, all-pair, all-swap, keep-none, all-each}
+use Rattle.rules.proofs.Lists.{all-every, all-weaken, all-keep, all-pair, all-swap, keep-none, all-each}
 use Rattle.rules.proofs.Oddness.{oddFace-symdiff, oddFace-append, cell-even}
 use Rattle.rules.proofs.Boxes.{within, faceIn→, face→, face←}
 use Rattle.rules.proofs.Cells.{down-coord}
 use Rattle.rules.proofs.Cuts.{EdgeIn, setOf-all, setOf-in, oddFace-set}
 use Rattle.rules.proofs.Halving.{patch-ends, patch-in}
-use Rattle.rules.proofs.RimBox.{Sub, sub-in, box-holds, box-least}
+use Rattle.rules.proofs.RimBox.{sub-in, box-holds, box-least}
 use Rattle.rules.proofs.Listed.{listed}
 use Rattle.rules.proofs.Rims.{parity-rims, rims-even}
+use Rattle.rules.proofs.FaceMarks.{odd-list, odd-kept}
+use Rattle.rules.proofs.Same.{parity-same}
 
 -- ---- a rim lies in its box
 abbrev pub FaceOf : Box → Place → Type 0
@@ -58,7 +60,7 @@ within-own b r h a p = go (setOf r a p) refl
 -- the odd faces of a rim's patch are the rim
 pub rim-ends : (r : List Place) → All Inner r → ((p : Point) → oddCell (setOf r) p ≡ false) → (a : Axis) (p : Point) →
     oddFace (setOf (patchRim r)) a p ≡ setOf r a p
-unfolding patchRim
+unfolding patchRim patchOf
 rim-ends r h e a p =
     let w = within-own (boxOf r) r (box-all r h) in
     patch-ends (size (boxOf r)) (boxOf r) (setOf r) (omega arith)
@@ -81,22 +83,14 @@ oddFace-each g [] a p = refl
 oddFace-each g (r ∷ rs) a p =
     oddFace-append (g r) (each g rs) a p ∙ ap (λ (x : Bool). oddFace (setOf (g r)) a p ⊕ x) (oddFace-each g rs a p)
 
-parity-same : (f g : List Place → Bool) (rs : List (List Place)) → All (λ r. f r ≡ g r) rs → parity f rs ≡ parity g rs
-parity-same f g [] h = refl
-parity-same f g (r ∷ rs) h = ap₂ _⊕_ (h .0) (parity-same f g rs (h .1))
-
 any-of-parity : (f g : List Place → Bool) (rs : List (List Place)) → All (λ r. f r ≡ true → g r ≡ true) rs → parity f rs ≡ true →
     anyOf g rs ≡ true
 any-of-parity f g [] h e = absurd (false≢true e)
 any-of-parity f g (r ∷ rs) h e = go (f r) refl e (any-of-parity f g rs (h .1))
   where
-    or-yes : (c : Bool) → c || true ≡ true
-    or-yes true = refl
-    or-yes false = refl
-
     go : (c : Bool) → f r ≡ c → c ⊕ parity f rs ≡ true → (parity f rs ≡ true → anyOf g rs ≡ true) → g r || anyOf g rs ≡ true
     go true q i k = ap (λ (x : Bool). x || anyOf g rs) (h .0 q)
-    go false q i k = rw (k i) (or-yes (g r))
+    go false q i k = or-true (g r) (anyOf g rs) (k i)
 
 -- a face with coordinates below n
 abbrev Low : ℕ → Place → Type 0
@@ -110,8 +104,8 @@ box-under n (f ∷ l) h = box-least f l (whole n) (all-weaken (Low n) (λ g. Sub
 -- ---- where every face is even there is no rim, nothing is flipped, and the marks stay
 module _ (n : ℕ) (F : Set) (even : (a : Axis) (p : Point) → oddFace F a p ≡ false) where
   pub even-rims : rims n F ≡ []
-  unfolding rims oddFaces
-  even-rims = ap rimsOf (keep-none (isIn (oddFace F)) (λ e. even (e .axis) (e .at)) (places n))
+  unfolding rims
+  even-rims = ap rimsOf (odd-list n F ∙ keep-none (isIn (oddFace F)) (λ e. even (e .axis) (e .at)) (places n))
 
   pub even-flips : flips n F ≡ []
   unfolding flips
@@ -129,15 +123,14 @@ module _ (n : ℕ) (E : Set) (inner : (a : Axis) (p : Point) → E a p ≡ true 
 
   -- the listed odd faces are the odd faces
   pub odd-listed : (a : Axis) (p : Point) → setOf (oddFaces n E) a p ≡ oddFace E a p
-  unfolding oddFaces
-  odd-listed a p = listed n (oddFace E) (λ d q e. let k = faceIn→ (whole n) d q (odd-in d q e) in omega arith) a p
+  odd-listed a p =
+      ap (λ (l : List Place). setOf l a p) (odd-list n E)
+      ∙ listed n (oddFace E) (λ d q e. let k = faceIn→ (whole n) d q (odd-in d q e) in omega arith) a p
 
   -- each of them has a cell below it
   pub odd-inner : All Inner (oddFaces n E)
-  unfolding oddFaces
   odd-inner =
-      all-weaken _ _ (λ f e. let k = face→ (whole n) (f .axis) (f .at) (odd-in (f .axis) (f .at) e) in omega arith) (oddFaces n E)
-      (all-kept (isIn (oddFace E)) (places n))
+      all-weaken _ _ (λ f e. let k = face→ (whole n) (f .axis) (f .at) (odd-in (f .axis) (f .at) e) in omega arith) (oddFaces n E) (odd-kept n E)
 
   -- the odd faces of a rim's patch are exactly the rim
   pub rims-ends : All (λ r. (a : Axis) (p : Point) → oddFace (setOf (patchRim r)) a p ≡ setOf r a p) (rims n E)
@@ -163,21 +156,19 @@ module _ (n : ℕ) (E : Set) (inner : (a : Axis) (p : Point) → E a p ≡ true 
 
   -- an edge whose mark is altered has its four cells in the box of one rim
   pub altered-in : (a : Axis) (p : Point) → setOf (flips n E) a p ≡ true → anyOf (λ r. edgeIn (boxOf r) a p) (rims n E) ≡ true
-  unfolding flips patchRim
+  unfolding flips patchRim patchOf
   altered-in a p e =
       any-of-parity (λ r. setOf (patchRim r) a p) (λ r. edgeIn (boxOf r) a p) (rims n E)
       (all-every (λ r h. setOf-in (boxOf r) (patchRim r) (patch-in (size (boxOf r)) (boxOf r) (setOf r)) a p h) (rims n E))
       (sym (parity-each (λ f. samePlace f (record { axis = a; at = p })) patchRim (rims n E)) ∙ e)
 
   odd-low : All (Low n) (oddFaces n E)
-  unfolding oddFaces
   odd-low =
-      all-weaken _ _ (λ f e. let k = faceIn→ (whole n) (f .axis) (f .at) (odd-in (f .axis) (f .at) e) in omega arith) (oddFaces n E)
-      (all-kept (isIn (oddFace E)) (places n))
+      all-weaken _ _ (λ f e. let k = faceIn→ (whole n) (f .axis) (f .at) (odd-in (f .axis) (f .at) e) in omega arith) (oddFaces n E) (odd-kept n E)
 
   -- only inner edges are flipped
   pub flips-inner : All (EdgeIn (whole n)) (flips n E)
-  unfolding flips rims patchRim
+  unfolding flips rims patchRim patchOf
   flips-inner =
       all-each (EdgeIn (whole n)) patchRim (rims n E)
       (all-weaken _ _ (λ r h. all-weaken _ _ (λ e k. sub-in (boxOf r) (whole n) (box-under n r h) (not (sameAxis (e .axis) X))

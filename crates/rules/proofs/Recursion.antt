@@ -1,12 +1,12 @@
 -- The patch of a box reads the working faces of that box alone. Assumes nothing.
-use mathlib.Core.Bool.{Bool, cond, false, not, true}
-use mathlib.Core.List.{List, [], _++_, _∷_}
+use mathlib.Core.Bool.{Bool, false, not, true}
+use mathlib.Core.List.{List, _++_}
 use mathlib.Core.Path.{ap, ap₂, refl, sym, _∙_, _≡_}
 use Prim.Native.Nat.{suc, zero, ℕ, _≤_}
 use native.Mathlib.Omega.{arith}
 use lib.Dec.{ltb}
-use Rattle.rules.specs.Lists.{_⊕_, keep, All}
-use Rattle.rules.specs.Lattice.{coord, pointAt, Set, setOf, symdiff, faceIn, Axis, Point, Place, Box, Spot}
+use Rattle.rules.specs.Lists.{_⊕_}
+use Rattle.rules.specs.Lattice.{coord, pointAt, Set, setOf, symdiff, faceIn, Axis, Point, Place, Box}
 use Rattle.rules.specs.Cell.{oddFace}
 use Rattle.rules.specs.Patch.{oneCell, longest, middle, lower, upper, plane, inPlane, paths, cut, patch, size}
 use Rattle.rules.proofs.Bits.{Bounds, and-right, both, between←}
@@ -14,10 +14,7 @@ use Rattle.rules.proofs.Lists.{all-weaken}
 use Rattle.rules.proofs.Cuts.{InRect, plane-in, face-rect}
 use Rattle.rules.proofs.Halves.{lower-face, upper-face→}
 use Rattle.rules.proofs.Halving.{lower-size, upper-size, one-cell←, side-size, middle-in, patch-one, patch-cut}
-
-keep-cong : (w v : Spot → Bool) (l : List Spot) → All (λ x. w x ≡ v x) l → keep w l ≡ keep v l
-keep-cong w v [] h = refl
-keep-cong w v (x ∷ l) h = ap₂ (λ (b : Bool) (r : List Spot). cond b (x ∷ r) r) (h .0) (keep-cong w v l (h .1))
+use Rattle.rules.proofs.Same.{keep-same}
 
 -- two sets of working faces that are the same within the box
 abbrev pub Agree : Box → Set → Set → Type 0
@@ -27,7 +24,7 @@ Agree b W U = (a : Axis) (p : Point) → faceIn b a p ≡ true → W a p ≡ U a
 pub cut-cong : (b : Box) (W U : Set) (a : Axis) (m : ℕ) → Bounds (suc (coord a (b .lo))) (coord a (b .hi)) m → Agree b W U →
     cut b W a m ≡ cut b U a m
 cut-cong b W U a m c h =
-    ap (paths a m) (keep-cong (inPlane W a m) (inPlane U a m) (plane b a)
+    ap (paths a m) (keep-same (inPlane W a m) (inPlane U a m) (plane b a)
     (all-weaken (InRect b a) _ (λ q k. h a (pointAt a m (q .u) (q .v))
     (face-rect b W a m c (q .u) (q .v) ∙ both _ _ (between← _ _ _ (k .0)) (between← _ _ _ (k .1)))) (plane b a) (plane-in b a)))
 

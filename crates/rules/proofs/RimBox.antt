@@ -2,34 +2,24 @@
 use mathlib.Core.Bool.{Bool, true}
 use mathlib.Core.List.{List, [], _∷_}
 use mathlib.Core.Path.{_≡_}
-use Prim.Native.Nat.{_≤_}
 use native.Mathlib.Omega.{arith}
 use Rattle.rules.specs.Lists.{All}
-use Rattle.rules.specs.Lattice.{inBox, Point, Place, Box}
+use Rattle.rules.specs.Lattice.{inBox, Point, Place, Box, Sub}
 use Rattle.rules.specs.Rims.{ownBox, joinBox, boxFrom, boxOf}
 use Rattle.rules.proofs.Boxes.{inBox→, inBox←}
 use Rattle.rules.proofs.Halves.{raise-mono}
 
 -- ---- a box within a box
--- every cell of the first is one of the second
-pub record Sub (b c : Box) : Type 0 where
-  pub lx : c .lo .i ≤ b .lo .i
-  pub ly : c .lo .j ≤ b .lo .j
-  pub lz : c .lo .k ≤ b .lo .k
-  pub hx : b .hi .i ≤ c .hi .i
-  pub hy : b .hi .j ≤ c .hi .j
-  pub hz : b .hi .k ≤ c .hi .k
-
-sub-trans : (a b c : Box) → Sub a b → Sub b c → Sub a c
+pub sub-trans : (a b c : Box) → Sub a b → Sub b c → Sub a c
 sub-trans a b c h k = omega arith
 
-sub-join : (b c d : Box) → Sub b d → Sub c d → Sub (joinBox b c) d
+pub sub-join : (b c d : Box) → Sub b d → Sub c d → Sub (joinBox b c) d
 sub-join b c d h k = omega arith
 
-join-left : (b c : Box) → Sub b (joinBox b c)
+pub join-left : (b c : Box) → Sub b (joinBox b c)
 join-left b c = omega arith
 
-join-right : (b c : Box) → Sub c (joinBox b c)
+pub join-right : (b c : Box) → Sub c (joinBox b c)
 join-right b c = omega arith
 
 -- two boxes each in the other are the same

@@ -7,12 +7,13 @@ use native.Mathlib.Omega.{arith}
 use Rattle.rules.specs.Lists.{_⊕_, parity, count, keep, anyOf, All, each}
 use Rattle.rules.specs.Lattice.{sameAxis, coord, up, down, samePoint, samePlace, setOf, Axis, X, Y, Z, Point, Place}
 use Rattle.rules.specs.Cell.{ofCell, oddCell}
-use Rattle.rules.specs.Rims.{neighbours, joins, joined, rimsOf}
-use Rattle.rules.proofs.Bits.{⊕-false, ⊕-assoc}
+use Rattle.rules.specs.Rims.{neighbours, joins, joined, rimsOf, touch}
+use Rattle.rules.proofs.Bits.{⊕-false, ⊕-assoc, &&-split, or-true, or-no-left, or-no-right}
 use Rattle.rules.proofs.Sums.{parity-plus, parity-keep, parity-each}
 use Rattle.rules.proofs.Lists.{all-weaken}
 use Rattle.rules.proofs.Oddness.{oddCell-symdiff}
 use Rattle.rules.proofs.Cuts.{samePoint→}
+use Rattle.rules.proofs.Same.{parity-none}
 
 -- ---- the rims together are the list
 pub parity-rims : (g : Place → Bool) (l : List Place) → parity (λ r. parity g r) (rimsOf l) ≡ parity g l
@@ -24,12 +25,8 @@ parity-rims g (f ∷ l) =
     ∙ ⊕-assoc (g f) (parity (λ r. joins f r && parity g r) rs) (parity (λ r. not (joins f r) && parity g r) rs)
     ∙ ap (λ (x : Bool). g f ⊕ x)
     (sym (parity-plus (λ r. joins f r && parity g r) (λ r. not (joins f r) && parity g r) rs)
-    ∙ ap (λ (h : List Place → Bool). parity h rs) (fun-ext (λ r. split (joins f r) (parity g r)))
+    ∙ ap (λ (h : List Place → Bool). parity h rs) (fun-ext (λ r. &&-split (joins f r) (parity g r)))
     ∙ parity-rims g l)
-  where
-    split : (c x : Bool) → (c && x) ⊕ (not c && x) ≡ x
-    split true x = ⊕-false x
-    split false x = refl
 
 -- ---- the faces of a cell, as a sum over a list
 or-xor : (x y : Bool) → (x ≡ true → y ≡ true → ⊥) → x ⊕ y ≡ x || y
@@ -57,30 +54,14 @@ cell-sum p (f ∷ r) =
     oddCell-symdiff (λ a q. samePlace f (record { axis = a; at = q })) (setOf r) p ∙ ap₂ _⊕_ (cell-at (f .axis) (f .at) p) (cell-sum p r)
 
 -- ---- at most one rim has faces of a cell
-or-left : (a b : Bool) → a || b ≡ false → a ≡ false
-or-left true b e = e
-or-left false b e = refl
-
-or-right : (a b : Bool) → a || b ≡ false → b ≡ false
-or-right true b e = absurd (true≢false e)
-or-right false b e = e
-
-pub or-true : (a b : Bool) → b ≡ true → a || b ≡ true
-or-true true b e = refl
-or-true false b e = e
-
--- the list has a face of the cell
-abbrev pub touch : Point → List Place → Bool
-touch p r = anyOf (ofCell p) r
-
 touch-zero : (p : Point) (r : List Place) → touch p r ≡ false → parity (ofCell p) r ≡ false
 touch-zero p [] h = refl
-touch-zero p (f ∷ r) h = rw (or-left (ofCell p f) (touch p r) h) (touch-zero p r (or-right (ofCell p f) (touch p r) h))
+touch-zero p (f ∷ r) h = rw (or-no-left (ofCell p f) (touch p r) h) (touch-zero p r (or-no-right (ofCell p f) (touch p r) h))
 
-pred-suc : (n : ℕ) → pred (suc n) ≡ n
+pub pred-suc : (n : ℕ) → pred (suc n) ≡ n
 pred-suc n = omega arith
 
-down-up : (a : Axis) (p : Point) → down a (up a p) ≡ p
+pub down-up : (a : Axis) (p : Point) → down a (up a p) ≡ p
 down-up X p = simp pred-suc
 down-up Y p = simp pred-suc
 down-up Z p = simp pred-suc
@@ -178,10 +159,6 @@ none-touch p (r ∷ rs) h = go (touch p r) refl h (none-touch p rs)
     go true e i k = absurd (omega arith)
     go false e i k = (touch-zero p r e, k i)
 
-parity-all : (g : List Place → Bool) (rs : List (List Place)) → All (λ r. g r ≡ false) rs → parity g rs ≡ false
-parity-all g [] h = refl
-parity-all g (r ∷ rs) h = rw (h .0, parity-all g rs (h .1))
-
 -- where all rims together leave the cell even, each does
 pub rim-even : (p : Point) (rs : List (List Place)) → count (touch p) rs ≤ 1 → parity (λ r. parity (ofCell p) r) rs ≡ false →
     All (λ r. parity (ofCell p) r ≡ false) rs
@@ -194,7 +171,7 @@ rim-even p (r ∷ rs) h e = go (touch p r) refl h (rim-even p rs)
     go true q i k =
         let n = none-touch p rs (omega arith) in (
           sym (⊕-false (parity (ofCell p) r))
-              ∙ ap (λ (x : Bool). parity (ofCell p) r ⊕ x) (sym (parity-all (λ s. parity (ofCell p) s) rs n))
+              ∙ ap (λ (x : Bool). parity (ofCell p) r ⊕ x) (sym (parity-none (λ s. parity (ofCell p) s) rs n))
               ∙ e,
           n,
         )

@@ -7,11 +7,12 @@ use native.Mathlib.Omega.{arith}
 use Rattle.rules.specs.Lists.{_⊕_, parity, count, keep, anyOf, All, each}
 use Rattle.rules.specs.Lattice.{samePlace, setOf, Place}
 use Rattle.rules.specs.Rims.{elem, joins, joined, rimsOf}
-use Rattle.rules.proofs.Bits.{⊕-false, &&-false, is-false, same-test}
+use Rattle.rules.proofs.Bits.{⊕-false, &&-false, is-false, same-test, or-true, or-left-true, or-no-left, or-no-right}
 use Rattle.rules.proofs.Lists.{all-weaken, all-keep}
 use Rattle.rules.proofs.Cuts.{setOf-all}
-use Rattle.rules.proofs.Rims.{parity-rims, or-true}
-use Rattle.rules.proofs.Chains.{same-self, or-left-true, or-no-left, or-no-right, zero-none, any-rims, one-rim, members}
+use Rattle.rules.proofs.Rims.{parity-rims}
+use Rattle.rules.proofs.Chains.{same-self, zero-none, any-rims, one-rim, members}
+use Rattle.rules.proofs.Same.{parity-none}
 
 module _ {R : Type 0} where
   count-or-none : (x y : R → Bool) (rs : List R) → count x rs ≡ 0 → count (λ r. x r || y r) rs ≡ count y rs
@@ -63,10 +64,6 @@ rim-some (f ∷ l) = (
 
 -- ---- a rim's members, as a set
 module _ {R : Type 0} where
-  all-zero : (x : R → Bool) (rs : List R) → All (λ r. x r ≡ false) rs → parity x rs ≡ false
-  all-zero x [] h = refl
-  all-zero x (r ∷ rs) h = rw (h .0, all-zero x rs (h .1))
-
   one-of : (x y : R → Bool) → ((r : R) → x r ≡ true → y r ≡ true) → (rs : List R) → count y rs ≡ 1 → parity x rs ≡ true →
       All (λ r. x r ≡ y r) rs
   one-of x y f [] h e = tt
@@ -76,7 +73,7 @@ module _ {R : Type 0} where
           (count y rs ≡ 1 → parity x rs ≡ true → All (λ s. x s ≡ y s) rs) → All (λ s. x s ≡ y s) (r ∷ rs)
       go true q i k =
           let n = zero-none y rs (omega arith) in
-          let z = all-zero x rs (all-weaken _ _ (λ s m. is-false (x s) (λ t. m (f s t))) rs n) in (
+          let z = parity-none x rs (all-weaken _ _ (λ s m. is-false (x s) (λ t. m (f s t))) rs n) in (
             sym (⊕-false (x r)) ∙ ap (λ (b : Bool). x r ⊕ b) (sym z) ∙ e
                 ∙ sym q,
             all-weaken _ _ (λ s m. same-test (x s) (y s) (f s) (λ t. absurd (m t))) rs n,

@@ -2,22 +2,18 @@
 use mathlib.Core.Bool.{Bool, Bool·beq, cond, false, true, true≢false, _&&_}
 use mathlib.Core.List.{List, [], _∷_}
 use mathlib.Core.Path.{ap, ap₂, refl, sym, _∙_, _≡_}
-use Prim.Native.Nat.{suc, ℕ, _+_, _-_, _<_, _≤_}
+use Prim.Native.Nat.{suc, ℕ, _<_, _≤_}
 use native.Mathlib.Omega.{arith}
 use lib.ListN.{getD, length, set}
 use lib.Seq.{getD-set-other, getD-set-same}
 use Rattle.rules.specs.Lists.{_⊕_, allOf, upto}
-use Rattle.rules.specs.Lattice.{OfGrid, sameAxis, samePoint, pointNumber, pointCount, points, Set, Axis, X, Y, Z, Point}
-use Rattle.rules.specs.Grid.{weight, has}
-use Rattle.rules.proofs.Bits.{⊕-false, &&-false, &&-true, and-left, and-right}
+use Rattle.rules.specs.Lattice.{OfGrid, sameAxis, samePoint, pointNumber, pointCount, points, Axis, X, Y, Z, Point}
+use Rattle.rules.specs.Grid.{has, toggle, stored}
+use Rattle.rules.proofs.Bits.{⊕-false, &&-false, &&-true, and-left, and-right, beq→}
 use Rattle.rules.proofs.Lists.{allOf→, at-upto}
 use Rattle.rules.proofs.Cuts.{samePoint→}
 use Rattle.rules.proofs.Chains.{same-point}
 use Rattle.rules.proofs.Numbers.{points-at, number-below}
-
--- the set that a buffer's lowest three bits hold
-abbrev pub stored : ℕ → List ℕ → Set
-stored n w a p = has a (getD w (pointNumber n p) 0)
 
 -- two points of the grid with one number are one point
 pub number-inj : (n : ℕ) (p q : Point) → OfGrid n p → OfGrid n q → pointNumber n p ≡ pointNumber n q → p ≡ q
@@ -40,10 +36,7 @@ stored-set n w q v hq l a p hp = go (samePoint q p) refl
         ap (has a) (getD-set-other w (pointNumber n q) (pointNumber n p) v 0
         (λ k. true≢false (sym (same-point q) ∙ ap (samePoint q) (number-inj n q p hq hp (sym k)) ∙ e)))
 
--- the bit of an axis turned
-abbrev pub toggle : Axis → ℕ → ℕ
-toggle a b = cond (has a b) (b - weight a) (b + weight a)
-
+-- ---- the bit of an axis turned
 abbrev axes : List Axis
 axes = X ∷ (Y ∷ (Z ∷ []))
 
@@ -53,12 +46,6 @@ turned a c b = Bool·beq (has c (toggle a b)) (has c b ⊕ sameAxis a c)
 
 tested : allOf (λ b. allOf (λ a. allOf (λ c. turned a c b) axes) axes) (upto 0 256) ≡ true
 tested = refl
-
-beq→ : (a b : Bool) → Bool·beq a b ≡ true → a ≡ b
-beq→ true true e = refl
-beq→ true false e = sym e
-beq→ false true e = e
-beq→ false false e = refl
 
 at-axis : (w : Axis → Bool) → allOf w axes ≡ true → (a : Axis) → w a ≡ true
 at-axis w e X = and-left (w X) (w Y && (w Z && true)) e

@@ -1,4 +1,4 @@
--- Parity over lists and over ranges of numbers. Assumes nothing.
+-- Parities, counts and sums over lists and over ranges of numbers. Assumes nothing.
 use mathlib.Core.Bool.{Bool, cond, false, not, true, _&&_}
 use mathlib.Core.List.{List, [], map, _++_, _∷_}
 use mathlib.Core.Path.{ap, ap₂, fun-ext, refl, sym, _∙_, _≡_}
@@ -7,10 +7,10 @@ use native.Mathlib.Decide.{decLe, ℕ-discrete}
 use native.Mathlib.Nat.{add-suc, add-zero, suc-add}
 use native.Mathlib.Omega.{arith}
 use lib.Dec.{eqb, leb, ltb}
-use Rattle.rules.specs.Lists.{_⊕_, parity, count, keep, each, upto, parityTo}
+use Rattle.rules.specs.Lists.{_⊕_, parity, count, keep, each, upto, parityTo, sumOf}
 use Rattle.rules.proofs.Bits.{⊕-false, ⊕-self, ⊕-assoc, xors, leb-yes, leb-no, eqb-yes, eqb-no}
 
--- ---- sums over lists
+-- ---- over lists
 module _ {A : Type 0} where
   pub parity-append : (f : A → Bool) (l m : List A) → parity f (l ++ m) ≡ parity f l ⊕ parity f m
   parity-append f [] m = refl
@@ -45,6 +45,15 @@ module _ {A : Type 0} where
           turn (yes e) = rw (eqb-yes (k % 2) 1 e, eqb-no (suc k % 2) 1 (λ h. omega arith))
           turn (no n) = rw (eqb-no (k % 2) 1 n, eqb-yes (suc k % 2) 1 (omega arith))
 
+  pub count-append : (w : A → Bool) (l m : List A) → count w (l ++ m) ≡ count w l + count w m
+  count-append w [] m = omega arith
+  count-append w (x ∷ l) m = go (w x) (count-append w l m)
+    where
+      go : (c : Bool) → count w (l ++ m) ≡ count w l + count w m →
+          cond c (suc (count w (l ++ m))) (count w (l ++ m)) ≡ cond c (suc (count w l)) (count w l) + count w m
+      go true e = omega arith
+      go false e = e
+
 module _ {A B : Type 0} where
   pub parity-map : (f : B → Bool) (g : A → B) (l : List A) → parity f (map g l) ≡ parity (λ x. f (g x)) l
   parity-map f g [] = refl
@@ -54,7 +63,21 @@ module _ {A B : Type 0} where
   parity-each f g [] = refl
   parity-each f g (x ∷ l) = parity-append f (g x) (each g l) ∙ ap (λ (b : Bool). parity f (g x) ⊕ b) (parity-each f g l)
 
--- ---- sums over ranges
+  -- ---- sums of numbers
+  pub sum-map : (f : B → ℕ) (g : A → B) (l : List A) → sumOf f (map g l) ≡ sumOf (λ x. f (g x)) l
+  sum-map f g [] = refl
+  sum-map f g (x ∷ l) = ap (λ (k : ℕ). f (g x) + k) (sum-map f g l)
+
+  pub count-each : (w : B → Bool) (g : A → List B) (l : List A) → count w (each g l) ≡ sumOf (λ x. count w (g x)) l
+  count-each w g [] = refl
+  count-each w g (x ∷ l) = count-append w (g x) (each g l) ∙ ap (λ (k : ℕ). count w (g x) + k) (count-each w g l)
+
+-- the last number apart
+pub sum-last : (f : ℕ → ℕ) (i k : ℕ) → sumOf f (upto i (suc k)) ≡ sumOf f (upto i k) + f (i + k)
+sum-last f i zero = let e : f (i + 0) ≡ f i = ap f (omega arith) in omega arith
+sum-last f i (suc k) = let e : f (suc i + k) ≡ f (i + suc k) = ap f (omega arith) in let h = sum-last f (suc i) k in omega arith
+
+-- ---- parities over ranges
 pub parityTo-plus : (k : ℕ) (f g : ℕ → Bool) → parityTo k (λ i. f i ⊕ g i) ≡ parityTo k f ⊕ parityTo k g
 parityTo-plus zero f g = refl
 parityTo-plus (suc k) f g = rw (parityTo-plus k f g) (simp xors)

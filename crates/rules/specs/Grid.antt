@@ -1,7 +1,7 @@
 -- The grid buffer: one byte a point; which buffers are a grid; bytes to marks and back. Assumes nothing.
-use mathlib.Core.Bool.{Bool, true, false, not, _&&_, _||_}
+use mathlib.Core.Bool.{Bool, true, false, not, _&&_, _||_, cond}
 use mathlib.Core.List.{List, map}
-use Prim.Native.Nat.{ℕ, suc, _+_, _/_, _%_}
+use Prim.Native.Nat.{ℕ, suc, _+_, _-_, _/_, _%_}
 use lib.Dec.{leb, eqb}
 use lib.ListN.{getD}
 use Rattle.rules.specs.Lists.{allOf}
@@ -32,9 +32,21 @@ has X b = eqb (b % 2) 1
 has Y b = eqb (b / 2 % 2) 1
 has Z b = eqb (b / 4 % 2) 1
 
+-- how many marks a byte has
+abbrev pub byteMarks : ℕ → ℕ
+byteMarks b = value (has X b) 1 + (value (has Y b) 1 + value (has Z b) 1)
+
+-- the byte with the axis' value turned: taken away where it was there, added where it was not
+abbrev pub toggle : Axis → ℕ → ℕ
+toggle a b = cond (has a b) (b - weight a) (b + weight a)
+
+-- the set that a buffer's bytes hold, on whatever edges, or faces
+abbrev pub stored : ℕ → List ℕ → Set
+stored n w a p = has a (getD w (pointNumber n p) 0)
+
 -- the edges that a buffer marks
 unfoldable pub marks : ℕ → List ℕ → Set
-marks n g a p = inner n a p && has a (getD g (pointNumber n p) 0)
+marks n g a p = inner n a p && stored n g a p
 
 -- a byte above 7, or a mark on an edge that isn't inner or doesn't exist, makes the buffer no grid
 abbrev pub byteFits : ℕ → ℕ → Point → Bool

@@ -170,6 +170,15 @@ faceIn b a p = inBox b (sameAxis a X) (sameAxis a Y) (sameAxis a Z) p
 abbrev pub edgeIn : Box → Set
 edgeIn b a p = inBox b (not (sameAxis a X)) (not (sameAxis a Y)) (not (sameAxis a Z)) p
 
+-- the first box lies in the second
+pub record Sub (b c : Box) : Type 0 where
+  pub lx : c .lo .i ≤ b .lo .i
+  pub ly : c .lo .j ≤ b .lo .j
+  pub lz : c .lo .k ≤ b .lo .k
+  pub hx : b .hi .i ≤ c .hi .i
+  pub hy : b .hi .j ≤ c .hi .j
+  pub hz : b .hi .k ≤ c .hi .k
+
 -- the box of all cells
 abbrev pub whole : ℕ → Box
 whole n = record { lo = origin; hi = record { i = n; j = n; k = n } }

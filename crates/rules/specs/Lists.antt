@@ -1,7 +1,7 @@
 -- The words that the other files count with: odd and even, tests over lists, ranges of numbers. Assumes nothing.
 use mathlib.Core.Bool.{Bool, true, false, not, _&&_, _||_, cond}
 use mathlib.Core.List.{List, [], _∷_, _++_}
-use Prim.Native.Nat.{ℕ, zero, suc}
+use Prim.Native.Nat.{ℕ, zero, suc, _+_}
 use lib.Dec.{leb, ltb}
 
 -- one of the two and not both
@@ -20,6 +20,11 @@ module _ {A : Type 0} where
   abbrev pub count : (A → Bool) → List A → ℕ
   count f [] = 0
   count f (x ∷ l) = cond (f x) (suc (count f l)) (count f l)
+
+  -- a number of each member, added up
+  abbrev pub sumOf : (A → ℕ) → List A → ℕ
+  sumOf f [] = 0
+  sumOf f (x ∷ l) = f x + sumOf f l
 
   -- the members that pass, in their order
   abbrev pub keep : (A → Bool) → List A → List A

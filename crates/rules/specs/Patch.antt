@@ -93,9 +93,13 @@ patch (suc d) b w = elim (oneCell b) [ true ↦ [] | false ↦ halve (λ c u. pa
 abbrev pub size : Box → ℕ
 size b = side b X + (side b Y + side b Z)
 
+-- the patch of a box with working set w
+unfoldable pub patchOf : Box → Set → List Edge
+patchOf b w = patch (size b) b w
+
 -- the patch of a rim, beginning with the rim's box and the rim's faces as the working set
 unfoldable pub patchRim : List Face → List Edge
-patchRim r = patch (size (boxOf r)) (boxOf r) (setOf r)
+patchRim r = patchOf (boxOf r) (setOf r)
 
 -- all rims are taken from the grid as it came
 unfoldable pub flips : ℕ → Set → List Edge

@@ -4,7 +4,7 @@ use mathlib.Core.Bool.{Bool, true, not, _||_}
 use mathlib.Core.List.{List, [], _∷_}
 use Prim.Native.Nat.{ℕ, min, max}
 use Rattle.rules.specs.Lists.{keep, anyOf, allOf, each}
-use Rattle.rules.specs.Lattice.{X, Y, Z, Face, Box, up, down, samePlace, places, isIn, Set, whole}
+use Rattle.rules.specs.Lattice.{X, Y, Z, Point, Face, Box, up, down, samePlace, places, isIn, Set, whole}
 use Rattle.rules.specs.Cell.{oddFace, ofCell}
 
 -- the odd faces of the grid, by rising point number
@@ -39,6 +39,10 @@ joined f rs = f ∷ each (λ r. r) (keep (joins f) rs)
 -- one more face: with the rims that it joins, beside those that it does not
 abbrev pub add : Face → List (List Face) → List (List Face)
 add f rs = joined f rs ∷ keep (λ r. not (joins f r)) rs
+
+-- some face of the rim is one of the cell's
+abbrev pub touch : Point → List Face → Bool
+touch c r = anyOf (ofCell c) r
 
 -- the rims of a list of faces: two belong to one rim when a chain joins them
 abbrev pub rimsOf : List Face → List (List Face)

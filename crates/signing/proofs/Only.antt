@@ -1,39 +1,32 @@
 -- The bytes that sign writes are the only ones that sign the grid's marks. Assumes nothing.
 use mathlib.Core.Path.{_≡_, refl, sym, ap, ap₂, subst, _∙_}
-use mathlib.Core.Bool.{Bool, true, false}
-use mathlib.Core.List.{List, [], _∷_, map, map-map, _++_}
-use Prim.Native.Nat.{ℕ, zero, suc, _≤_, _<_}
+use mathlib.Core.Bool.{Bool}
+use mathlib.Core.List.{List, map, map-map, _++_}
+use Prim.Native.Nat.{ℕ, suc, _≤_, _<_}
 use native.Mathlib.Omega.{arith}
 use borrow.Author.Tests.{not-false}
-use lib.Dec.{eqb}
 use lib.ListN.{length, getD, take, drop, List·getD-append}
 use lib.Seq.{take-at, drop-at}
-use Rattle.rules.specs.declared.Axis.{Axis}
-use Rattle.rules.specs.declared.Axis.the-variants.{X, Y, Z}
 use Rattle.rules.specs.declared.Point.{Point}
-use Rattle.rules.specs.Lists.{_⊕_, All}
+use Rattle.rules.specs.Lists.{_⊕_}
 use Rattle.rules.specs.Lattice.{up, origin, pointNumber, pointCount, points, OfGrid, Set}
 use Rattle.rules.specs.Grid.{value, marks}
 use Rattle.rules.specs.Rims.{evenFaces}
-use Rattle.rules.specs.Signs.{sign, Consistent, signBytes}
-use Rattle.rules.proofs.Numbers.{points-at, points-length, number-below, rising, take-upto, getD-map<, marks-inner}
+use Rattle.rules.specs.Signs.{sign, Consistent, signBytes, inside, saysInside}
+use Rattle.rules.proofs.Numbers.{points-at, points-length, number-below, rising, take-upto, getD-map<, marks-inner, value-bit, value-most, bit-value}
 use Rattle.rules.proofs.PointOf.{all-points}
 use Rattle.rules.proofs.OddList.{even-all}
 use Rattle.rules.proofs.Signs.{sign-consistent, sign-unique}
+use Rattle.rules.proofs.Same.{map-same}
 use Rattle.lattice.specs.declared.level.Level.{Level}
 use Rattle.lattice.specs.Levels.{numberOf, cellsOf, pointsOf}
-use Rattle.signing.specs.SignBytes.{signByte, inside, Signed}
+use Rattle.lattice.proofs.PointSteps.{edge-ends}
+use Rattle.signing.specs.SignBytes.{signByte, Signed}
 use Rattle.refusals.specs.Columns.{levelAt}
 use Rattle.refusals.proofs.Answered.{answered-done}
 use Rattle.refusals.proofs.Levels.{good-number}
 use Rattle.signing.specs.Call.{Outcome, done, refused, signRows, signCall}
 use Rattle.signing.proofs.Rows.{signs-length}
-
--- the point below an edge's upper end
-below-up : (n : ℕ) (a : Axis) (p : Point) → OfGrid n (up a p) → OfGrid n p
-below-up n X p h = omega arith
-below-up n Y p h = omega arith
-below-up n Z p h = omega arith
 
 module _ (n : ℕ) (E : Set) where
   -- the byte of a point, whatever stands behind the signs
@@ -46,36 +39,23 @@ module _ (n : ℕ) (E : Set) where
       ∙ getD-map< (λ q. value (sign E q) 1) (points (suc n)) (pointNumber n p) p 0 (let m = points-length (suc n) in omega arith)
       ∙ ap (λ (q : Point). value (sign E q) 1) (points-at (suc n) p p (omega arith) (omega arith) (omega arith))
 
-  value-one : (b : Bool) → eqb (value b 1) 1 ≡ b
-  value-one true = refl
-  value-one false = refl
-
-  value-small : (b : Bool) → value b 1 ≤ 1
-  value-small true = omega arith
-  value-small false = omega arith
-
   pub sign-inside : (r : List ℕ) (p : Point) → OfGrid n p → inside n (signBytes n E ++ r) p ≡ sign E p
-  sign-inside r p h = ap (λ (k : ℕ). eqb k 1) (sign-byte r p h) ∙ value-one (sign E p)
+  sign-inside r p h = ap saysInside (sign-byte r p h) ∙ value-bit (sign E p)
 
   -- where no face is odd the bytes sign the marks
   pub signs-signed : Consistent n E (sign E) → (r : List ℕ) → Signed n E (signBytes n E ++ r)
   signs-signed c r =
       record {
-        small = λ p h. subst (λ (k : ℕ). k ≤ 1) (sym (sign-byte r p h)) (value-small (sign E p));
+        small = λ p h. subst (λ (k : ℕ). k ≤ 1) (sym (sign-byte r p h)) (value-most (sign E p) 1);
         consistent = record {
           outside = sign-inside r origin (omega arith) ∙ c .outside;
-          differ = λ a p h. ap₂ _⊕_ (sign-inside r p (below-up n a p h)) (sign-inside r (up a p) h) ∙ c .differ a p h;
+          differ = λ a p h. ap₂ _⊕_ (sign-inside r p (edge-ends n a p .0 h .0)) (sign-inside r (up a p) h) ∙ c .differ a p h;
         };
       }
 
-  map-same : (f g : Point → ℕ) (l : List Point) → All (λ p. f p ≡ g p) l → map f l ≡ map g l
-  map-same f g [] h = refl
-  map-same f g (x ∷ l) h = ap₂ _∷_ (h .0) (map-same f g l (h .1))
-
-  one-value : (k : ℕ) (b : Bool) → k ≤ 1 → eqb k 1 ≡ b → k ≡ value b 1
-  one-value zero b h e = ap (λ (c : Bool). value c 1) e
-  one-value (suc zero) b h e = ap (λ (c : Bool). value c 1) e
-  one-value (suc (suc k)) b h e = absurd (omega arith)
+  -- a byte that is 0 or 1 is the value of what it says
+  one-value : (k : ℕ) (b : Bool) → k ≤ 1 → saysInside k ≡ b → k ≡ value b 1
+  one-value k b h e = (let v = bit-value k 1 (omega arith) in let r : k ≡ value (saysInside k) 1 = omega arith in r) ∙ ap (λ (c : Bool). value c 1) e
 
   -- and no others do
   pub signs-only : (s : List ℕ) → pointCount n ≤ length s → Signed n E s → take (pointCount n) s ≡ signBytes n E

@@ -1,20 +1,14 @@
--- Sign bytes: what they say of a point, and when they are the signs of marks. Assumes nothing.
-use mathlib.Core.Bool.{Bool}
+-- Sign bytes, and when they are the signs of marks. Assumes nothing.
 use mathlib.Core.List.{List}
 use Prim.Native.Nat.{ℕ, _≤_}
-use lib.Dec.{eqb}
 use lib.ListN.{getD}
 use Rattle.rules.specs.declared.Point.{Point}
 use Rattle.rules.specs.Lattice.{pointNumber, OfGrid, Set}
-use Rattle.rules.specs.Signs.{Consistent}
+use Rattle.rules.specs.Signs.{Consistent, inside}
 
 -- the byte of a point
 abbrev pub signByte : ℕ → List ℕ → Point → ℕ
 signByte n s p = getD s (pointNumber n p) 0
-
--- signs are one byte a point, 0 outside and 1 inside
-abbrev pub inside : ℕ → List ℕ → Point → Bool
-inside n s p = eqb (signByte n s p) 1
 
 -- the bytes sign the marks: each is 0 or 1, (0,0,0) is outside, and signs differ across an edge exactly when it is marked
 pub record Signed (n : ℕ) (E : Set) (s : List ℕ) : Type 0 where

@@ -12,14 +12,13 @@ ghost use mathlib.Core.Path.{_≡_};
 ghost use mathlib.Core.Bool.{true};
 ghost use mathlib.Core.List.{_++_};
 ghost use Prim.Native.Nat.{_≤_};
-ghost use lib.Dec.{eqb};
 ghost use lib.ListN.{length, drop};
 ghost use Rattle.rules.specs.Lists.{_⊕_};
 ghost use Rattle.rules.specs.declared.Axis.the-variants.{X};
 ghost use Rattle.rules.specs.Lattice.{pointCount};
 ghost use Rattle.rules.specs.Grid.{value, has, marks, isGrid};
 ghost use Rattle.rules.specs.Rims.{evenFaces};
-ghost use Rattle.rules.specs.Signs.{signBytes};
+ghost use Rattle.rules.specs.Signs.{signBytes, saysInside};
 ghost use Rattle.signing.specs.Call.{told, signCall};
 
 // The sign byte of a point: 0 outside, 1 inside.
@@ -34,7 +33,7 @@ fn sign_byte(inside: bool) -> u8
 
 // Whether a sign byte says inside.
 pub fn is_inside(b: u8) -> bool
-    ensures { λ r. ⌜ r ≡ eqb b 1 ⌝ }
+    ensures { λ r. ⌜ r ≡ saysInside b ⌝ }
 {
     b == 1
 }

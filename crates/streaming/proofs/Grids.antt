@@ -12,9 +12,9 @@ use Rattle.rules.specs.Grid.{bytes, marks, isGrid}
 use Rattle.rules.specs.Rims.{rims, evenFaces}
 use Rattle.rules.specs.Patch.{patched, flipCount}
 use Rattle.rules.proofs.Numbers.{marks-inner}
-use Rattle.rules.proofs.Chains.{or-cases}
 use Rattle.rules.proofs.Patched.{patched-even, patched-inner}
 use Rattle.rules.proofs.OddList.{even-all}
+use Rattle.rules.proofs.Bits.{or-cases}
 use Rattle.lattice.specs.declared.level.Level.{Level}
 use Rattle.lattice.specs.Levels.{cellsOf, pointsOf}
 use Rattle.lattice.proofs.Ahead.{bytes-are-grid, bytes-have-marks}

@@ -5,43 +5,34 @@ use mathlib.Core.List.{List, [], _∷_, _++_, map}
 use Prim.Native.Nat.{ℕ, suc, _+_, _*_, _≤_, _<_}
 use native.Mathlib.Numerals.{add-one}
 use native.Mathlib.Omega.{arith}
-use lib.Dec.{eqb, ltb}
-use lib.ListN.{length, getD, take, drop, List·getD-append, List·getD-map}
+use lib.Dec.{ltb}
+use lib.ListN.{length, getD, take, drop, List·getD-append}
 use lib.Seq.{take-suc, take-at}
 use borrow.Author.Tests.{ltb-false}
-use Rattle.rules.specs.declared.Axis.the-variants.{X, Y, Z}
 use Rattle.rules.specs.declared.Point.{Point}
-use Rattle.rules.specs.declared.Place.{Place}
-use Rattle.rules.specs.Lists.{count, keep, each, All, upto}
-use Rattle.rules.specs.Lattice.{Set, isIn, points, places, placesAt, pointNumber, pointCount, origin, OfGrid}
+use Rattle.rules.specs.Lists.{count, upto}
+use Rattle.rules.specs.Lattice.{Set, points, pointCount}
 use Rattle.rules.specs.Grid.{value}
-use Rattle.rules.specs.Signs.{sign, signBytes}
-use Rattle.rules.specs.Quads.{quad, quads}
-use Rattle.rules.proofs.Lists.{all-below, all-keep, all-each, all-weaken}
-use Rattle.rules.proofs.Numbers.{points-at}
-use Rattle.rules.proofs.PointOf.{points-grid}
-use Rattle.lattice.proofs.Laws.{num-below}
+use Rattle.rules.specs.Signs.{sign, signBytes, inside}
+use Rattle.rules.specs.Quads.{quads}
+use Rattle.rules.proofs.Lists.{all-below}
+use Rattle.rules.proofs.Same.{each-same}
 use Rattle.lattice.proofs.LevelFacts.{count-is, count-most, cells-most}
 use Rattle.rules.specs.Patch.{patched}
 use Rattle.rules.specs.Grid.{marks}
 use Rattle.lattice.specs.declared.level.Level.{Level}
 use Rattle.lattice.specs.Levels.{cellsOf, pointsOf}
-use Rattle.signing.specs.SignBytes.{inside}
 use Rattle.signing.proofs.Rows.{signs-length}
+use Rattle.signing.proofs.Only.{sign-inside}
 use Rattle.refusals.proofs.Reasons.{refusal-some}
 use Rattle.refusals.specs.declared.Refusal.{Refusal}
 use Rattle.surfacing.specs.declared.SurfaceAnswer.the-variants.{Done, Refused}
 use Rattle.surfacing.specs.Listing.{quadCount}
 use Rattle.surfacing.specs.Call.{Outcome, told, refused, surfaceDone, listed}
-use Rattle.surfacing.proofs.Quads.{quads-length}
+use Rattle.surfacing.proofs.Quads.{quads-length, quads-same}
 use Rattle.streaming.specs.declared.text.Repaired.{Repaired}
 use Rattle.streaming.specs.Text.{quadLine, refusedLine, listing}
 use Rattle.streaming.specs.Report.{total, Closed, countsOf, repaired}
-
-module _ {A B : Type 0} where
-  pub each-same : (f g : A → List B) (l : List A) → All (λ x. f x ≡ g x) l → each f l ≡ each g l
-  each-same f g [] h = refl
-  each-same f g (x ∷ l) h = λ i. h .0 i ++ each-same f g l (h .1) i
 
 -- the listing reads no entry behind the last quad
 pub listing-ahead : (r : Repaired) (l rest : List ℕ) → 4 * r .quads ≤ length l → listing r (l ++ rest) ≡ listing r l
@@ -75,33 +66,6 @@ module _ (n : ℕ) (F : Set) (rest : List ℕ) where
   pub inside-total : total (take (pointCount n) (signBytes n F ++ rest)) ≡ count (sign F) (points (suc n))
   unfolding signBytes
   inside-total = ap total (take-at (signBytes n F) rest (pointCount n) (signs-length n F)) ∙ ones (sign F) (points (suc n))
-
-  -- the sign byte of a point says whether it is inside
-  pub inside-sign : (p : Point) → OfGrid n p → inside n (signBytes n F ++ rest) p ≡ sign F p
-  unfolding signBytes
-  inside-sign p o =
-      ap (λ (b : ℕ). eqb b 1)
-      (List·getD-append (signBytes n F) rest 0 (pointNumber n p) (rw (signs-length n F) (num-below n p o))
-      ∙ List·getD-map (λ q. value (sign F q) 1) (points (suc n)) (pointNumber n p) origin
-      ∙ ap (λ q. value (sign F q) 1) (points-at (suc n) p origin (omega (arith, o .i)) (omega (arith, o .j)) (omega (arith, o .k))))
-      ∙ bit (sign F p)
-    where
-      bit : (b : Bool) → eqb (value b 1) 1 ≡ b
-      bit true = refl
-      bit false = refl
-
--- quads depend on the signs of the grid's points alone
-pub quads-same : (n : ℕ) (E : Set) (s t : Point → Bool) → ((p : Point) → OfGrid n p → s p ≡ t p) → quads n E s ≡ quads n E t
-unfolding quads
-quads-same n E s t h =
-    each-same (quad n s) (quad n t) (keep (isIn E) (places (suc n)))
-    (all-keep _ (isIn E) (places (suc n)) (all-each _ placesAt (points (suc n)) (all-weaken _ _ at (points (suc n)) (points-grid n))))
-  where
-    one : (e : Place) → OfGrid n (e .at) → quad n s e ≡ quad n t e
-    one e o = ap (λ (b : Bool). quad n (λ p. b) e) (h (e .at) o)
-
-    at : (p : Point) → OfGrid n p → All (λ e. quad n s e ≡ quad n t e) (placesAt p)
-    at p o = (one (record { axis = X; at = p }) o, (one (record { axis = Y; at = p }) o, (one (record { axis = Z; at = p }) o, tt)))
 
 -- ---- what a list of quads tells
 module _ (n : ℕ) (E : Set) (s : Point → Bool) (l l′ : List ℕ) where
@@ -155,7 +119,7 @@ module _ (level : ℕ) (l : Level) (t : ℕ) (E : Set) (rims flips : ℕ) (g s l
   quads-are : quads n (marks n g) (inside n s) ≡ quads n F (sign F)
   quads-are =
       ap (λ (M : Set). quads n M (inside n s)) (closed .marks-are)
-      ∙ quads-same n F (inside n s) (sign F) (λ p o. ap (λ (b : List ℕ). inside n b p) (closed .signs-are) ∙ inside-sign n F (closed .behind) p o)
+      ∙ quads-same n F (inside n s) (sign F) (λ p o. ap (λ (b : List ℕ). inside n b p) (closed .signs-are) ∙ sign-inside n F (closed .behind) p o)
 
   -- one with room is listed
   pub listing-is : (q : ℕ) → told (Done q) list′ ≡ listed n (marks n g) (inside n s) list → (k : ℕ) → k ≡ total (take (pointsOf l) s)

@@ -12,8 +12,8 @@ ghost use lib.Dec.{eqb};
 ghost use lib.ListN.{length, take};
 ghost use Rattle.rules.specs.Lattice.{pointCount};
 ghost use Rattle.rules.specs.Grid.{isGrid, marks};
+ghost use Rattle.rules.specs.Signs.{inside};
 ghost use Rattle.lattice.specs.Levels.{cellsOf, pointsOf};
-ghost use Rattle.signing.specs.SignBytes.{inside};
 ghost use Rattle.streaming.specs.Text.{Put};
 ghost use Rattle.streaming.specs.Picture.{character, lineEnd, picture, layers};
 

@@ -2,7 +2,7 @@
 use mathlib.Core.Path.{_≡_, refl, ap, subst, sym, _∙_}
 use mathlib.Core.Bool.{true, false}
 use mathlib.Core.List.{List, [], _∷_}
-use Prim.Native.Nat.{ℕ, zero, suc, pred, _+_, _*_, _-_, _≤_, _<_}
+use Prim.Native.Nat.{ℕ, suc, pred, _+_, _*_, _-_, _≤_, _<_}
 use native.Mathlib.Nat.{mul-le-mul}
 use native.Mathlib.Omega.{arith}
 use lib.ListN.{length, getD}
@@ -17,6 +17,7 @@ use Rattle.rules.proofs.Numbers.{number-below, marks-inner}
 use Rattle.lattice.specs.Cells.{Cell}
 use Rattle.lattice.proofs.Points.{At, at-grid}
 use Rattle.lattice.proofs.GridFacts.{grid-marks}
+use Rattle.lattice.proofs.PointSteps.{pred-pos}
 use Rattle.surfacing.specs.Listing.{cellStep, MarksInner}
 
 -- an inner edge has cells on both sides of it, on both axes across it
@@ -31,10 +32,6 @@ inner→ n Y p e = let b = inBox→ (whole n) true false true p e in omega arith
 inner→ n Z p e = let b = inBox→ (whole n) true true false p e in omega arith
 
 -- the cell below
-pub pred-pos : (k : ℕ) → 0 < k → suc (pred k) ≡ k
-pred-pos zero h = omega arith
-pred-pos (suc k) h = omega arith
-
 step-y : (n i j k : ℕ) → (i + n * (j + n * k)) + n ≡ i + n * (suc j + n * k)
 step-y n i j k = omega arith
 

@@ -10,13 +10,14 @@ use Rattle.rules.specs.Lists.{All, count}
 use Rattle.rules.specs.Lattice.{places, isIn}
 use Rattle.rules.specs.Grid.{marks}
 use Rattle.rules.specs.Quads.{quads}
+use Rattle.rules.specs.Signs.{inside}
 use Rattle.lattice.specs.declared.level.Level.{Level}
 use Rattle.lattice.specs.Levels.{numberOf, cellsOf}
 use Rattle.refusals.specs.Columns.{levelAt}
 use Rattle.refusals.proofs.Answered.{answered-done}
 use Rattle.refusals.proofs.Levels.{good-number}
-use Rattle.signing.specs.SignBytes.{inside, Signed}
-use Rattle.surfacing.specs.Fit.{signsFit}
+use Rattle.signing.specs.SignBytes.{Signed}
+use Rattle.surfacing.specs.Fit.{signBytesFit}
 use Rattle.surfacing.specs.Listing.{quadCount}
 use Rattle.surfacing.specs.Call.{Outcome, refused, surfaceDone, surfaceRows, surfaceCall}
 use Rattle.surfacing.proofs.Quads.{quads-length}
@@ -33,7 +34,7 @@ pub record Listed (n : ℕ) (g s l : List ℕ) (o : Outcome) : Type 0 where
   pub behind : drop (4 * o .quads) (o .list) ≡ drop (4 * o .quads) l
 
 -- what is done is listed
-done-listed : (n : ℕ) (g s l : List ℕ) → signsFit n (marks n g) s ≡ true → Listed n g s l (surfaceDone n (marks n g) (inside n s) l)
+done-listed : (n : ℕ) (g s l : List ℕ) → signBytesFit n (marks n g) s ≡ true → Listed n g s l (surfaceDone n (marks n g) (inside n s) l)
 unfolding surfaceDone quadCount
 done-listed n g s l fit =
     let E = marks n g in
@@ -56,4 +57,4 @@ surface-done level g s l e =
     let v = levelAt level in
     let n = cellsOf v in
     let r = answered-done (λ o. o .number) (refused l) (surfaceDone n (marks n g) (inside n s) l) (λ i. refl) refl (surfaceRows level g s l) refl e in
-    (v, good-number level (r .0 .0), subst (Listed n g s l) (sym (r .1)) (done-listed n g s l (not-false (signsFit n (marks n g) s) (r .0 .1 .1 .1 .0))))
+    (v, good-number level (r .0 .0), subst (Listed n g s l) (sym (r .1)) (done-listed n g s l (not-false (signBytesFit n (marks n g) s) (r .0 .1 .1 .1 .0))))

@@ -2,10 +2,8 @@
 use mathlib.Core.Path.{_≡_}
 use mathlib.Core.Bool.{Bool, true, false}
 use mathlib.Core.List.{List, [], _∷_}
-use Prim.Native.Nat.{ℕ, zero, suc, pred, _*_, _≤_, _<_}
+use Prim.Native.Nat.{ℕ, suc, _*_, _≤_, _<_}
 use native.Mathlib.Omega.{arith}
-use Rattle.rules.specs.declared.Axis.{Axis}
-use Rattle.rules.specs.declared.Axis.the-variants.{X, Y, Z}
 use Rattle.rules.specs.declared.Point.{Point}
 use Rattle.rules.specs.declared.Place.{Place}
 use Rattle.rules.specs.Lists.{All, keep}
@@ -15,17 +13,8 @@ use Rattle.rules.specs.Quads.{next, quadCells, quad, quads}
 use Rattle.rules.proofs.Lists.{all-weaken, all-each, all-kept}
 use Rattle.rules.proofs.Numbers.{marks-inner}
 use Rattle.lattice.specs.Cells.{Cell}
+use Rattle.lattice.proofs.PointSteps.{down-cell}
 use Rattle.surfacing.proofs.Around.{inner→, cell-below, cube-most}
-
-less : (k : ℕ) → pred k ≤ k
-less zero = omega arith
-less (suc k) = omega arith
-
--- the cell below a cell
-down-cell : (n : ℕ) (b : Axis) (c : Point) → Cell n c → Cell n (down b c)
-down-cell n X c h = let e = less (c .i) in omega arith
-down-cell n Y c h = let e = less (c .j) in omega arith
-down-cell n Z c h = let e = less (c .k) in omega arith
 
 cells-exist : (n : ℕ) (s : Point → Bool) (e : Place) → Cell n (e .at) → All (Cell n) (quadCells s e)
 cells-exist n s e h =

@@ -2,33 +2,33 @@
 use mathlib.Core.Path.{_≡_, refl, sym, ap, ap₂, _∙_}
 use mathlib.Core.Bool.{Bool, true, false, cond}
 use mathlib.Core.List.{List, [], _∷_, _++_, append-assoc, append-nil}
-use Prim.Native.Nat.{ℕ, zero, suc, _+_, _*_, _≤_, _<_}
+use Prim.Native.Nat.{ℕ, suc, _+_, _*_, _≤_, _<_}
 use native.Mathlib.Nat.{mul-suc}
 use native.Mathlib.Omega.{arith}
-use lib.Dec.{eqb}
 use lib.ListN.{length, getD, length-append}
 use lib.Seq.{sets, length-sets}
 use Rattle.rules.specs.declared.Axis.{Axis}
 use Rattle.rules.specs.declared.Axis.the-variants.{X, Y, Z}
 use Rattle.rules.specs.declared.Point.{Point}
 use Rattle.rules.specs.declared.Place.{Place}
-use Rattle.rules.specs.Lists.{count, keep, each}
-use Rattle.rules.specs.Lattice.{Set, isIn, pointCount, points, placesAt, places}
-use Rattle.rules.specs.Grid.{value, has, marks, isGrid}
+use Rattle.rules.specs.Lists.{count, keep, each, All}
+use Rattle.rules.specs.Lattice.{Set, isIn, pointCount, points, placesAt, places, OfGrid}
+use Rattle.rules.specs.Grid.{value, has, marks, isGrid, byteMarks}
 use Rattle.rules.specs.Quads.{quad, quads}
+use Rattle.rules.specs.Signs.{inside, saysInside}
+use Rattle.rules.proofs.Lists.{each-append, all-weaken, all-each, all-keep}
+use Rattle.rules.proofs.Sums.{count-append}
+use Rattle.rules.proofs.Listed.{count-places}
+use Rattle.rules.proofs.Same.{each-same}
+use Rattle.rules.proofs.PointOf.{points-grid}
 use Rattle.lattice.proofs.Points.{pointsFrom, points-start, points-more, points-end, At, at-grid}
 use Rattle.lattice.proofs.GridFacts.{grid-marks}
-use Rattle.signing.specs.SignBytes.{inside}
-use Rattle.signing.proofs.Written.{sets-append}
+use Rattle.lattice.proofs.Written.{sets-append}
 use Rattle.surfacing.specs.Fit.{Grids}
-use Rattle.surfacing.specs.Listing.{quadCount, byteQuad, byteQuads, byteMarks}
+use Rattle.surfacing.specs.Listing.{quadCount, byteQuad, byteQuads}
 
 -- ---- lists
 module _ {A B : Type 0} where
-  each-append : (f : A → List B) (l m : List A) → each f (l ++ m) ≡ each f l ++ each f m
-  each-append f [] m = refl
-  each-append f (x ∷ l) m = ap (λ (r : List B). f x ++ r) (each-append f l m) ∙ sym (append-assoc (f x) (each f l) (each f m))
-
   -- what is kept, where it stands
   each-keep : (f : A → List B) (w : A → Bool) (l : List A) → each f (keep w l) ≡ each (λ x. cond (w x) (f x) []) l
   each-keep f w [] = refl
@@ -60,16 +60,6 @@ module _ {B : Type 0} (f : Point → List B) (n : ℕ) where
       ∙ ap (λ (i : ℕ). f q ++ each f (pointsFrom n (suc i))) (a .is)
 
 -- ---- the number of quads
-marks-value : (b : Bool) (k : ℕ) → cond b (suc k) k ≡ value b 1 + k
-marks-value true k = omega arith
-marks-value false k = omega arith
-
--- a bit is the value of its test
-pub bit-value : (x : ℕ) → x < 2 → x ≡ value (eqb x 1) 1
-bit-value zero h = refl
-bit-value (suc zero) h = refl
-bit-value (suc (suc x)) h = absurd (omega arith)
-
 abbrev pub countFrom : ℕ → Set → ℕ → ℕ
 countFrom n E p = count (isIn E) (each placesAt (pointsFrom n p))
 
@@ -84,12 +74,9 @@ pub count-step : (n : ℕ) (g : List ℕ) (p : ℕ) (q : Point) → pointCount n
     countFrom n (marks n g) p ≡ byteMarks (getD g p 0) + countFrom n (marks n g) (suc p)
 count-step n g p q long grid a h =
     ap (count (isIn (marks n g))) (each-step placesAt n p q a h)
-    ∙ three (marks n g X q) (marks n g Y q) (marks n g Z q) (countFrom n (marks n g) (suc p))
-    ∙ ap (λ (k : ℕ). k + countFrom n (marks n g) (suc p)) (ap₂ _+_ (bit X) (ap₂ _+_ (bit Y) (bit Z)))
+    ∙ count-append (isIn (marks n g)) (placesAt q) (each placesAt (pointsFrom n (suc p)))
+    ∙ ap (λ (k : ℕ). k + countFrom n (marks n g) (suc p)) (count-places (isIn (marks n g)) q ∙ ap₂ _+_ (bit X) (ap₂ _+_ (bit Y) (bit Z)))
   where
-    three : (x y z : Bool) (k : ℕ) → cond x (suc (cond y (suc (cond z (suc k) k)) (cond z (suc k) k))) (cond y (suc (cond z (suc k) k)) (cond z (suc k) k)) ≡ (value x 1 + (value y 1 + value z 1)) + k
-    three x y z k = let a = marks-value x (cond y (suc (cond z (suc k) k)) (cond z (suc k) k)) in let b = marks-value y (cond z (suc k) k) in let c = marks-value z k in omega arith
-
     bit : (b : Axis) → value (marks n g b q) 1 ≡ value (has b (getD g p 0)) 1
     bit b = ap (λ (c : Bool). value c 1) (sym (grid-marks n g long grid b q (at-grid n p q a h)) ∙ ap (λ (i : ℕ). has b (getD g i 0)) (a .is))
 
@@ -104,6 +91,19 @@ four-long n s e = go (s (e .at))
 pub quads-length : (n : ℕ) (E : Set) (s : Point → Bool) → length (quads n E s) ≡ 4 * quadCount n E
 unfolding quads quadCount
 quads-length n E s = length-kept (quad n s) (isIn E) 4 (four-long n s) (places (suc n))
+
+-- quads depend on the signs of the grid's points alone
+pub quads-same : (n : ℕ) (E : Set) (s t : Point → Bool) → ((p : Point) → OfGrid n p → s p ≡ t p) → quads n E s ≡ quads n E t
+unfolding quads
+quads-same n E s t h =
+    each-same (quad n s) (quad n t) (keep (isIn E) (places (suc n)))
+    (all-keep _ (isIn E) (places (suc n)) (all-each _ placesAt (points (suc n)) (all-weaken _ _ at (points (suc n)) (points-grid n))))
+  where
+    one : (e : Place) → OfGrid n (e .at) → quad n s e ≡ quad n t e
+    one e o = ap (λ (b : Bool). quad n (λ p. b) e) (h (e .at) o)
+
+    at : (p : Point) → OfGrid n p → All (λ e. quad n s e ≡ quad n t e) (placesAt p)
+    at p o = (one (record { axis = X; at = p }) o, (one (record { axis = Y; at = p }) o, (one (record { axis = Z; at = p }) o, tt)))
 
 -- ---- the quads from a point on
 module _ (n : ℕ) (E : Set) (s : Point → Bool) where
@@ -123,7 +123,7 @@ module _ (n : ℕ) (E : Set) (s : Point → Bool) where
   quads-end p h = ap (each quadsAt) (points-end n p h)
 
 -- the quads of a point, by its bytes; x tells whether it is inside
-pub quads-byte : (n : ℕ) (g s : List ℕ) (p : ℕ) (q : Point) (x : Bool) → Grids n g s → At n p q → p < pointCount n → x ≡ eqb (getD s p 0) 1 →
+pub quads-byte : (n : ℕ) (g s : List ℕ) (p : ℕ) (q : Point) (x : Bool) → Grids n g s → At n p q → p < pointCount n → x ≡ saysInside (getD s p 0) →
     byteQuads n (getD g p 0) x q ≡ quadsAt n (marks n g) (inside n s) q
 unfolding byteQuads
 quads-byte n g s p q x k a h e = ap₂ _++_ (one X) (ap₂ _++_ (one Y) (ap₂ _++_ (one Z) refl))
@@ -132,7 +132,7 @@ quads-byte n g s p q x k a h e = ap₂ _++_ (one X) (ap₂ _++_ (one Y) (ap₂ _
     one b =
         ap₂ (λ (c d : Bool). cond c (quad n (λ r. d) (record { axis = b; at = q })) [])
         (ap (λ (i : ℕ). has b (getD g i 0)) (sym (a .is)) ∙ grid-marks n g (k .g-long) (k .grid) b q (at-grid n p q a h))
-        (e ∙ ap (λ (i : ℕ). eqb (getD s i 0) 1) (sym (a .is)))
+        (e ∙ ap (λ (i : ℕ). saysInside (getD s i 0)) (sym (a .is)))
 
 -- no mark, no quad
 pub quads-none : (n b : ℕ) (inside : Bool) (q : Point) → b ≡ 0 → byteQuads n b inside q ≡ []

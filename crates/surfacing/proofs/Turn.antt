@@ -14,7 +14,8 @@ use Rattle.rules.specs.Grid.{marks}
 use Rattle.rules.specs.Quads.{next, quadCells}
 use Rattle.rules.proofs.Numbers.{marks-inner}
 use Rattle.surfacing.specs.Turn.{sumAround, forward, backward, counterclockwise}
-use Rattle.surfacing.proofs.Around.{Inside, inner→, pred-pos, down-other}
+use Rattle.surfacing.proofs.Around.{Inside, inner→, down-other}
+use Rattle.lattice.proofs.PointSteps.{pred-pos}
 
 -- the coordinates of the cells below, on the two axes across the edge
 down-own : (b : Axis) (p : Point) → coord b (down b p) ≡ pred (coord b p)

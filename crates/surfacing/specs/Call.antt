@@ -8,12 +8,12 @@ use Rattle.rules.specs.declared.Point.{Point}
 use Rattle.rules.specs.Lattice.{Set}
 use Rattle.rules.specs.Grid.{marks, isGrid}
 use Rattle.rules.specs.Quads.{quads}
+use Rattle.rules.specs.Signs.{inside}
 use Rattle.lattice.specs.Levels.{cellsOf, pointsOf}
 use Rattle.refusals.specs.Rows.{Row, _when_, answered}
 use Rattle.refusals.specs.Reasons.{numberOf}
 use Rattle.refusals.specs.Columns.{badLevel, levelAt, someShort}
-use Rattle.signing.specs.SignBytes.{inside}
-use Rattle.surfacing.specs.Fit.{signsFit}
+use Rattle.surfacing.specs.Fit.{signBytesFit}
 use Rattle.surfacing.specs.Listing.{quadCount}
 use Rattle.surfacing.specs.declared.SurfaceAnswer.{SurfaceAnswer}
 use Rattle.surfacing.specs.declared.SurfaceAnswer.the-variants.{Done, Refused}
@@ -53,7 +53,7 @@ surfaceRows level g s l =
     1 when badLevel level
     ∷ 2 when someShort (pointsOf v) (g ∷ s ∷ [])
     ∷ 5 when not (isGrid n g)
-    ∷ 7 when not (signsFit n (marks n g) s)
+    ∷ 7 when not (signBytesFit n (marks n g) s)
     ∷ 8 when shortList n (marks n g) l
     ∷ []
 

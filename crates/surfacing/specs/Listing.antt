@@ -2,13 +2,13 @@
 use mathlib.Core.Path.{_≡_}
 use mathlib.Core.Bool.{Bool, true, cond}
 use mathlib.Core.List.{List, []}
-use Prim.Native.Nat.{ℕ, suc, _+_, _*_}
+use Prim.Native.Nat.{ℕ, suc, _*_}
 use Rattle.rules.specs.declared.Axis.{Axis}
 use Rattle.rules.specs.declared.Axis.the-variants.{X, Y, Z}
 use Rattle.rules.specs.declared.Point.{Point}
 use Rattle.rules.specs.Lists.{count, each}
 use Rattle.rules.specs.Lattice.{places, placesAt, Set, isIn, inner}
-use Rattle.rules.specs.Grid.{value, has}
+use Rattle.rules.specs.Grid.{has}
 use Rattle.rules.specs.Quads.{quad}
 
 -- one quad for each marked edge
@@ -28,10 +28,6 @@ byteQuad n b inside a p = cond (has a b) (quad n (λ q. inside) (record { axis =
 -- the quads of the three edges at a point
 unfoldable pub byteQuads : ℕ → ℕ → Bool → Point → List ℕ
 byteQuads n b inside p = each (λ e. byteQuad n b inside (e .axis) (e .at)) (placesAt p)
-
--- how many marks a byte has
-abbrev pub byteMarks : ℕ → ℕ
-byteMarks b = value (has X b) 1 + (value (has Y b) 1 + value (has Z b) 1)
 
 -- each mark of the byte at a point is on an inner edge
 abbrev pub MarksInner : ℕ → ℕ → Point → Type 0

@@ -8,12 +8,12 @@ use rules::Axis;
 use rules::Point;
 use signing::is_inside;
 ghost use mathlib.Core.Path.{_≡_};
-ghost use mathlib.Core.Bool.{true};
+ghost use mathlib.Core.Bool.{_&&_, true};
 ghost use Prim.Native.Nat.{_≤_};
 ghost use Rattle.rules.specs.Lattice.{pointNumber, OfGrid};
 ghost use Rattle.rules.specs.Grid.{marks};
-ghost use Rattle.signing.specs.SignBytes.{inside};
-ghost use Rattle.surfacing.specs.Fit.{edgeFits, pointFits, signsFit, Grids};
+ghost use Rattle.rules.specs.Signs.{inside};
+ghost use Rattle.surfacing.specs.Fit.{edgeFits, pointFits, smallSign, signBytesFit, Grids};
 
 // Answers whether the edge along a at the point q, of number p, has a sign change exactly when it has a mark, if it exists.
 fn edge_fits(n: usize, grid: &[u8], signs: &[u8], a: Axis, q: Point, p: usize) -> bool
@@ -31,7 +31,7 @@ fn edge_fits(n: usize, grid: &[u8], signs: &[u8], a: Axis, q: Point, p: usize) -
 // Answers whether the sign of the point q, of number p, is not above 1, and its three edges fit.
 fn point_fits(n: usize, grid: &[u8], signs: &[u8], q: Point, p: usize) -> bool
     requires { ⌜ (n ≤ 32) × Grids n (now grid) (now signs) × OfGrid n q × (p ≡ pointNumber n q) ⌝ }
-    ensures { λ r. ⌜ r ≡ pointFits n (marks n (now (grid .entry))) (now (signs .entry)) q ⌝ }
+    ensures { λ r. ⌜ r ≡ smallSign n (now (signs .entry)) q && pointFits n (marks n (now (grid .entry))) (inside n (now (signs .entry))) q ⌝ }
 {
     if signs[p] > 1 {
         return false;
@@ -48,7 +48,7 @@ fn point_fits(n: usize, grid: &[u8], signs: &[u8], q: Point, p: usize) -> bool
 // Answers whether the signs fit the grid.
 pub fn signs_fit(n: usize, grid: &[u8], signs: &[u8]) -> bool
     requires { ⌜ (n ≤ 32) × Grids n (now grid) (now signs) ⌝ }
-    ensures { λ r. ⌜ r ≡ signsFit n (marks n (now (grid .entry))) (now (signs .entry)) ⌝ }
+    ensures { λ r. ⌜ r ≡ signBytesFit n (marks n (now (grid .entry))) (now (signs .entry)) ⌝ }
 {
     if is_inside(signs[0]) {
         return false;

@@ -12,7 +12,7 @@ use refusals::Refusal;
 ghost use mathlib.Core.Path.{_≡_};
 ghost use Prim.Native.Nat.{_≤_};
 ghost use Rattle.rules.specs.Grid.{marks};
-ghost use Rattle.signing.specs.SignBytes.{inside};
+ghost use Rattle.rules.specs.Signs.{inside};
 ghost use Rattle.surfacing.specs.Fit.{Grids};
 ghost use Rattle.surfacing.specs.Call.{told, listed, surfaceCall};
 

@@ -12,12 +12,12 @@ ghost use Prim.Native.Nat.{_+_, _*_, _≤_, _<_};
 ghost use lib.ListN.{length, drop};
 ghost use lib.Seq.{sets};
 ghost use Rattle.rules.specs.Lattice.{inner, cellNumber, pointCount};
-ghost use Rattle.rules.specs.Grid.{has, marks, isGrid};
+ghost use Rattle.rules.specs.Grid.{has, marks, isGrid, byteMarks};
 ghost use Rattle.rules.specs.Quads.{next, quads};
+ghost use Rattle.rules.specs.Signs.{inside};
 ghost use Rattle.lattice.specs.Cells.{Cell};
-ghost use Rattle.signing.specs.SignBytes.{inside};
 ghost use Rattle.surfacing.specs.Fit.{Grids};
-ghost use Rattle.surfacing.specs.Listing.{quadCount, cellStep, byteQuad, byteQuads, byteMarks, MarksInner};
+ghost use Rattle.surfacing.specs.Listing.{quadCount, cellStep, byteQuad, byteQuads, MarksInner};
 
 // The axis after an axis, round: for x the pair is (y,z), for y it is (z,x), for z it is (x,y).
 fn next(a: Axis) -> Axis

@@ -2,7 +2,7 @@
 use mathlib.Core.Path.{_≡_, refl, sym, ap, _∙_, subst, fun-ext}
 use mathlib.Core.Bool.{Bool, true, false, not, _&&_, true≢false}
 use mathlib.Core.List.{List}
-use Prim.Native.Nat.{ℕ, zero, suc, _+_, _*_, _/_, _%_, _^_, _≤_, _<_}
+use Prim.Native.Nat.{ℕ, _+_, _*_, _/_, _%_, _^_, _≤_, _<_}
 use native.Mathlib.Decide.{ℕ-discrete}
 use native.Mathlib.Nat.{div-one}
 use native.Mathlib.Omega.{arith}
@@ -12,50 +12,26 @@ use lib.Seq.{getD-set-same, getD-set-other}
 use Rattle.rules.specs.declared.Axis.{Axis}
 use Rattle.rules.specs.declared.Axis.the-variants.{X, Y, Z}
 use Rattle.rules.specs.declared.Point.{Point}
-use Rattle.rules.specs.Lattice.{OfGrid, Set, pointNumber, pointCount, faceIn, whole}
-use Rattle.rules.specs.Grid.{has, value, byteAt}
+use Rattle.rules.specs.Lattice.{OfGrid, pointNumber, pointCount, faceIn, whole}
+use Rattle.rules.specs.Grid.{has, value, stored}
 use Rattle.rules.proofs.Bits.{and-left, and-right, both, same-test, eqb-yes}
 use Rattle.rules.proofs.Boxes.{faceIn→}
-use Rattle.rules.proofs.Store.{stored, number-inj}
+use Rattle.rules.proofs.Store.{number-inj}
+use Rattle.rules.proofs.Numbers.{has-high, has-low, bit-value}
 use Rattle.lattice.specs.Cells.{indexOf, layer}
 use Rattle.lattice.proofs.Laws.{num-below}
 use Rattle.walking.specs.Walks.{oddIn, Fine, seenB, litByte, lightOf, wayOf}
 
 -- ---- bits
-pub has-high : (a : Axis) (b m : ℕ) → has a (b + 8 * m) ≡ has a b
-has-high X b m = ap (λ (k : ℕ). eqb k 1) (let e : (b + 8 * m) % 2 ≡ b % 2 = omega arith in e)
-has-high Y b m = ap (λ (k : ℕ). eqb k 1) (let e : (b + 8 * m) / 2 % 2 ≡ b / 2 % 2 = omega arith in e)
-has-high Z b m = ap (λ (k : ℕ). eqb k 1) (let e : (b + 8 * m) / 4 % 2 ≡ b / 4 % 2 = omega arith in e)
-
-pub has-low : (a : Axis) (b : ℕ) → has a (b % 8) ≡ has a b
-has-low a b = sym (has-high a (b % 8) (b / 8)) ∙ ap (has a) (let e : b % 8 + 8 * (b / 8) ≡ b = omega arith in e)
-
-bit-most : (t : Bool) (w : ℕ) → value t w ≤ w
-bit-most true w = omega arith
-bit-most false w = omega arith
-
-pub byte-most : (F : Set) (p : Point) → byteAt F p ≤ 7
-byte-most F p = let x = bit-most (F X p) 1 in let y = bit-most (F Y p) 2 in let z = bit-most (F Z p) 4 in omega arith
-
-pub zero-has : (a : Axis) → has a 0 ≡ false
-zero-has X = refl
-zero-has Y = refl
-zero-has Z = refl
-
 -- a remainder by 2 is the value of a bit
-pub bit-value : (k : ℕ) → k % 2 ≡ value (eqb (k % 2) 1) 1
-bit-value k = go (k % 2) (omega arith)
-  where
-    go : (m : ℕ) → m < 2 → m ≡ value (eqb m 1) 1
-    go zero h = refl
-    go (suc zero) h = refl
-    go (suc (suc m)) h = absurd (omega arith)
+pub bit-of : (k : ℕ) → k % 2 ≡ value (eqb (k % 2) 1) 1
+bit-of k = let e = bit-value (k % 2) 1 (omega arith) in omega arith
 
 -- the bit of an axis, by a shift
 pub bit-shift : (a : Axis) (k : ℕ) → k / 2 ^ indexOf a % 2 ≡ value (has a k) 1
-bit-shift X k = ap (λ (m : ℕ). m % 2) (div-one k) ∙ bit-value k
-bit-shift Y k = bit-value (k / 2)
-bit-shift Z k = bit-value (k / 4)
+bit-shift X k = ap (λ (m : ℕ). m % 2) (div-one k) ∙ bit-of k
+bit-shift Y k = bit-of (k / 2)
+bit-shift Z k = bit-of (k / 4)
 
 -- 0 before 1: not the one, and the other
 pub bit-less : (o s : Bool) → ltb (value s 1) (value o 1) ≡ o && not s

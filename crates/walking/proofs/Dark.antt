@@ -4,13 +4,14 @@ use mathlib.Core.Bool.{Bool, true, false, cond, true≢false}
 use mathlib.Core.List.{List}
 use Prim.Native.Nat.{ℕ, zero, suc, _+_, _*_, _/_, _%_, _≤_, _<_}
 use native.Mathlib.Decide.{ℕ-discrete}
-use native.Mathlib.Nat.{mod-lt, div-lt-iff-lt-mul, mod-add-div, add-mul-mod-self-left, add-mul-div-left, mod-eq-of-lt, div-eq-of-lt}
+use native.Mathlib.Nat.{mod-lt, div-lt-iff-lt-mul, mod-add-div}
 use native.Mathlib.Omega.{arith}
 use lib.ListN.{length}
 use Rattle.rules.specs.declared.Point.{Point}
 use Rattle.rules.specs.Lattice.{pointCount, cellNumber, pointNumber}
 use Rattle.rules.proofs.Numbers.{number-below}
 use Rattle.rules.proofs.Store.{number-inj}
+use Rattle.rules.proofs.PointOf.{low-digit, high-digit}
 use Rattle.lattice.specs.Cells.{Cell}
 use Rattle.walking.specs.Walks.{seenB, lightOf}
 use Rattle.walking.specs.Bound.{cellOf, darkBelow}
@@ -18,12 +19,6 @@ use Rattle.walking.proofs.Faces.{cell-grid}
 use Rattle.walking.proofs.Bytes.{seen-same, light-other, light-seen}
 
 -- ---- a cell and its number
-low-digit : (n x m : ℕ) → x < n → (x + n * m) % n ≡ x
-low-digit n x m h = add-mul-mod-self-left x n m ∙ mod-eq-of-lt h
-
-high-digit : (n x m : ℕ) → x < n → (x + n * m) / n ≡ m
-high-digit n x m h = add-mul-div-left x m (let z : 0 < n = omega arith in z) ∙ ap (λ (k : ℕ). k + m) (div-eq-of-lt h) ∙ (let z : 0 + m ≡ m = omega arith in z)
-
 cell-of : (n : ℕ) (p : Point) → Cell n p → cellOf n (cellNumber n p) ≡ p
 unfolding cellOf
 cell-of n p c =

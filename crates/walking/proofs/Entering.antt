@@ -12,13 +12,11 @@ use Rattle.rules.specs.Lists.{anyOf}
 use Rattle.rules.specs.declared.Axis.{Axis}
 use Rattle.rules.specs.declared.Point.{Point}
 use Rattle.rules.specs.declared.Place.{Place}
-use Rattle.rules.specs.declared.Box.{Box}
-use Rattle.rules.specs.Lattice.{OfGrid, Set, pointNumber, faceIn, whole, samePoint, pointCount}
+use Rattle.rules.specs.Lattice.{OfGrid, Set, pointNumber, faceIn, whole, samePoint, pointCount, Sub}
 use Rattle.rules.specs.Grid.{has}
 use Rattle.rules.specs.Rims.{joinBox}
-use Rattle.rules.proofs.Bits.{and-left, and-right}
-use Rattle.rules.proofs.Chains.{or-no-left, or-no-right}
-use Rattle.rules.proofs.RimBox.{Sub}
+use Rattle.rules.proofs.Bits.{and-left, and-right, or-no-left, or-no-right}
+use Rattle.rules.proofs.RimBox.{sub-trans, sub-join, join-left, join-right}
 use Rattle.walking.specs.Walks.{seenB, lightOf, oddAt, acrossOf, opposite, backOf, openB, cellBox, Walked, pushOf, over, New}
 use Rattle.walking.specs.Bound.{darkCells}
 use Rattle.walking.proofs.Faces.{Crossed, crossed, cell-grid}
@@ -26,15 +24,6 @@ use Rattle.walking.proofs.Bytes.{seen-same, light-length, light-past, l
 use Rattle.walking.proofs.Dark.{dark-enter}
 use Rattle.walking.proofs.Trail.{not-same, trailOf, Trail, trail-new, trail-lit, byte-on, new-on, trail-on, new-was, each-on, done-on}
 use Rattle.walking.proofs.Invariant.{Settled, Inv, left}
-
-sub-left : (a b c : Box) → Sub a b → Sub a (joinBox b c)
-sub-left a b c h = omega arith
-
-sub-right : (b c : Box) → Sub c (joinBox b c)
-sub-right b c = omega arith
-
-sub-both : (b c d : Box) → Sub b d → Sub c d → Sub (joinBox b c) d
-sub-both b c d h k = omega arith
 
 module _ (n : ℕ) (F : Set) (w₀ : List ℕ) (seed : Point) (inside : (a : Axis) (p : Point) → F a p ≡ true → faceIn (whole n) a p ≡ true) (size : pointCount n ≤ length w₀) where
   module _ (s : Walked) (h : Inv n F w₀ seed s) (f : ℕ) (l : f < 6) (o : openB n F (s .work) (s .walk .cell) f ≡ true) where
@@ -121,7 +110,7 @@ module _ (n : ℕ) (F : Set) (w₀ : List ℕ) (seed : Point) (inside : (a : Axi
       trail = trail′;
       closed = λ q k t. shut q k (sym (ap (anyOf (samePoint q)) trail-is) ∙ t) (was q k);
       holds = λ q k. held q (was q k);
-      least = λ b k. sub-both (s .walk .reach) (cellBox d) b (h .least b (λ q m. k q (new-on n F w₀ seed w _ f small size′ in-grid q m))) (k _ new);
+      least = λ b k. sub-join (s .walk .reach) (cellBox d) b (h .least b (λ q m. k q (new-on n F w₀ seed w _ f small size′ in-grid q m))) (k _ new);
       room = let e = dark-enter n _ f small w size′ (cross .cell) unseen in let r = h .room in omega arith;
     }
       where
@@ -136,8 +125,8 @@ module _ (n : ℕ) (F : Set) (w₀ : List ℕ) (seed : Point) (inside : (a : Axi
             )
 
         held : (q : Point) → (q ≡ d) ⊎ New n F w₀ w seed q → Sub (cellBox q) (joinBox (s .walk .reach) (cellBox d))
-        held q (inl e) = subst (λ (x : Point). Sub (cellBox x) (joinBox (s .walk .reach) (cellBox d))) (sym e) (sub-right (s .walk .reach) _)
-        held q (inr m) = sub-left (cellBox q) (s .walk .reach) _ (h .holds q m)
+        held q (inl e) = subst (λ (x : Point). Sub (cellBox x) (joinBox (s .walk .reach) (cellBox d))) (sym e) (join-right (s .walk .reach) _)
+        held q (inr m) = sub-trans (cellBox q) (s .walk .reach) _ (h .holds q m) (join-left (s .walk .reach) _)
 
     pub push-left : suc (left n (pushOf n f s)) ≡ suc (s .walk .depth + 2 * darkCells n w)
     push-left = let e = dark-enter n _ f small w size′ (cross .cell) unseen in omega arith

@@ -3,7 +3,7 @@ use mathlib.Core.Path.{_≡_, refl, sym, ap, ap₂, _∙_, subst}
 use mathlib.Core.Logic.{_⊎_, inl, inr}
 use mathlib.Core.Bool.{Bool, true, false}
 use Prim.Native.Nat.{ℕ, zero, suc, pred, _+_, _-_, _≤_, _<_}
-use native.Mathlib.Nat.{add-zero, le-trans, lt-of-le-of-lt}
+use native.Mathlib.Nat.{add-zero, le-trans}
 use native.Mathlib.Numerals.{add-one}
 use native.Mathlib.Omega.{arith}
 use lib.Dec.{eqb}
@@ -15,9 +15,10 @@ use Rattle.rules.specs.Lattice.{coord, up, down, faceIn, whole, OfGrid}
 use Rattle.rules.specs.Grid.{value}
 use Rattle.rules.proofs.Bits.{eqb→}
 use Rattle.rules.proofs.Boxes.{faceIn→}
+use Rattle.rules.proofs.Rims.{down-up, pred-suc}
 use Rattle.lattice.specs.Cells.{faceRule, faceOf, indexOf, Cell}
 use Rattle.lattice.proofs.Laws.{face-small}
-use Rattle.lattice.proofs.PointSteps.{up-down}
+use Rattle.lattice.proofs.PointSteps.{up-down, pred-most, down-cell}
 use Rattle.walking.specs.Walks.{Inside, acrossOf, opposite}
 
 -- ---- a lower and an upper face on each axis
@@ -75,18 +76,6 @@ which (suc (suc (suc (suc (suc zero))))) h = inr (Z, refl)
 which (suc (suc (suc (suc (suc (suc f)))))) h = absurd (omega arith)
 
 -- ---- points and cells around a cell
-pred-is : (k : ℕ) → pred (suc k) ≡ k
-pred-is k = omega arith
-
-pub down-up : (a : Axis) (p : Point) → down a (up a p) ≡ p
-down-up X p = λ i. record { i = pred-is (p .i) i; j = p .j; k = p .k }
-down-up Y p = λ i. record { i = p .i; j = pred-is (p .j) i; k = p .k }
-down-up Z p = λ i. record { i = p .i; j = p .j; k = pred-is (p .k) i }
-
-pub pred-most : (k : ℕ) → pred k ≤ k
-pred-most zero = let e : pred 0 ≡ 0 = refl in omega arith
-pred-most (suc k) = let e = pred-is k in omega arith
-
 pub cell-grid : (n : ℕ) (c : Point) → Cell n c → OfGrid n c
 cell-grid n c h = omega arith
 
@@ -98,11 +87,6 @@ pub down-grid : (n : ℕ) (a : Axis) (p : Point) → OfGrid n p → OfGrid n (do
 down-grid n X p h = let m = pred-most (p .i) in record { i = le-trans m (h .i); j = h .j; k = h .k }
 down-grid n Y p h = let m = pred-most (p .j) in record { i = h .i; j = le-trans m (h .j); k = h .k }
 down-grid n Z p h = let m = pred-most (p .k) in record { i = h .i; j = h .j; k = le-trans m (h .k) }
-
-pub down-cell : (n : ℕ) (a : Axis) (p : Point) → Cell n p → Cell n (down a p)
-down-cell n X p h = let m = pred-most (p .i) in record { i = lt-of-le-of-lt m (h .i); j = h .j; k = h .k }
-down-cell n Y p h = let m = pred-most (p .j) in record { i = h .i; j = lt-of-le-of-lt m (h .j); k = h .k }
-down-cell n Z p h = let m = pred-most (p .k) in record { i = h .i; j = h .j; k = lt-of-le-of-lt m (h .k) }
 
 -- a face between two cells: its upper cell, and its place above the lowest layer
 pub face-cell : (n : ℕ) (a : Axis) (p : Point) → faceIn (whole n) a p ≡ true → Cell n p × (1 ≤ coord a p)
@@ -158,7 +142,7 @@ across-sum n f c l h = go f l h
   where
     low : (k : ℕ) → 1 ≤ k → k + 0 - 1 ≡ pred k
     low zero e = absurd (omega arith)
-    low (suc k) e = let p = pred-is k in omega arith
+    low (suc k) e = let p = pred-suc k in omega arith
 
     same : (k : ℕ) → k + 0 - 0 ≡ k
     same k = omega arith

@@ -9,9 +9,8 @@ use Rattle.rules.specs.Lists.{anyOf}
 use Rattle.rules.specs.declared.Axis.{Axis}
 use Rattle.rules.specs.declared.Point.{Point}
 use Rattle.rules.specs.declared.Box.{Box}
-use Rattle.rules.specs.Lattice.{OfGrid, Set, pointNumber, samePoint, pointCount}
-use Rattle.rules.proofs.RimBox.{Sub}
-use Rattle.rules.proofs.Store.{stored}
+use Rattle.rules.specs.Lattice.{OfGrid, Set, pointNumber, samePoint, pointCount, Sub}
+use Rattle.rules.specs.Grid.{stored}
 use Rattle.lattice.specs.Cells.{layer}
 use Rattle.walking.specs.Walks.{cellBox, Walked, New, Done, Found}
 use Rattle.walking.specs.Bound.{darkCells}

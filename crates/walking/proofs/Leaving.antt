@@ -10,17 +10,16 @@ use Rattle.rules.specs.Lists.{anyOf}
 use Rattle.rules.specs.declared.Axis.{Axis}
 use Rattle.rules.specs.declared.Point.{Point}
 use Rattle.rules.specs.declared.Box.{Box}
-use Rattle.rules.specs.Lattice.{OfGrid, Set, pointNumber, faceIn, whole, samePoint, pointCount}
-use Rattle.rules.specs.Grid.{has}
+use Rattle.rules.specs.Lattice.{OfGrid, Set, pointNumber, faceIn, whole, samePoint, pointCount, Sub}
+use Rattle.rules.specs.Grid.{has, stored}
 use Rattle.rules.proofs.Bits.{both}
 use Rattle.rules.proofs.Cuts.{samePoint→}
-use Rattle.rules.proofs.RimBox.{Sub}
-use Rattle.rules.proofs.Store.{stored}
+use Rattle.rules.proofs.Numbers.{has-low}
 use Rattle.lattice.specs.Cells.{layer}
 use Rattle.walking.specs.Walks.{seenB, acrossOf, leaveOf, oddAt, backOf, firstOpen, cellBox, Walked, popOf, stopOf, New, Done, Found}
 use Rattle.walking.specs.Bound.{darkCells}
 use Rattle.walking.proofs.Faces.{cell-grid}
-use Rattle.walking.proofs.Bytes.{has-low, light-length, light-past, light-low, light-odd}
+use Rattle.walking.proofs.Bytes.{light-length, light-past, light-low, light-odd}
 use Rattle.walking.proofs.Dark.{dark-leave}
 use Rattle.walking.proofs.FirstOpen.{first-none}
 use Rattle.walking.proofs.Trail.{not-same, trailOf, Trail, trail-new, byte-on, new-on, trail-on, new-was, each-on, done-on}

@@ -11,9 +11,8 @@ use borrow.Author.Tests.{ltb-true, ltb-false, eqb-true, eqb-false}
 use Rattle.rules.specs.declared.Axis.{Axis}
 use Rattle.rules.specs.declared.Point.{Point}
 use Rattle.rules.specs.declared.Box.{Box}
-use Rattle.rules.specs.Lattice.{OfGrid, Set, faceIn, whole, samePoint, pointCount}
-use Rattle.rules.proofs.Chains.{or-no-left}
-use Rattle.rules.proofs.RimBox.{Sub}
+use Rattle.rules.specs.Lattice.{OfGrid, Set, faceIn, whole, samePoint, pointCount, Sub}
+use Rattle.rules.proofs.Bits.{or-no-left}
 use Rattle.lattice.specs.Cells.{layer, Cell}
 use Rattle.walking.specs.Walks.{seenB, lightOf, firstOpen, cellBox, Walked, pushOf, popOf, stopOf, stepOf, here, New}
 use Rattle.walking.specs.Bound.{darkCells}

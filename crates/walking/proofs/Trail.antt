@@ -11,8 +11,8 @@ use Rattle.rules.specs.declared.Axis.{Axis}
 use Rattle.rules.specs.declared.Point.{Point}
 use Rattle.rules.specs.Lattice.{OfGrid, Set, pointNumber, faceIn, whole, samePoint, pointCount}
 use Rattle.rules.proofs.Cuts.{samePoint→}
-use Rattle.rules.proofs.Chains.{same-point, or-no-left, or-no-right}
-use Rattle.rules.proofs.Bits.{is-false}
+use Rattle.rules.proofs.Chains.{same-point}
+use Rattle.rules.proofs.Bits.{is-false, or-no-left, or-no-right}
 use Rattle.rules.proofs.Store.{number-inj}
 use Rattle.lattice.specs.Cells.{Cell}
 use Rattle.walking.specs.Walks.{seenB, lightOf, wayOf, oddAt, acrossOf, opposite, backOf, New, Done}

@@ -10,11 +10,9 @@ use Rattle.rules.specs.declared.Axis.{Axis}
 use Rattle.rules.specs.declared.Axis.the-variants.{X, Y, Z}
 use Rattle.rules.specs.declared.Point.{Point}
 use Rattle.rules.specs.declared.Box.{Box}
-use Rattle.rules.specs.Lattice.{up, down, Set, OfGrid, pointNumber, faceIn, whole, pointCount}
-use Rattle.rules.specs.Grid.{has}
+use Rattle.rules.specs.Lattice.{up, down, Set, OfGrid, pointNumber, faceIn, whole, pointCount, Sub}
+use Rattle.rules.specs.Grid.{has, stored}
 use Rattle.rules.specs.Rims.{joinBox}
-use Rattle.rules.proofs.RimBox.{Sub}
-use Rattle.rules.proofs.Store.{stored}
 use Rattle.lattice.specs.Cells.{faceOf, layer, Cell}
 use Rattle.walking.specs.declared.Walk.{Walk}
 

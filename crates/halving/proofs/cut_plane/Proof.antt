@@ -5,7 +5,7 @@ use Prim.Native.Nat.{_-_, _≤_}
 use native.Mathlib.Omega.{arith}
 use Rattle.rules.specs.Lattice.{coord}
 use Rattle.halving.proofs.Scans.{Planing, planing-on, planing-end}
-use Rattle.halving.proofs.Boxes.{coord-most}
+use Rattle.halving.proofs.Scans.{fits-coord}
 use Rattle.rules.specs.declared.Axis.{Axis}
 
 abbrev Inv-loop : tie.InvT-loop
@@ -38,14 +38,14 @@ loop-holds c = record { scan = refl; unpaired = let f = c .before .before .befor
 pair-row-requires : tie.Need-pair-row-requires Inv-loop μ-loop
 pair-row-requires c κs =
     let f = c .before .before .before .before .before .before .before .before .before .before .before .before .before .before .pre .3 in
-    let x = coord-most (c .before .before .before .before .before .before .before .before .before .before .before .before .before .before .args .n) (c .before .before .before .before .before .before .before .before .before .before .before .before .before .before .args .b) (c .before .before .before .before .before .before .before .before .before .before .before .before .before .before .args .a) f in
-    let e : c .before .before .before .before .before .coordinate3 .result ≤ c .before .before .before .before .before .before .before .before .before .before .before .before .before .before .args .n = rw (c .before .before .before .before .before .coordinate3 .ensures) (coord-most (c .before .before .before .before .before .before .before .before .before .before .before .before .before .before .args .n) (c .before .before .before .before .before .before .before .before .before .before .before .before .before .before .args .b) (c .before .before .before .before .before .before .before .before .later .result) f) in
-    (c .before .before .before .before .before .before .before .before .before .before .before .before .before .before .pre .0, rw (c .before .before .before .loop .inv .g-long) (c .before .before .before .before .before .before .before .before .before .before .before .before .before .before .pre .1), rw (c .before .before .before .loop .inv .w-long) (c .before .before .before .before .before .before .before .before .before .before .before .before .before .before .pre .2), omega (arith, c .before .before .before .before .before .before .before .before .before .before .before .before .before .before .pre .4), omega (arith, c .before .before .before .before .before .before .before .before .before .before .before .before .before .before .pre .5), rw (c .before .before .before .before .before .before .coordinate2 .ensures) (coord-most (c .before .before .before .before .before .before .before .before .before .before .before .before .before .before .args .n) (c .before .before .before .before .before .before .before .before .before .before .before .before .before .before .args .b) (c .before .before .before .before .before .before .before .before .before .earlier .result) f), omega (arith, c .before .before .loop-test .taken), c .before .before .before .loop .inv .unpaired)
+    let x = fits-coord (c .before .before .before .before .before .before .before .before .before .before .before .before .before .before .args .n) (c .before .before .before .before .before .before .before .before .before .before .before .before .before .before .args .b) (c .before .before .before .before .before .before .before .before .before .before .before .before .before .before .args .a) f in
+    let e : c .before .before .before .before .before .coordinate3 .result ≤ c .before .before .before .before .before .before .before .before .before .before .before .before .before .before .args .n = rw (c .before .before .before .before .before .coordinate3 .ensures) (fits-coord (c .before .before .before .before .before .before .before .before .before .before .before .before .before .before .args .n) (c .before .before .before .before .before .before .before .before .before .before .before .before .before .before .args .b) (c .before .before .before .before .before .before .before .before .later .result) f) in
+    (c .before .before .before .before .before .before .before .before .before .before .before .before .before .before .pre .0, rw (c .before .before .before .loop .inv .g-long) (c .before .before .before .before .before .before .before .before .before .before .before .before .before .before .pre .1), rw (c .before .before .before .loop .inv .w-long) (c .before .before .before .before .before .before .before .before .before .before .before .before .before .before .pre .2), omega (arith, c .before .before .before .before .before .before .before .before .before .before .before .before .before .before .pre .4), omega (arith, c .before .before .before .before .before .before .before .before .before .before .before .before .before .before .pre .5), rw (c .before .before .before .before .before .before .coordinate2 .ensures) (fits-coord (c .before .before .before .before .before .before .before .before .before .before .before .before .before .before .args .n) (c .before .before .before .before .before .before .before .before .before .before .before .before .before .before .args .b) (c .before .before .before .before .before .before .before .before .before .earlier .result) f), omega (arith, c .before .before .loop-test .taken), c .before .before .before .loop .inv .unpaired)
 
 add-v : tie.Need-add-v Inv-loop μ-loop
 add-v c =
     let f = c .before .before .before .before .before .before .before .before .before .before .before .before .before .before .before .before .before .before .before .pre .3 in
-    let e : c .before .before .before .before .before .before .before .before .before .before .coordinate3 .result ≤ c .before .before .before .before .before .before .before .before .before .before .before .before .before .before .before .before .before .before .before .args .n = rw (c .before .before .before .before .before .before .before .before .before .before .coordinate3 .ensures) (coord-most (c .before .before .before .before .before .before .before .before .before .before .before .before .before .before .before .before .before .before .before .args .n) (c .before .before .before .before .before .before .before .before .before .before .before .before .before .before .before .before .before .before .before .args .b) (c .before .before .before .before .before .before .before .before .before .before .before .before .before .later .result) f) in
+    let e : c .before .before .before .before .before .before .before .before .before .before .coordinate3 .result ≤ c .before .before .before .before .before .before .before .before .before .before .before .before .before .before .before .before .before .before .before .args .n = rw (c .before .before .before .before .before .before .before .before .before .before .coordinate3 .ensures) (fits-coord (c .before .before .before .before .before .before .before .before .before .before .before .before .before .before .before .before .before .before .before .args .n) (c .before .before .before .before .before .before .before .before .before .before .before .before .before .before .before .before .before .before .before .args .b) (c .before .before .before .before .before .before .before .before .before .before .before .before .before .later .result) f) in
     omega (arith, c .before .before .before .before .before .before .before .loop-test .taken, c .before .before .before .before .before .before .before .before .before .before .before .before .before .before .before .before .before .before .before .pre .0)
 
 loop-less : tie.Need-loop-less Inv-loop μ-loop

@@ -11,7 +11,7 @@ use Rattle.rules.specs.Lists.{upto}
 use Rattle.rules.specs.Lattice.{pointCount, pointOf}
 use Rattle.rules.specs.Grid.{marks}
 use Rattle.rules.specs.Signs.{sign, signBytes}
-use Rattle.signing.proofs.Written.{written, write-more, write-end}
+use Rattle.lattice.proofs.Written.{written, write-more, write-end}
 use Rattle.signing.proofs.Rows.{signOf, signs-by-number, signs-length, first-outside, sign-next}
 use Rattle.signing.proofs.sign_grid.Statement.{statement}
 use Rattle.signing.proofs.sign_grid.Tie as tie

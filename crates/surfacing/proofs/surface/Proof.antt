@@ -11,7 +11,7 @@ use Rattle.lattice.proofs.LevelFacts.{cells-most}
 use Rattle.lattice.proofs.Tests.{fails, holds}
 use Rattle.refusals.specs.Columns.{badLevel, levelAt}
 use Rattle.refusals.proofs.Levels.{read-unknown, read-known}
-use Rattle.surfacing.specs.Fit.{signsFit, Grids}
+use Rattle.surfacing.specs.Fit.{signBytesFit, Grids}
 use Rattle.surfacing.specs.Call.{listed, surfaceRows, surfaceCall}
 use Rattle.surfacing.proofs.surface.Statement.{statement}
 use Rattle.surfacing.proofs.surface.Tie as tie
@@ -37,7 +37,7 @@ known c = record {
 fit : (c : tie.Else4) →
     let s = c .before .before .before .before .before .before .before .before .before .before .before .before .before .before .before in
     let n = cellsOf (c .before .before .before .before .before .before .before .before .before .l .given .0 .0) in
-    signsFit n (marks n (s .args .grid .now)) (s .args .signs .now) ≡ true
+    signBytesFit n (marks n (s .args .grid .now)) (s .args .signs .now) ≡ true
 fit c = holds (rw (c .before .before .before .before .before .before .before .cells .ensures) at (c .before .signs-fit .ensures)) (c .if4 .left)
 
 read-requires : tie.Need-read-requires

@@ -7,8 +7,8 @@ use native.Mathlib.Omega.{arith}
 use lib.ListN.{length, length-set}
 use Rattle.rules.specs.Lists.{each}
 use Rattle.rules.specs.Lattice.{pointCount}
+use Rattle.rules.specs.Signs.{inside}
 use Rattle.lattice.proofs.Points.{pointsFrom, points-start, points-end, At, at-start, at-grid, at-next}
-use Rattle.signing.specs.SignBytes.{inside}
 use Rattle.streaming.specs.Text.{Put}
 use Rattle.streaming.specs.Picture.{pointText, picture}
 use Rattle.streaming.proofs.Texts.{put-none}

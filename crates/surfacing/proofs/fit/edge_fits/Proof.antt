@@ -4,7 +4,8 @@ use mathlib.Core.Path.{sym}
 use Prim.Native.Nat.{_<_}
 use native.Mathlib.Omega.{arith}
 use Rattle.rules.specs.Lattice.{coord}
-use Rattle.surfacing.proofs.Steps.{below, up-below}
+use Rattle.lattice.proofs.Laws.{num-below}
+use Rattle.surfacing.proofs.Steps.{up-below}
 use Rattle.surfacing.proofs.Fits.{edge-beyond, edge-is}
 use Rattle.surfacing.proofs.fit.edge_fits.Statement.{statement}
 use Rattle.surfacing.proofs.fit.edge_fits.Tie as tie
@@ -33,7 +34,7 @@ add-r c =
     omega (arith, c .step .ensures)
 
 shared-slice-read-is-inside : tie.Need-shared-slice-read-is-inside
-shared-slice-read-is-inside c = let start = c .before .before .before .before .before .before in omega (arith, below (start .args .n) (start .args .q) (start .pre .2))
+shared-slice-read-is-inside c = let start = c .before .before .before .before .before .before in omega (arith, num-below (start .args .n) (start .args .q) (start .pre .2))
 
 is-inside-requires : tie.Need-is-inside-requires
 is-inside-requires c κs = search needs
@@ -48,7 +49,7 @@ is-inside-requires-2 : tie.Need-is-inside-requires-2
 is-inside-requires-2 c κs = search needs
 
 shared-slice-read-bit : tie.Need-shared-slice-read-bit
-shared-slice-read-bit c = let start = c .before .before .before .before .before .before .before .before .before .before in omega (arith, below (start .args .n) (start .args .q) (start .pre .2))
+shared-slice-read-bit c = let start = c .before .before .before .before .before .before .before .before .before .before in omega (arith, num-below (start .args .n) (start .args .q) (start .pre .2))
 
 bit-requires : tie.Need-bit-requires
 bit-requires c κs = search needs

@@ -1,27 +1,34 @@
 -- `surfacing::fit::signs_fit` meets its contract. The loop's invariant: the scan stands at point q, of number p, and the points
 -- from there on fit exactly when the signs do. Assumes nothing.
 use mathlib.Core.Path.{_≡_, sym, _∙_}
-use mathlib.Core.Bool.{true, false}
-use Prim.Native.Nat.{_-_, _≤_, _<_}
+use mathlib.Core.Bool.{true, false, Bool, _&&_}
+use mathlib.Core.List.{List}
+use Prim.Native.Nat.{_-_, _≤_, _<_, ℕ}
 use native.Mathlib.Omega.{arith}
 use native.Mathlib.Numerals.{add-one}
 use Rattle.rules.specs.Lists.{allOf}
 use Rattle.rules.specs.Lattice.{pointCount}
 use Rattle.rules.specs.Grid.{marks}
+use Rattle.rules.specs.Signs.{inside}
+use Rattle.rules.specs.declared.Point.{Point}
 use Rattle.lattice.proofs.Tests.{fails, holds}
 use Rattle.lattice.proofs.Points.{pointsFrom, At, at-start, at-grid, at-next, all-start, all-more, all-fails, all-end}
-use Rattle.surfacing.specs.Fit.{pointFits, signsFit}
+use Rattle.surfacing.specs.Fit.{pointFits, smallSign, signBytesFit}
 use Rattle.surfacing.proofs.Steps.{count-some}
 use Rattle.surfacing.proofs.Fits.{origin-inside, origin-outside}
 use Rattle.surfacing.proofs.fit.signs_fit.Statement.{statement}
 use Rattle.surfacing.proofs.fit.signs_fit.Tie as tie
+
+-- the sign of a point is not above 1, and its edges fit
+abbrev fits : ℕ → List ℕ → List ℕ → Point → Bool
+fits n g s p = smallSign n s p && pointFits n (marks n g) (inside n s) p
 
 abbrev Inv-loop : tie.InvT-loop
 Inv-loop n grid signs count q₀ p₀ q p =
     (count ≡ pointCount n)
     × (p ≤ pointCount n)
     × At n p q
-    × (allOf (pointFits n (marks n grid) signs) (pointsFrom n p) ≡ signsFit n (marks n grid) signs)
+    × (allOf (fits n grid signs) (pointsFrom n p) ≡ signBytesFit n (marks n grid) signs)
 
 abbrev μ-loop : tie.MeasureT-loop
 μ-loop n grid signs count q₀ p₀ q p = count - p
@@ -53,7 +60,7 @@ returns-2 : tie.Need-returns-2 Inv-loop μ-loop
 returns-2 c =
     let start = c .before .before .before .before .before .before .before .before .before .before in
     let l = c .before .before .before .loop in
-    let f = pointFits (start .args .n) (marks (start .args .n) (start .args .grid .now)) (start .args .signs .now) in
+    let f = fits (start .args .n) (start .args .grid .now) (start .args .signs .now) in
     let h : l .p < pointCount (start .args .n) = omega arith in
     let e : f (l .q) ≡ false = fails {a = f (l .q)} (c .before .point-fits .ensures) (c .if2 .taken) in
     sym (all-fails f _ (l .p) (l .q) (l .inv .2) h e) ∙ l .inv .3
@@ -75,7 +82,7 @@ loop-again : tie.Need-loop-again Inv-loop μ-loop
 loop-again c =
     let start = c .before .before .before .before .before .before .before .before .before .before .before in
     let l = c .before .before .before .before .loop in
-    let f = pointFits (start .args .n) (marks (start .args .n) (start .args .grid .now)) (start .args .signs .now) in
+    let f = fits (start .args .n) (start .args .grid .now) (start .args .signs .now) in
     let h : l .p < pointCount (start .args .n) = omega (arith, l .inv .0, c .before .before .before .loop-test .taken) in
     let e : f (l .q) ≡ true = holds {a = f (l .q)} (c .before .before .point-fits .ensures) (c .before .if2 .left) in
     (l .inv .0, omega arith, rw (add-one, c .next-point .ensures) (at-next _ (l .p) (l .q) (l .inv .2) h), rw add-one (all-more f _ (l .p) (l .q) (l .inv .2) h e ∙ l .inv .3))
@@ -84,7 +91,7 @@ returns-3 : tie.Need-returns-3 Inv-loop μ-loop
 returns-3 c =
     let start = c .before .before .before .before .before .before .before .before in
     let l = c .before .loop in
-    let f = pointFits (start .args .n) (marks (start .args .n) (start .args .grid .now)) (start .args .signs .now) in
+    let f = fits (start .args .n) (start .args .grid .now) (start .args .signs .now) in
     sym (all-end f _ (l .p) (omega (arith, l .inv .0, c .loop-test .left))) ∙ l .inv .3
 
 pub signs-fit-spec : {M : Type 1} → statement M

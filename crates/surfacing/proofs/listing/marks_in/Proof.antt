@@ -2,7 +2,7 @@
 use borrow.Author.Needs.{needs}
 use Prim.Native.Nat.{_/_, _%_}
 use native.Mathlib.Omega.{arith}
-use Rattle.surfacing.proofs.Quads.{bit-value}
+use Rattle.rules.proofs.Numbers.{bit-value}
 use Rattle.surfacing.proofs.listing.marks_in.Statement.{statement}
 use Rattle.surfacing.proofs.listing.marks_in.Tie as tie
 
@@ -18,9 +18,9 @@ cast-result c = search needs
 returns : tie.Need-returns
 returns c =
     let b = c .args .b in
-    let x = bit-value (b % 2) (omega arith) in
-    let y = bit-value (b / 2 % 2) (omega arith) in
-    let z = bit-value (b / 4 % 2) (omega arith) in
+    let x = bit-value (b % 2) 1 (omega arith) in
+    let y = bit-value (b / 2 % 2) 1 (omega arith) in
+    let z = bit-value (b / 4 % 2) 1 (omega arith) in
     (omega arith, omega arith)
 
 pub marks-in-spec : {M : Type 1} → statement M

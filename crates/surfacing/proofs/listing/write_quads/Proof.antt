@@ -9,9 +9,9 @@ use lib.Seq.{sets}
 use Rattle.rules.specs.Lattice.{pointCount}
 use Rattle.rules.specs.Grid.{marks}
 use Rattle.rules.specs.Quads.{quads}
+use Rattle.rules.specs.Signs.{inside}
 use Rattle.lattice.proofs.Points.{At, at-start, at-grid, at-next}
-use Rattle.signing.specs.SignBytes.{inside}
-use Rattle.signing.proofs.Written.{written}
+use Rattle.lattice.proofs.Written.{written}
 use Rattle.surfacing.specs.Listing.{quadCount}
 use Rattle.surfacing.proofs.Around.{marks-inner-at}
 use Rattle.surfacing.proofs.Quads.{quadsFrom, quads-start, quads-end, quads-byte, quads-length, quads-room, quads-written}
