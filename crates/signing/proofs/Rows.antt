@@ -10,7 +10,7 @@ use native.Mathlib.Decide.{decLt}
 use lib.ListN.{length, getD, length-map}
 use Rattle.rules.specs.declared.Axis.the-variants.{X}
 use Rattle.rules.specs.Lists.{_⊕_, upto}
-use Rattle.rules.specs.Lattice.{up, pointNumber, pointCount, pointOf, OfGrid, points, Set, whole}
+use Rattle.rules.specs.Lattice.{up, pointNumber, pointCount, pointOf, OfGrid, points, Set, whole, origin}
 use Rattle.rules.specs.Grid.{value, has, marks, isGrid}
 use Rattle.rules.specs.Rims.{evenFaces}
 use Rattle.rules.specs.Signs.{sign, signBytes}
@@ -35,16 +35,16 @@ pub signs-length : (n : ℕ) (E : Set) → length (signBytes n E) ≡ pointCount
 unfolding signBytes
 signs-length n E = length-map (points (suc n)) _ ∙ points-length (suc n)
 
+-- point (0,0,0) is outside
+pub first-outside : (n : ℕ) (E : Set) → sign E (pointOf n 0) ≡ false
+first-outside n E = ap (sign E) (let e : pointNumber n origin ≡ 0 = omega arith in ap (pointOf n) (sym e) ∙ pointOf-number n origin (omega arith))
+
 module _ (n : ℕ) (g : List ℕ) (long : pointCount n ≤ length g) (grid : isGrid n g ≡ true) where
   -- the x mark of a byte
   byte-has : (p : ℕ) → p < pointCount n → marks n g X (pointOf n p) ≡ has X (getD g p 0)
   byte-has p h = sym (grid-marks n g long grid X (pointOf n p) (pointOf-grid n p h)) ∙ ap (λ (i : ℕ). has X (getD g i 0)) (number-pointOf n p)
 
   module _ (even : evenFaces n (marks n g) ≡ true) where
-    -- point (0,0,0) is outside
-    pub first-outside : sign (marks n g) (pointOf n 0) ≡ false
-    first-outside = grid-outer n g grid even X (pointOf n 0) (inl (zero-mod (suc n)))
-
     -- the next sign by rising number
     pub sign-next : (p : ℕ) → p < pointCount n → sign (marks n g) (pointOf n (suc p)) ≡ sign (marks n g) (pointOf n p) ⊕ has X (getD g p 0)
     sign-next p h = go (decLt (p % suc n) n) (pointOf-grid n p h) (byte-has p h)

@@ -87,6 +87,23 @@ four-long n s e = go (s (e .at))
     go true = refl
     go false = refl
 
+-- what is written of a point is four numbers for each mark of its byte, whether it is inside or outside
+pub quad-long : (n b : ℕ) (inside : Bool) (a : Axis) (q : Point) → length (byteQuad n b inside a q) ≡ 4 * value (has a b) 1
+quad-long n b inside a q = go (has a b)
+  where
+    go : (c : Bool) → length (cond c (quad n (λ p. inside) (record { axis = a; at = q })) []) ≡ 4 * value c 1
+    go true = four-long n (λ p. inside) (record { axis = a; at = q })
+    go false = refl
+
+pub quads-long : (n b : ℕ) (inside : Bool) (q : Point) → length (byteQuads n b inside q) ≡ 4 * byteMarks b
+unfolding byteQuads
+quads-long n b inside q =
+    let f : Axis → List ℕ = λ a. byteQuad n b inside a q in
+    let x = quad-long n b inside X q in
+    let y = quad-long n b inside Y q in
+    let z = quad-long n b inside Z q in
+    simp length-append (omega arith)
+
 -- the list has four numbers a quad
 pub quads-length : (n : ℕ) (E : Set) (s : Point → Bool) → length (quads n E s) ≡ 4 * quadCount n E
 unfolding quads quadCount
@@ -140,31 +157,18 @@ unfolding byteQuads
 quads-none n b inside q e = rw e
 
 -- ---- the quads of the three edges at a point, written one behind the other
-module _ (l : List ℕ) (i : ℕ) (x y z : List ℕ) (room : i + length (x ++ (y ++ (z ++ []))) ≤ length l) where
-  long : length (x ++ (y ++ (z ++ []))) ≡ length x + (length y + length z)
-  long = let a = length-append x (y ++ (z ++ [])) in let b = length-append y (z ++ []) in let c = length-append z [] in omega arith
-
-  pub room-x : i + length x ≤ length l
-  room-x = let a = long in omega arith
-
-  module _ (j : ℕ) (m : List ℕ) (ex : (j ≡ i + length x) × (m ≡ sets l i x)) where
-    pub room-y : j + length y ≤ length m
-    room-y = let a = long in let b = ap length (ex .1) ∙ length-sets l i x in omega arith
-
-    module _ (k : ℕ) (o : List ℕ) (ey : (k ≡ j + length y) × (o ≡ sets m j y)) where
-      pub room-z : k + length z ≤ length o
-      room-z = let a = long in let b = ap length (ex .1) ∙ length-sets l i x in let c = ap length (ey .1) ∙ length-sets m j y in omega arith
-
-      pub three-written : (h : ℕ) (r : List ℕ) → (h ≡ k + length z) × (r ≡ sets o k z) → (h ≡ i + length (x ++ (y ++ (z ++ [])))) × (r ≡ sets l i (x ++ (y ++ (z ++ []))))
-      three-written h r ez = (
-        let a = long in omega arith,
-        ez .1
-            ∙ ap₂ (λ (d : List ℕ) (t : ℕ). sets d t z) (ey .1 ∙ ap₂ (λ (d : List ℕ) (t : ℕ). sets d t y) (ex .1) (ex .0)) (ey .0 ∙ ap (λ (t : ℕ). t + length y) (ex .0))
-            ∙ ap (λ (d : List ℕ). sets d (i + length x + length y) z) (sets-append l i x y)
-            ∙ ap (λ (t : ℕ). sets (sets l i (x ++ y)) t z) (let a = length-append x y in let e : i + length x + length y ≡ i + length (x ++ y) = omega arith in e)
-            ∙ sets-append l i (x ++ y) z
-            ∙ ap (λ (d : List ℕ). sets l i d) (append-assoc x y z ∙ ap (λ (d : List ℕ). x ++ (y ++ d)) (sym (append-nil z))),
-      )
+pub three-written : (l : List ℕ) (i : ℕ) (x y z : List ℕ) {j k h : ℕ} {m o r : List ℕ} →
+    (j ≡ i + length x) × (m ≡ sets l i x) → (k ≡ j + length y) × (o ≡ sets m j y) → (h ≡ k + length z) × (r ≡ sets o k z) →
+    (h ≡ i + length (x ++ (y ++ (z ++ [])))) × (r ≡ sets l i (x ++ (y ++ (z ++ []))))
+three-written l i x y z ex ey ez = (
+  simp length-append (omega arith),
+  ez .1
+      ∙ ap₂ (λ (d : List ℕ) (t : ℕ). sets d t z) (ey .1 ∙ ap₂ (λ (d : List ℕ) (t : ℕ). sets d t y) (ex .1) (ex .0)) (ey .0 ∙ ap (λ (t : ℕ). t + length y) (ex .0))
+      ∙ ap (λ (d : List ℕ). sets d (i + length x + length y) z) (sets-append l i x y)
+      ∙ ap (λ (t : ℕ). sets (sets l i (x ++ y)) t z) (let a = length-append x y in let e : i + length x + length y ≡ i + length (x ++ y) = omega arith in e)
+      ∙ sets-append l i (x ++ y) z
+      ∙ ap (λ (d : List ℕ). sets l i d) (append-assoc x y z ∙ ap (λ (d : List ℕ). x ++ (y ++ d)) (sym (append-nil z))),
+)
 
 -- ---- one turn of the loop that writes: the quads of a point are written, and those behind it are left
 module _ (n : ℕ) (E : Set) (s : Point → Bool) (p : ℕ) (q : Point) (a : At n p q) (h : p < pointCount n) where
@@ -185,3 +189,13 @@ module _ (n : ℕ) (E : Set) (s : Point → Bool) (p : ℕ) (q : Point) (a : At 
             ∙ sets-append l i (quadsAt n E s q) (quadsFrom n E s (suc p))
             ∙ ap (λ (d : List ℕ). sets l i d) (sym t),
       )
+
+-- the room for the quads of a point, whether it is inside or outside
+pub byte-room : (n : ℕ) (g s : List ℕ) (p : ℕ) (q : Point) (x : Bool) (i : ℕ) (l : List ℕ) → Grids n g s → At n p q → p < pointCount n →
+    i + length (quadsFrom n (marks n g) (inside n s) p) ≤ length l → i + length (byteQuads n (getD g p 0) x q) ≤ length l
+byte-room n g s p q x i l k a h r =
+    let w = quads-room n (marks n g) (inside n s) p q a h i l r in
+    let e = ap length (quads-byte n g s p q (saysInside (getD s p 0)) k a h refl) in
+    let u = quads-long n (getD g p 0) (saysInside (getD s p 0)) q in
+    let v = quads-long n (getD g p 0) x q in
+    omega arith

@@ -15,6 +15,7 @@ use Rattle.refusals.specs.Columns.{badLevel, levelAt}
 use Rattle.refusals.proofs.Levels.{read-unknown, read-known}
 use Rattle.signing.specs.Call.{done, signRows, signCall}
 use Rattle.signing.proofs.sign.Statement.{statement}
+use native.Mathlib.Omega.{arith}
 use Rattle.signing.proofs.sign.Tie as tie
 
 -- the tests passed on the way

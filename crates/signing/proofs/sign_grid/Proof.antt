@@ -33,7 +33,7 @@ point-count-requires c κs = omega arith
 loop-holds : tie.Need-loop-holds Inv-loop μ-loop
 loop-holds c =
     let start = c .before .before .before in
-    (c .point-count .ensures .0, omega arith, refl, sym (first-outside (start .args .n) (start .args .grid .now) (start .pre .0 .1) (start .pre .1 .0) (start .pre .1 .1)), refl)
+    (c .point-count .ensures .0, omega arith, refl, sym (first-outside (start .args .n) (marks (start .args .n) (start .args .grid .now))), refl)
 
 sign-byte-requires : tie.Need-sign-byte-requires Inv-loop μ-loop
 sign-byte-requires c κs = tt

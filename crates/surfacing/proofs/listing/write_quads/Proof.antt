@@ -14,7 +14,7 @@ use Rattle.lattice.proofs.Points.{At, at-start, at-grid, at-next}
 use Rattle.lattice.proofs.Written.{written}
 use Rattle.surfacing.specs.Listing.{quadCount}
 use Rattle.surfacing.proofs.Around.{marks-inner-at}
-use Rattle.surfacing.proofs.Quads.{quadsFrom, quads-start, quads-end, quads-byte, quads-length, quads-room, quads-written}
+use Rattle.surfacing.proofs.Quads.{quadsFrom, quads-start, quads-end, quads-byte, quads-length, quads-written, byte-room}
 use Rattle.surfacing.proofs.listing.write_quads.Statement.{statement}
 use Rattle.surfacing.proofs.listing.write_quads.Tie as tie
 
@@ -61,7 +61,7 @@ put-quads-requires c κs =
     let h : l .p < pointCount n = omega (arith, l .inv .0, c .before .before .before .before .loop-test .taken) in (
       start .pre .0,
       marks-inner-at n g (l .p) (l .q) (start .pre .1 .g-long) (start .pre .1 .grid) (l .inv .2) h,
-      rw (quads-byte n g s (l .p) (l .q) _ (start .pre .1) (l .inv .2) h (c .before .is-inside .ensures)) (quads-room n (marks n g) (inside n s) (l .p) (l .q) (l .inv .2) h (l .at) (l .list) (l .inv .4)),
+      byte-room n g s (l .p) (l .q) _ (l .at) (l .list) (start .pre .1) (l .inv .2) h (l .inv .4),
     )
 
 next-point-requires : tie.Need-next-point-requires Inv-loop μ-loop
