@@ -2,7 +2,7 @@
 use mathlib.Core.Path.{_≡_, sym, ap, ap₂, _∙_}
 use mathlib.Core.Bool.{Bool, true, false, _&&_}
 use mathlib.Core.List.{List}
-use Prim.Native.Nat.{ℕ, suc, _+_, _-_, _*_, _%_, _≤_, _<_}
+use Prim.Native.Nat.{ℕ, suc, _+_, _-_, _*_, _≤_, _<_}
 use native.Mathlib.Omega.{arith}
 use lib.Dec.{eqb}
 use lib.ListN.{getD, length}
@@ -20,9 +20,10 @@ use Rattle.rules.proofs.Lists.{allOf→, at-upto, range-at}
 use Rattle.rules.proofs.Boxes.{inBox→}
 use Rattle.rules.proofs.Cells.{face-cells}
 use Rattle.rules.proofs.PatchOf.{patchOf-clear}
-use Rattle.rules.proofs.Numbers.{has-low, zero-has}
+use Rattle.lattice.specs.Byte.{low}
 use Rattle.lattice.specs.Cells.{turns, works}
 use Rattle.lattice.proofs.Laws.{num-below}
+use Rattle.rules.proofs.Numbers.{has-low, zero-has}
 use Rattle.halving.specs.Halving.{Fits}
 use Rattle.halving.specs.Clear.{byteClear, rowClear, boxRowClear, layerClear, boxClear}
 
@@ -49,9 +50,9 @@ module _ (w : List ℕ) (from count : ℕ) where
       ap (rowClear w (from + k)) (let e : count - k ≡ suc (count - (k + 1)) = omega arith in e)
       ∙ ap (λ (i : ℕ). byteClear w (from + k) && rowClear w i (count - (k + 1))) (let e : suc (from + k) ≡ from + (k + 1) = omega arith in e)
 
-  pub clearing-on : (held k : ℕ) → Clearing w from count held k → k < count → Clearing w from count (held + getD w (from + k) 0 % 8) (k + 1)
+  pub clearing-on : (held k : ℕ) → Clearing w from count held k → k < count → Clearing w from count (held + low (getD w (from + k) 0)) (k + 1)
   clearing-on held k c h =
-      let x = getD w (from + k) 0 % 8 in
+      let x = low (getD w (from + k) 0) in
       let others = rowClear w (from + (k + 1)) (count - (k + 1)) in
       record {
         small = let l : x < 8 = omega arith in omega (arith, c .small);
@@ -84,7 +85,7 @@ clear-face n b w e a p f =
     let from = pointNumber n (record { i = b .lo .i; j = p .j; k = p .k }) in
     let z : byteClear w (pointNumber n p) ≡ true = at-upto (λ i. byteClear w i ≡ true) from (side b X) (pointNumber n p)
     (allOf→ (byteClear w) (upto from (side b X)) r) (omega (arith, c .0 .low)) (omega (arith, c .0 .low, c .0 .high)) in
-    sym (has-low a (getD w (pointNumber n p) 0)) ∙ ap (has a) (eqb→ (getD w (pointNumber n p) 0 % 8) 0 z) ∙ zero-has a
+    sym (has-low a (getD w (pointNumber n p) 0)) ∙ ap (has a) (eqb→ (low (getD w (pointNumber n p) 0)) 0 z) ∙ zero-has a
 
 -- so nothing has to be done to it
 pub clear-is : (n : ℕ) (b : Box) (g w : List ℕ) → boxClear n b w ≡ true → (g ≡ turns n (patchOf b (stored n w)) g) × (w ≡ works n (patchOf b (stored n w)) w)

@@ -1,8 +1,8 @@
 -- What turns do to the sets that a buffer holds. Assumes nothing.
 use mathlib.Core.Path.{_≡_, refl, sym, ap, ap₂, _∙_, subst}
-use mathlib.Core.Bool.{Bool, true, false, _&&_, cond, true≢false}
+use mathlib.Core.Bool.{Bool, true, false, _&&_, cond}
 use mathlib.Core.List.{List, [], _∷_, _++_}
-use Prim.Native.Nat.{ℕ, zero, suc, pred, _+_, _-_, _*_, _/_, _%_, _≤_, _<_}
+use Prim.Native.Nat.{ℕ, zero, suc, pred, _+_, _-_, _≤_, _<_}
 use native.Mathlib.Decide.{ℕ-discrete}
 use native.Mathlib.Omega.{arith}
 use lib.Dec.{eqb}
@@ -15,64 +15,20 @@ use Rattle.rules.specs.declared.Axis.{Axis}
 use Rattle.rules.specs.declared.Axis.the-variants.{X, Y, Z}
 use Rattle.rules.specs.declared.Point.{Point}
 use Rattle.rules.specs.declared.Place.{Place}
-use Rattle.rules.specs.Lattice.{earlier, later, coord, up, down, sameAxis, samePoint, samePlace, pointNumber, pointOf, setOf, pointCount}
-use Rattle.rules.specs.Grid.{has, weight, stored, toggle}
+use Rattle.rules.specs.Lattice.{earlier, later, coord, up, down, origin, sameAxis, samePoint, samePlace, pointNumber, pointOf, setOf, pointCount}
+use Rattle.rules.specs.Grid.{has, stored, toggle}
 use Rattle.rules.specs.Cell.{oddFace}
 use Rattle.rules.proofs.Oddness.{setOf-append, oddFace-append}
 use Rattle.rules.proofs.Cuts.{samePoint→}
 use Rattle.rules.proofs.PointOf.{number-pointOf, pointOf-number}
-use Rattle.rules.proofs.Store.{stored-set, toggle-has}
-use Rattle.rules.proofs.Numbers.{has-high}
+use Rattle.rules.proofs.Store.{stored-set}
 use Rattle.rules.specs.Lattice.{OfGrid}
-use Rattle.lattice.specs.Cells.{turnAt, turnOne, turns, facesOf, works, pointStep}
-use Rattle.lattice.proofs.Laws.{has-weight, num-below}
-use Rattle.lattice.proofs.PointSteps.{number-down}
-use Rattle.walking.proofs.Faces.{down-grid}
+use Rattle.lattice.specs.Byte.{above}
+use Rattle.lattice.specs.Cells.{lowerFace, upperFace, upperEdge, turnAt, turnOne, turns, facesOf, works, pointStep}
+use Rattle.lattice.proofs.Laws.{num-below}
+use Rattle.lattice.proofs.Parts.{toggle-any, toggle-above}
+use Rattle.lattice.proofs.PointSteps.{number-up, number-step, number-down, step-grid, down-grid}
 use Rattle.halving.specs.Halving.{Edged}
-
--- ---- one bit turned, in any number
-toggle-shift : (a : Axis) (r m : ℕ) → toggle a (r + 8 * m) ≡ toggle a r + 8 * m
-toggle-shift a r m = ap (λ (x : Bool). cond x (r + 8 * m - weight a) (r + 8 * m + weight a)) (has-high a r m) ∙ go (has a r) refl
-  where
-    go : (x : Bool) → has a r ≡ x → cond x (r + 8 * m - weight a) (r + 8 * m + weight a) ≡ cond x (r - weight a) (r + weight a) + 8 * m
-    go true e = let l = has-weight a r e in omega arith
-    go false e = omega arith
-
-toggle-small : (a : Axis) (r : ℕ) → r < 8 → toggle a r < 8
-toggle-small X r h = go (has X r) refl
-  where
-    go : (x : Bool) → has X r ≡ x → cond x (r - 1) (r + 1) < 8
-    go true e = omega arith
-    go false e = let n : (r % 2 ≡ 1 → ⊥) = λ q. true≢false (sym (eqb-yes _ _ q) ∙ e) in omega arith
-toggle-small Y r h = go (has Y r) refl
-  where
-    go : (x : Bool) → has Y r ≡ x → cond x (r - 2) (r + 2) < 8
-    go true e = omega arith
-    go false e = let n : (r / 2 % 2 ≡ 1 → ⊥) = λ q. true≢false (sym (eqb-yes _ _ q) ∙ e) in omega arith
-toggle-small Z r h = go (has Z r) refl
-  where
-    go : (x : Bool) → has Z r ≡ x → cond x (r - 4) (r + 4) < 8
-    go true e = omega arith
-    go false e = let n : (r / 4 % 2 ≡ 1 → ⊥) = λ q. true≢false (sym (eqb-yes _ _ q) ∙ e) in omega arith
-
-split : (b : ℕ) → b ≡ b % 8 + 8 * (b / 8)
-split b = omega arith
-
-pub toggle-any : (a c : Axis) (b : ℕ) → has c (toggle a b) ≡ has c b ⊕ sameAxis a c
-toggle-any a c b =
-    ap (λ (k : ℕ). has c (toggle a k)) (split b)
-    ∙ ap (has c) (toggle-shift a (b % 8) (b / 8))
-    ∙ has-high c (toggle a (b % 8)) (b / 8)
-    ∙ toggle-has a c (b % 8) (omega arith)
-    ∙ ap (λ (x : Bool). x ⊕ sameAxis a c) (sym (has-high c (b % 8) (b / 8)) ∙ ap (has c) (sym (split b)))
-
-pub toggle-high : (a : Axis) (b : ℕ) → toggle a b / 8 ≡ b / 8
-toggle-high a b =
-    let e : toggle a b ≡ toggle a (b % 8) + 8 * (b / 8) = ap (toggle a) (split b) ∙ toggle-shift a (b % 8) (b / 8) in
-    let s = toggle-small a (b % 8) (omega arith) in
-    let f : toggle a b / 8 ≡ (toggle a (b % 8) + 8 * (b / 8)) / 8 = ap (λ (k : ℕ). k / 8) e in
-    let g : (toggle a (b % 8) + 8 * (b / 8)) / 8 ≡ b / 8 = omega arith in
-    f ∙ g
 
 -- ---- turns
 pub turns-append : (n : ℕ) (l m : List Place) (s : List ℕ) → turns n (l ++ m) s ≡ turns n m (turns n l s)
@@ -90,15 +46,19 @@ pub turns-length : (n : ℕ) (l : List Place) (s : List ℕ) → length (turns n
 turns-length n [] s = refl
 turns-length n (f ∷ l) s = turns-length n l (turnOne n f s) ∙ turn-length n f s
 
--- the bits above the three are as they were
-turn-high : (n : ℕ) (f : Place) (s : List ℕ) (i : ℕ) → pointNumber n (f .at) < length s → getD (turnOne n f s) i 0 / 8 ≡ getD s i 0 / 8
+-- the parts above the lowest are as they were
+turn-above : (n : ℕ) (f : Place) (s : List ℕ) (i : ℕ) → pointNumber n (f .at) < length s → above (getD (turnOne n f s) i 0) ≡ above (getD s i 0)
 unfolding turnAt
-turn-high n f s i h = go (ℕ-discrete i (pointNumber n (f .at)))
+turn-above n f s i h = go (ℕ-discrete i (pointNumber n (f .at)))
   where
-    go : Dec (i ≡ pointNumber n (f .at)) → getD (set s (pointNumber n (f .at)) (toggle (f .axis) (getD s (pointNumber n (f .at)) 0))) i 0 / 8 ≡ getD s i 0 / 8
-    go (yes e) = ap (λ (k : ℕ). getD (set s (pointNumber n (f .at)) (toggle (f .axis) (getD s (pointNumber n (f .at)) 0))) k 0 / 8) e
-        ∙ ap (λ (k : ℕ). k / 8) (getD-set-same s (pointNumber n (f .at)) (toggle (f .axis) (getD s (pointNumber n (f .at)) 0)) 0 h) ∙ toggle-high (f .axis) (getD s (pointNumber n (f .at)) 0) ∙ ap (λ (k : ℕ). getD s k 0 / 8) (sym e)
-    go (no e) = ap (λ (k : ℕ). k / 8) (getD-set-other s (pointNumber n (f .at)) i (toggle (f .axis) (getD s (pointNumber n (f .at)) 0)) 0 e)
+    b : ℕ
+    b = toggle (f .axis) (getD s (pointNumber n (f .at)) 0)
+
+    go : Dec (i ≡ pointNumber n (f .at)) → above (getD (set s (pointNumber n (f .at)) (toggle (f .axis) (getD s (pointNumber n (f .at)) 0))) i 0) ≡ above (getD s i 0)
+    go (yes e) =
+        ap (λ (k : ℕ). above (getD (turnOne n f s) k 0)) e
+        ∙ ap above (getD-set-same s (pointNumber n (f .at)) b 0 h) ∙ toggle-above (f .axis) (getD s (pointNumber n (f .at)) 0) ∙ ap (λ (k : ℕ). above (getD s k 0)) (sym e)
+    go (no e) = ap above (getD-set-other s (pointNumber n (f .at)) i b 0 e)
 
 turn-past : (n : ℕ) (f : Place) (s : List ℕ) (i : ℕ) → pointNumber n (f .at) < i → getD (turnOne n f s) i 0 ≡ getD s i 0
 unfolding turnAt
@@ -108,12 +68,12 @@ abbrev pub Low : ℕ → Place → Type 0
 Low n f = OfGrid n (f .at)
 
 module _ (n : ℕ) where
-  pub turns-high : (l : List Place) (s : List ℕ) (i : ℕ) → All (Low n) l → pointCount n ≤ length s → getD (turns n l s) i 0 / 8 ≡ getD s i 0 / 8
-  turns-high [] s i h k = refl
-  turns-high (f ∷ l) s i h k =
+  pub turns-above : (l : List Place) (s : List ℕ) (i : ℕ) → All (Low n) l → pointCount n ≤ length s → above (getD (turns n l s) i 0) ≡ above (getD s i 0)
+  turns-above [] s i h k = refl
+  turns-above (f ∷ l) s i h k =
       let b = num-below n (f .at) (h .0) in
       let e = turn-length n f s in
-      turns-high l (turnOne n f s) i (h .1) (omega arith) ∙ turn-high n f s i (omega arith)
+      turns-above l (turnOne n f s) i (h .1) (omega arith) ∙ turn-above n f s i (omega arith)
 
   pub turns-past : (l : List Place) (s : List ℕ) (i : ℕ) → All (Low n) l → pointCount n ≤ i → getD (turns n l s) i 0 ≡ getD s i 0
   turns-past [] s i h k = refl
@@ -189,42 +149,83 @@ low-faces n (e ∷ l) h =
 pub stored-works : (n : ℕ) (l : List Place) (s : List ℕ) → All (Edged n) l → pointCount n ≤ length s → (a : Axis) (p : Point) → OfGrid n p → stored n (works n l s) a p ≡ stored n s a p ⊕ oddFace (setOf l) a p
 stored-works n l s h k a p b = stored-turns n (each facesOf l) s (low-faces n l h) k a p b ∙ ap (λ (x : Bool). stored n s a p ⊕ x) (each-faces n l h a p)
 
--- an inner edge needs a cell
-pub some-cells : (n : ℕ) (e : Place) → Edged n e → 1 ≤ n
-some-cells n e h = go (e .axis) (e .at) (h .in-grid) (h .one)
-  where
-    go : (a : Axis) (p : Point) → OfGrid n p → 1 ≤ coord (earlier a) p → 1 ≤ n
-    go X p g k = omega arith
-    go Y p g k = omega arith
-    go Z p g k = omega arith
+-- ---- the four faces of an edge, by the table: two of the cell whose lowest corner is its point, two of the cell that has it as its upper edge
+down-other : (a : Axis) (p : Point) → coord (earlier a) (down (later a) p) ≡ coord (earlier a) p
+down-other X p = refl
+down-other Y p = refl
+down-other Z p = refl
 
--- ---- the four faces of an edge, by their points' numbers
-module _ (n : ℕ) (a : Axis) (at : ℕ) (h : Edged n (record { axis = a; at = pointOf n at })) (b c : Axis) (eb : b ≡ earlier a) (ec : c ≡ later a) where
+module _ (n : ℕ) (a : Axis) (at : ℕ) (h : Edged n (record { axis = a; at = pointOf n at })) where
   abbrev p : Point
   p = pointOf n at
 
-  -- the point one step down
-  down-number : (x y : Axis) → x ≡ y → 1 ≤ coord y (pointOf n at) → (k : ℕ) → k ≡ pointStep n x → (k ≤ at) × (at - k ≡ pointNumber n (down y (pointOf n at)))
-  down-number x y e l k ek =
-      let d = number-down n y p l in
-      let q = number-pointOf n at in
-      let z : k ≡ pointStep n y = ek ∙ ap (pointStep n) e in
-      (omega arith, omega arith)
+  -- an inner edge needs a cell
+  some-cells : 1 ≤ n
+  some-cells = go a p (h .in-grid) (h .one)
+    where
+      go : (b : Axis) (q : Point) → OfGrid n q → 1 ≤ coord (earlier b) q → 1 ≤ n
+      go X q g k = omega arith
+      go Y q g k = omega arith
+      go Z q g k = omega arith
 
-  pub earlier-down : (k : ℕ) → k ≡ pointStep n b → (k ≤ at) × (at - k ≡ pointNumber n (down (earlier a) (pointOf n at)))
-  earlier-down = down-number b (earlier a) eb (h .one)
+  -- the cell that has it as its upper edge lies a step below it on both crosswise axes
+  pub record Below (k : ℕ) : Type 0 where
+    pub fits : k ≤ at
+    pub one : at - k + pointNumber n (upperFace (earlier a) .at) ≡ pointNumber n (down (later a) (pointOf n at))
+    pub two : at - k + pointNumber n (upperFace (later a) .at) ≡ pointNumber n (down (earlier a) (pointOf n at))
 
-  pub later-down : (k : ℕ) → k ≡ pointStep n c → (k ≤ at) × (at - k ≡ pointNumber n (down (later a) (pointOf n at)))
-  later-down = down-number c (later a) ec (h .two)
+  pub below-is : (k : ℕ) (e : Place) → e ≡ upperEdge a → k ≡ pointNumber n (e .at) → Below k
+  below-is k e q r =
+      let x = number-down n (earlier a) p (h .one) in
+      let y = number-down n (later a) p (h .two) in
+      let z = number-down n (earlier a) (down (later a) p) (subst (λ (i : ℕ). 1 ≤ i) (sym (down-other a p)) (h .one)) in
+      let m : k ≡ pointStep n (earlier a) + pointStep n (later a) = r ∙ ap (λ (o : Place). pointNumber n (o .at)) q ∙ upper-number in
+      let f = number-step n (earlier a) in
+      let g = number-step n (later a) in
+      let w = number-pointOf n at in
+      record { fits = omega arith; one = omega arith; two = omega arith }
+    where
+      upper-number : pointNumber n (upperEdge a .at) ≡ pointStep n (earlier a) + pointStep n (later a)
+      upper-number = let u = number-up n (earlier a) (up (later a) origin) in let v = number-step n (later a) in omega arith
 
-  pub faces-turn : (j k : ℕ) → j ≡ pointStep n b → k ≡ pointStep n c → (s s₁ s₂ s₃ s₄ : List ℕ) →
-      s₁ ≡ turnAt at b s → s₂ ≡ turnAt at c s₁ → s₃ ≡ turnAt (at - k) b s₂ → s₄ ≡ turnAt (at - j) c s₃ → s₄ ≡ works n (record { axis = a; at = pointOf n at } ∷ []) s
-  faces-turn j k ej ek s s₁ s₂ s₃ s₄ t₁ t₂ t₃ t₄ =
-      let q = sym (number-pointOf n at) in
-      t₄ ∙ ap₂ (λ (i : ℕ) (x : Axis). turnAt i x s₃) (earlier-down j ej .1) ec
-      ∙ ap (turnAt (pointNumber n (down (earlier a) p)) (later a)) (t₃ ∙ ap₂ (λ (i : ℕ) (x : Axis). turnAt i x s₂) (later-down k ek .1) eb
-      ∙ ap (turnAt (pointNumber n (down (later a) p)) (earlier a)) (t₂ ∙ ap₂ (λ (i : ℕ) (x : Axis). turnAt i x s₁) q ec
-      ∙ ap (turnAt (pointNumber n p) (later a)) (t₁ ∙ ap₂ (λ (i : ℕ) (x : Axis). turnAt i x s) q eb)))
+  pub here-is : (b : Axis) → at + pointNumber n (lowerFace b .at) ≡ pointNumber n (pointOf n at)
+  here-is b = let w = number-pointOf n at in omega arith
+
+  -- so they are places of the grid
+  face-fits : (k : ℕ) (f g : Place) (q : Point) → f ≡ g → k + pointNumber n (g .at) ≡ pointNumber n q → OfGrid n (g .at) → OfGrid n q →
+      OfGrid n (f .at) × (k + pointNumber n (f .at) < pointCount n)
+  face-fits k f g q e r u v = let b = num-below n q v in rw e (u, (let l : k + pointNumber n (g .at) < pointCount n = omega arith in l))
+
+  pub lower-fits : (b : Axis) (f : Place) → f ≡ lowerFace b → OfGrid n (f .at) × (at + pointNumber n (f .at) < pointCount n)
+  lower-fits b f e = face-fits at f (lowerFace b) p e (here-is b) (omega arith) (h .in-grid)
+
+  pub earlier-fits : (k : ℕ) → Below k → (f : Place) → f ≡ upperFace (earlier a) → OfGrid n (f .at) × (at - k + pointNumber n (f .at) < pointCount n)
+  earlier-fits k b f e = face-fits (at - k) f (upperFace (earlier a)) (down (later a) p) e (b .one) (step-grid (earlier a) some-cells refl) (down-grid n (later a) p (h .in-grid))
+
+  pub later-fits : (k : ℕ) → Below k → (f : Place) → f ≡ upperFace (later a) → OfGrid n (f .at) × (at - k + pointNumber n (f .at) < pointCount n)
+  later-fits k b f e = face-fits (at - k) f (upperFace (later a)) (down (earlier a) p) e (b .two) (step-grid (later a) some-cells refl) (down-grid n (earlier a) p (h .in-grid))
+
+  pub edge-fits : (e : Place) → e ≡ upperEdge a → OfGrid n (e .at)
+  edge-fits e q = subst (λ (x : Place). OfGrid n (x .at)) (sym q) (go a)
+    where
+      go : (b : Axis) → OfGrid n (upperEdge b .at)
+      go X = let m = some-cells in omega arith
+      go Y = let m = some-cells in omega arith
+      go Z = let m = some-cells in omega arith
+
+  face-turn : (k : ℕ) (f g : Place) (q : Point) → f ≡ g → k + pointNumber n (g .at) ≡ pointNumber n q → (s s′ : List ℕ) →
+      s′ ≡ turnAt (k + pointNumber n (f .at)) (f .axis) s → s′ ≡ turnOne n (record { axis = g .axis; at = q }) s
+  face-turn k f g q e r s s′ t = t ∙ ap (λ (x : Place). turnAt (k + pointNumber n (x .at)) (x .axis) s) e ∙ ap (λ (i : ℕ). turnAt i (g .axis) s) r
+
+  pub faces-turn : (k : ℕ) → Below k → (f₁ f₂ f₃ f₄ : Place) → f₁ ≡ lowerFace (earlier a) → f₂ ≡ lowerFace (later a) → f₃ ≡ upperFace (earlier a) → f₄ ≡ upperFace (later a) →
+      (s s₁ s₂ s₃ s₄ : List ℕ) → s₁ ≡ turnAt (at + pointNumber n (f₁ .at)) (f₁ .axis) s → s₂ ≡ turnAt (at + pointNumber n (f₂ .at)) (f₂ .axis) s₁ →
+      s₃ ≡ turnAt (at - k + pointNumber n (f₃ .at)) (f₃ .axis) s₂ → s₄ ≡ turnAt (at - k + pointNumber n (f₄ .at)) (f₄ .axis) s₃ →
+      s₄ ≡ works n (record { axis = a; at = pointOf n at } ∷ []) s
+  faces-turn k b f₁ f₂ f₃ f₄ e₁ e₂ e₃ e₄ s s₁ s₂ s₃ s₄ t₁ t₂ t₃ t₄ =
+      face-turn (at - k) f₄ (upperFace (later a)) (down (earlier a) p) e₄ (b .two) s₃ s₄ t₄
+      ∙ ap (turnOne n (record { axis = later a; at = down (earlier a) p })) (face-turn (at - k) f₃ (upperFace (earlier a)) (down (later a) p) e₃ (b .one) s₂ s₃ t₃
+      ∙ ap (turnOne n (record { axis = earlier a; at = down (later a) p })) (face-turn at f₂ (lowerFace (later a)) p e₂ (here-is (later a)) s₁ s₂ t₂
+      ∙ ap (turnOne n (record { axis = later a; at = p })) (face-turn at f₁ (lowerFace (earlier a)) p e₁ (here-is (earlier a)) s s₁ t₁)))
 
 -- a flip: the edge's mark, then its faces
 module _ (n : ℕ) (e : Place) (h : Edged n e) (i : ℕ) (ei : i ≡ pointNumber n (e .at)) where

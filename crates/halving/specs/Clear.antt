@@ -1,18 +1,18 @@
 -- Rows, layers and boxes whose cells have no lower face in the working set. Assumes nothing.
 use mathlib.Core.Bool.{Bool}
 use mathlib.Core.List.{List}
-use Prim.Native.Nat.{ℕ, _%_}
-use lib.Dec.{eqb}
+use Prim.Native.Nat.{ℕ}
 use lib.ListN.{getD}
 use Rattle.rules.specs.Lists.{upto, allOf}
 use Rattle.rules.specs.declared.Axis.the-variants.{X, Y, Z}
 use Rattle.rules.specs.declared.Box.{Box}
 use Rattle.rules.specs.Lattice.{pointNumber}
 use Rattle.rules.specs.Patch.{side, extent}
+use Rattle.lattice.specs.Byte.{noneWorking}
 
--- the byte's lowest three bits hold no face
+-- the byte has no working face
 abbrev pub byteClear : List ℕ → ℕ → Bool
-byteClear w i = eqb (getD w i 0 % 8) 0
+byteClear w i = noneWorking (getD w i 0)
 
 -- so it is with count bytes from one on
 unfoldable pub rowClear : List ℕ → ℕ → ℕ → Bool

@@ -1,28 +1,37 @@
 // The patch of a box, by halving it.
+pub mod halves;
+
+use crate::halves::is_clear;
+use crate::halves::is_one_cell;
+use crate::halves::longest_axis;
+use crate::halves::lower_half;
+use crate::halves::middle_of;
+use crate::halves::upper_half;
+use lattice::byte::turn;
+use lattice::cell::lower_face;
+use lattice::cell::upper_edge;
+use lattice::cell::upper_face;
 use lattice::coordinate;
 use lattice::earlier;
 use lattice::later;
+use lattice::least;
 use lattice::member;
+use lattice::most;
 use lattice::number_of;
-use lattice::step;
-use lattice::turn;
 use lattice::up;
 use rules::Axis;
 use rules::Box;
 use rules::Place;
 use rules::Point;
 use rules::Spot;
-use walking::least;
-use walking::most;
 ghost use mathlib.Core.Path.{_≡_};
 ghost use mathlib.Core.List.{[], _∷_};
 ghost use Prim.Native.Nat.{_≤_, _<_, _+_, _-_, _/_};
 ghost use lib.ListN.{length};
-ghost use Rattle.rules.specs.Lattice.{earlier, later, coord, withCoord, up, pointAt, pointOf, pointCount};
-ghost use Rattle.rules.specs.Patch.{path, cut, longest, middle, oneCell, lower, upper, patchOf};
+ghost use Rattle.rules.specs.Lattice.{earlier, later, coord, up, pointAt, pointOf, pointNumber, pointCount, OfGrid};
+ghost use Rattle.rules.specs.Patch.{path, cut, patchOf};
 ghost use Rattle.rules.specs.Grid.{stored};
-ghost use Rattle.lattice.specs.Cells.{turns, works};
-ghost use Rattle.halving.specs.Clear.{rowClear, layerClear, boxClear};
+ghost use Rattle.lattice.specs.Cells.{turnAt, turns, works};
 ghost use Rattle.halving.specs.Halving.{Edged, Run, ahead, along, Scan, pairOf, scanAll, Placed, Fits, rowOf};
 
 // The spot of the working face that waits for a partner, if one does.
@@ -31,17 +40,29 @@ pub struct Unpaired {
     pub spot: Spot,
 }
 
-// Reverses membership of the four faces of an inner edge in the working set. The edge is told by its axis and its point's number.
+// Turns face f of the table in the working set, at the cell whose lowest corner has number `at`.
+fn turn_face(n: usize, work: &mut [u8], at: usize, f: Place)
+    requires { ⌜ (n ≤ 32) × (pointCount n ≤ length (now work)) × OfGrid n (f .at) × (at + pointNumber n (f .at) < pointCount n) ⌝ }
+    ensures { λ _. ⌜ now (work .exit) ≡ turnAt (at + pointNumber n (f .at)) (f .axis) (now (work .entry)) ⌝ }
+{
+    let p = at + number_of(n, f.at);
+    let a = f.axis;
+    turn(work, p, a);
+}
+
+// Reverses membership of the four faces of an inner edge in the working set: two lower ones of the cell above it, and two upper ones of the
+// cell below it. The edge is told by its axis and its point's number.
 pub fn turn_faces(n: usize, work: &mut [u8], at: usize, a: Axis)
     requires { ⌜ (n ≤ 32) × (pointCount n ≤ length (now work)) × (at < pointCount n) × Edged n (record { axis = a; at = pointOf n at }) ⌝ }
     ensures { λ _. ⌜ now (work .exit) ≡ works n (record { axis = a; at = pointOf n at } ∷ []) (now (work .entry)) ⌝ }
 {
     let b = earlier(a);
     let c = later(a);
-    turn(work, at, b);
-    turn(work, at, c);
-    turn(work, at - step(n, c), b);
-    turn(work, at - step(n, b), c);
+    let below = at - number_of(n, upper_edge(a).at);
+    turn_face(n, work, at, lower_face(b));
+    turn_face(n, work, at, lower_face(c));
+    turn_face(n, work, below, upper_face(b));
+    turn_face(n, work, below, upper_face(c));
 }
 
 // Flips an inner edge: its mark, and its four faces in the working set.
@@ -181,151 +202,6 @@ fn cut_plane(n: usize, grid: &mut [u8], work: &mut [u8], b: Box, a: Axis, m: usi
         h = pair_row(n, grid, work, a, m, from, to, v, h);
         v += 1;
     }
-}
-
-// Whether a box has one cell.
-fn is_one_cell(n: usize, b: Box) -> bool
-    requires { ⌜ Fits n b ⌝ }
-    ensures { λ r. ⌜ r ≡ oneCell b ⌝ }
-{
-    let lo = b.lo;
-    let hi = b.hi;
-    if 1 < hi.i - lo.i {
-        return false;
-    }
-    if 1 < hi.j - lo.j {
-        return false;
-    }
-    hi.k - lo.k <= 1
-}
-
-// Whether no cell of a row has a lower face in the working set.
-fn row_is_clear(work: &[u8], from: usize, count: usize) -> bool
-    requires { ⌜ (count ≤ 32) × (from + count ≤ length (now work)) ⌝ }
-    ensures { λ r. ⌜ r ≡ rowClear (now (work .entry)) from count ⌝ }
-{
-    let mut held: u8 = 0;
-    let mut k: usize = 0;
-    while k < count {
-        held += work[from + k] % 8;
-        k += 1;
-    }
-    held == 0
-}
-
-// Whether no cell of the box's layer k has a lower face in the working set.
-fn layer_is_clear(n: usize, work: &[u8], b: Box, k: usize) -> bool
-    requires { ⌜ (n ≤ 32) × (pointCount n ≤ length (now work)) × Fits n b × (k < n) ⌝ }
-    ensures { λ r. ⌜ r ≡ layerClear n b (now (work .entry)) k ⌝ }
-{
-    let lo = b.lo;
-    let hi = b.hi;
-    let mut j = lo.j;
-    while j < hi.j {
-        let from = number_of(
-            n,
-            Point {
-                i: lo.i,
-                j: j,
-                k: k,
-            },
-        );
-        if !row_is_clear(work, from, hi.i - lo.i) {
-            return false;
-        }
-        j += 1;
-    }
-    true
-}
-
-// Whether no cell of a box has a lower face in the working set: then there is nothing to patch.
-fn is_clear(n: usize, work: &[u8], b: Box) -> bool
-    requires { ⌜ (n ≤ 32) × (pointCount n ≤ length (now work)) × Fits n b ⌝ }
-    ensures { λ r. ⌜ r ≡ boxClear n b (now (work .entry)) ⌝ }
-{
-    let lo = b.lo;
-    let hi = b.hi;
-    let mut k = lo.k;
-    while k < hi.k {
-        if !layer_is_clear(n, work, b, k) {
-            return false;
-        }
-        k += 1;
-    }
-    true
-}
-
-// The axis of the longest side of a box, x before y before z when equal.
-fn longest_axis(n: usize, b: Box) -> Axis
-    requires { ⌜ Fits n b ⌝ }
-    ensures { λ r. ⌜ r ≡ longest b ⌝ }
-{
-    let lo = b.lo;
-    let hi = b.hi;
-    let x = hi.i - lo.i;
-    let y = hi.j - lo.j;
-    let z = hi.k - lo.k;
-    if y <= x {
-        if z <= x {
-            return Axis::X;
-        }
-        return Axis::Z;
-    }
-    if z <= y {
-        return Axis::Y;
-    }
-    Axis::Z
-}
-
-// The plane that cuts a side of a box.
-fn middle_of(n: usize, b: Box, a: Axis) -> usize
-    requires { ⌜ (n ≤ 32) × Fits n b ⌝ }
-    ensures { λ r. ⌜ r ≡ middle b a ⌝ }
-{
-    let lo = b.lo;
-    let hi = b.hi;
-    let i = coordinate(lo, a);
-    let j = coordinate(hi, a);
-    i + (j - i) / 2
-}
-
-// The point moved to m on an axis.
-fn with_coordinate(p: Point, a: Axis, m: usize) -> Point
-    ensures { λ r. ⌜ r ≡ withCoord a m p ⌝ }
-{
-    let mut q = p;
-    match a {
-        Axis::X => {
-            q.i = m;
-        }
-        Axis::Y => {
-            q.j = m;
-        }
-        Axis::Z => {
-            q.k = m;
-        }
-    }
-    q
-}
-
-// The half of a box below a plane.
-fn lower_half(b: Box, a: Axis, m: usize) -> Box
-    ensures { λ r. ⌜ r ≡ lower b a m ⌝ }
-{
-    let lo = b.lo;
-    let hi = b.hi;
-    let h = with_coordinate(hi, a, m);
-    Box { lo: lo, hi: h }
-}
-
-// The half of a box above a plane.
-fn upper_half(b: Box, a: Axis, m: usize) -> Box
-    ensures { λ r. ⌜ r ≡ upper b a m ⌝ }
-{
-    let lo = b.lo;
-    let hi = b.hi;
-    let l = with_coordinate(lo, a, m);
-    Box { lo: l, hi: hi }
 }
 
 // Patches a box: cuts its longest side, joins the working faces in the cut plane in pairs, and treats the two halves the same way.

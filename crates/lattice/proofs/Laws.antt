@@ -1,4 +1,4 @@
--- Tables and their rules, a point's number, and a bit turned. Assumes nothing.
+-- Tables and their rules, and a point's number. Assumes nothing.
 use mathlib.Core.Path.{_≡_, refl, sym, ap, _∙_, subst}
 use mathlib.Core.Bool.{true}
 use mathlib.Core.List.{List, [], _∷_}
@@ -6,15 +6,12 @@ use Prim.Native.Nat.{ℕ, zero, suc, _+_, _*_, _/_, _%_, _≤_, _<_}
 use native.Mathlib.Nat.{add-zero, zero-add, add-suc, suc-add, le-of-suc-le-suc, not-suc-le-zero, mul-le-mul}
 use native.Mathlib.Omega.{arith}
 use lib.Dec.{eqb}
-use borrow.Author.Tests.{eqb-true}
-use lib.Bits.{bitXor}
 use lib.ListN.{getD}
 use Rattle.rules.specs.Lists.{allOf, count, each, upto}
 use Rattle.rules.specs.declared.Axis.{Axis}
 use Rattle.rules.specs.declared.Axis.the-variants.{X, Y, Z}
 use Rattle.rules.specs.declared.Point.{Point}
 use Rattle.rules.specs.declared.Place.{Place}
-use Rattle.rules.specs.Grid.{has, weight, toggle}
 use Rattle.rules.specs.Lattice.{pointAt, samePlace, pointNumber, pointCount}
 use Rattle.rules.specs.Cell.{faceEdges}
 use Rattle.rules.proofs.Numbers.{number-below}
@@ -69,15 +66,3 @@ num-parts n p h b =
 
 pub num-below : (n : ℕ) (p : Point) → OfGrid n p → pointNumber n p < pointCount n
 num-below n p b = number-below (suc n) (p .i) (p .j) (p .k) (omega arith) (omega arith) (omega arith)
-
--- ---- a bit turned
-pub has-weight : (a : Axis) (b : ℕ) → has a b ≡ true → weight a ≤ b
-has-weight X b e = omega (arith, eqb-true (b % 2) 1 e)
-has-weight Y b e = omega (arith, eqb-true (b / 2 % 2) 1 e)
-has-weight Z b e = omega (arith, eqb-true (b / 4 % 2) 1 e)
-
--- a byte with the bit of an axis turned, tested over all bytes
-pub xor-toggle : (a : Axis) (b : ℕ) → b < 256 → bitXor b (weight a) ≡ toggle a b
-xor-toggle X b h = rules (λ k. bitXor k 1) (toggle X) 0 256 b refl h
-xor-toggle Y b h = rules (λ k. bitXor k 2) (toggle Y) 0 256 b refl h
-xor-toggle Z b h = rules (λ k. bitXor k 4) (toggle Z) 0 256 b refl h

@@ -9,7 +9,7 @@ use Rattle.rules.specs.declared.Point.{Point}
 use Rattle.rules.specs.declared.Place.{Place}
 use Rattle.rules.specs.Lattice.{coord, up, down, origin, pointNumber, pointCount, pointOf, OfGrid}
 use Rattle.rules.proofs.PointOf.{number-pointOf}
-use Rattle.lattice.specs.Cells.{pointStep, moved, Cell}
+use Rattle.lattice.specs.Cells.{pointStep, upperFace, moved, Cell}
 use Rattle.lattice.proofs.Laws.{num-below}
 
 -- a coordinate of a point of the grid
@@ -38,7 +38,15 @@ up-down X p h = λ i. record { i = pred-pos (p .i) h i; j = p .j; k = p .k }
 up-down Y p h = λ i. record { i = p .i; j = pred-pos (p .j) h i; k = p .k }
 up-down Z p h = λ i. record { i = p .i; j = p .j; k = pred-pos (p .k) h i }
 
--- the cell below a cell
+-- a step down leads to a point, and from a cell to a cell
+pub cell-grid : (n : ℕ) (c : Point) → Cell n c → OfGrid n c
+cell-grid n c h = omega arith
+
+pub down-grid : (n : ℕ) (a : Axis) (p : Point) → OfGrid n p → OfGrid n (down a p)
+down-grid n X p h = let m = pred-most (p .i) in omega arith
+down-grid n Y p h = let m = pred-most (p .j) in omega arith
+down-grid n Z p h = let m = pred-most (p .k) in omega arith
+
 pub down-cell : (n : ℕ) (a : Axis) (c : Point) → Cell n c → Cell n (down a c)
 down-cell n X c h = let m = pred-most (c .i) in omega arith
 down-cell n Y c h = let m = pred-most (c .j) in omega arith
@@ -59,8 +67,8 @@ up-small n X h = omega arith
 up-small n Y h = omega arith
 up-small n Z h = omega arith
 
-pub step-grid : {n : ℕ} {p : Point} (a : Axis) → 1 ≤ n → n ≤ 32 → p ≡ up a origin → (n ≤ 32) × OfGrid n p
-step-grid {n} a h m e = (m, subst (OfGrid n) (sym e) (up-small n a h))
+pub step-grid : {n : ℕ} {e : Place} (a : Axis) → 1 ≤ n → e ≡ upperFace a → OfGrid n (e .at)
+step-grid {n} a h q = subst (λ (x : Place). OfGrid n (x .at)) (sym q) (up-small n a h)
 
 -- one step down an axis
 pub number-down : (n : ℕ) (a : Axis) (p : Point) → 1 ≤ coord a p → pointNumber n (down a p) + pointStep n a ≡ pointNumber n p

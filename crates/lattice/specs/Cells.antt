@@ -8,8 +8,9 @@ use Rattle.rules.specs.declared.Axis.{Axis}
 use Rattle.rules.specs.declared.Axis.the-variants.{X, Y, Z}
 use Rattle.rules.specs.declared.Point.{Point}
 use Rattle.rules.specs.declared.Place.{Place}
-use Rattle.rules.specs.Lattice.{earlier, later, down, pointAt, Set, isIn, pointNumber}
+use Rattle.rules.specs.Lattice.{earlier, later, up, down, origin, pointAt, Set, isIn, pointNumber}
 use Rattle.rules.specs.Grid.{has, toggle}
+use Rattle.lattice.specs.Byte.{high}
 
 -- 0, 1, 2 are x, y, z
 abbrev pub axisOf : ℕ → Axis
@@ -43,6 +44,16 @@ edgeRule k = record { axis = axisOf (k / 4); at = pointAt (axisOf (k / 4)) 0 (k 
 abbrev pub cornerRule : Axis → Place
 cornerRule a = record { axis = a; at = at 0 0 0 }
 
+-- its lower and its upper face square to a, and the edge along a that has both its upper faces
+abbrev pub lowerFace : Axis → Place
+lowerFace a = record { axis = a; at = origin }
+
+abbrev pub upperFace : Axis → Place
+upperFace a = record { axis = a; at = up a origin }
+
+abbrev pub upperEdge : Axis → Place
+upperEdge a = record { axis = a; at = up (earlier a) (up (later a) origin) }
+
 -- the face or edge e of the cell at (0,0,0), moved to the cell c
 abbrev pub moved : Point → Place → Place
 moved c e = record { axis = e .axis; at = at (c .i + e .at .i) (c .j + e .at .j) (c .k + e .at .k) }
@@ -68,9 +79,9 @@ bitsFrom n g p a o = has a (getD g (p + pointNumber n o) 0)
 abbrev pub oddOf : Set → Place → Place → Place → Place → Bool
 oddOf E e f g h = (isIn E e ⊕ isIn E f) ⊕ (isIn E g ⊕ isIn E h)
 
--- the set that three bits of each byte hold, from the bit of value d on: layer 1 as it is now, layer 8 as it came
-abbrev pub layer : ℕ → ℕ → List ℕ → Set
-layer d n g a p = has a (getD g (pointNumber n p) 0 / d)
+-- the set that the highest part of each byte holds, beside the one in its lowest part
+abbrev pub aside : ℕ → List ℕ → Set
+aside n s a p = has a (high (getD s (pointNumber n p) 0))
 
 -- the member of an axis turned in one byte
 unfoldable pub turnAt : ℕ → Axis → List ℕ → List ℕ

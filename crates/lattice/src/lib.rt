@@ -1,98 +1,22 @@
-// The cell's table, a point's number, and the bits of a buffer.
+// A point's number and its neighbours, the face test, and the small tools of every scan.
+pub mod byte;
+pub mod cell;
 pub mod level;
 pub mod scan;
 
+use crate::byte::bit;
+use crate::cell::upper_face;
 use rules::Axis;
 use rules::Place;
 use rules::Point;
 ghost use mathlib.Core.Path.{_≡_};
-ghost use Prim.Native.Nat.{_≤_, _<_};
+ghost use Prim.Native.Nat.{_≤_, _<_, min, max};
 ghost use mathlib.Core.List.{_++_};
 ghost use lib.ListN.{length, getD, drop, replicate};
 ghost use Rattle.rules.specs.Lists.{_⊕_};
-ghost use Rattle.rules.specs.Lattice.{coord, earlier, later, up, origin, isIn, pointNumber, pointCount, pointOf, OfGrid};
-ghost use Rattle.rules.specs.Grid.{has, weight, toggle};
-ghost use Rattle.lattice.specs.Cells.{indexOf, faceRule, edgeRule, cornerRule, moved, cornerEdge, Cell, bitsFrom, oddOf, turnAt, pointStep};
-
-// The cell's six faces: the three lower ones, then the three upper ones.
-const FACES: [Place; 6] = [
-    Place {
-        axis: Axis::X,
-        at: Point { i: 0, j: 0, k: 0 },
-    },
-    Place {
-        axis: Axis::Y,
-        at: Point { i: 0, j: 0, k: 0 },
-    },
-    Place {
-        axis: Axis::Z,
-        at: Point { i: 0, j: 0, k: 0 },
-    },
-    Place {
-        axis: Axis::X,
-        at: Point { i: 1, j: 0, k: 0 },
-    },
-    Place {
-        axis: Axis::Y,
-        at: Point { i: 0, j: 1, k: 0 },
-    },
-    Place {
-        axis: Axis::Z,
-        at: Point { i: 0, j: 0, k: 1 },
-    },
-];
-
-// Its twelve edges.
-const EDGES: [Place; 12] = [
-    Place {
-        axis: Axis::X,
-        at: Point { i: 0, j: 0, k: 0 },
-    },
-    Place {
-        axis: Axis::X,
-        at: Point { i: 0, j: 1, k: 0 },
-    },
-    Place {
-        axis: Axis::X,
-        at: Point { i: 0, j: 0, k: 1 },
-    },
-    Place {
-        axis: Axis::X,
-        at: Point { i: 0, j: 1, k: 1 },
-    },
-    Place {
-        axis: Axis::Y,
-        at: Point { i: 0, j: 0, k: 0 },
-    },
-    Place {
-        axis: Axis::Y,
-        at: Point { i: 1, j: 0, k: 0 },
-    },
-    Place {
-        axis: Axis::Y,
-        at: Point { i: 0, j: 0, k: 1 },
-    },
-    Place {
-        axis: Axis::Y,
-        at: Point { i: 1, j: 0, k: 1 },
-    },
-    Place {
-        axis: Axis::Z,
-        at: Point { i: 0, j: 0, k: 0 },
-    },
-    Place {
-        axis: Axis::Z,
-        at: Point { i: 1, j: 0, k: 0 },
-    },
-    Place {
-        axis: Axis::Z,
-        at: Point { i: 0, j: 1, k: 0 },
-    },
-    Place {
-        axis: Axis::Z,
-        at: Point { i: 1, j: 1, k: 0 },
-    },
-];
+ghost use Rattle.rules.specs.Lattice.{coord, earlier, later, up, isIn, pointNumber, pointCount, pointOf, OfGrid};
+ghost use Rattle.rules.specs.Grid.{has};
+ghost use Rattle.lattice.specs.Cells.{indexOf, Cell, bitsFrom, oddOf, pointStep};
 
 // The number of a point.
 pub fn number_of(n: usize, p: Point) -> usize
@@ -100,17 +24,6 @@ pub fn number_of(n: usize, p: Point) -> usize
     ensures { λ r. ⌜ (r ≡ pointNumber n p) × (r < pointCount n) ⌝ }
 {
     p.i + (n + 1) * (p.j + (n + 1) * p.k)
-}
-
-// The upper face of an axis of the cell at (0,0,0), from the table: one step along the axis.
-fn upper_face(a: Axis) -> Point
-    ensures { λ r. ⌜ r ≡ up a origin ⌝ }
-{
-    match a {
-        Axis::X => face_rule(3).at,
-        Axis::Y => face_rule(4).at,
-        Axis::Z => face_rule(5).at,
-    }
 }
 
 // The coordinate of a point on an axis.
@@ -149,7 +62,7 @@ pub fn step(n: usize, a: Axis) -> usize
     requires { ⌜ (1 ≤ n) × (n ≤ 32) ⌝ }
     ensures { λ r. ⌜ r ≡ pointStep n a ⌝ }
 {
-    number_of(n, upper_face(a))
+    number_of(n, upper_face(a).at)
 }
 
 pub fn earlier(a: Axis) -> Axis
@@ -182,17 +95,6 @@ pub fn index(a: Axis) -> usize
     }
 }
 
-// Whether a byte has the member of an axis.
-pub fn bit(b: u8, a: Axis) -> bool
-    ensures { λ r. ⌜ r ≡ has a b ⌝ }
-{
-    match a {
-        Axis::X => b % 2 == 1,
-        Axis::Y => b / 2 % 2 == 1,
-        Axis::Z => b / 4 % 2 == 1,
-    }
-}
-
 // Sets the first bytes of a buffer to 0.
 pub fn clear(count: usize, s: &mut [u8])
     requires { ⌜ count ≤ length (now s) ⌝ }
@@ -205,33 +107,6 @@ pub fn clear(count: usize, s: &mut [u8])
     }
 }
 
-// The value of an axis in a byte: 1 for x, 2 for y, 4 for z.
-pub fn weight_of(a: Axis) -> u8
-    ensures { λ r. ⌜ r ≡ weight a ⌝ }
-{
-    match a {
-        Axis::X => 1,
-        Axis::Y => 2,
-        Axis::Z => 4,
-    }
-}
-
-// A byte with the member of an axis turned.
-fn turned(b: u8, a: Axis) -> u8
-    ensures { λ r. ⌜ r ≡ toggle a b ⌝ }
-{
-    b ^ weight_of(a)
-}
-
-// Turns the member of an axis in one byte of a buffer.
-pub fn turn(s: &mut [u8], at: usize, a: Axis)
-    requires { ⌜ at < length (now s) ⌝ }
-    ensures { λ _. ⌜ now (s .exit) ≡ turnAt at a (now (s .entry)) ⌝ }
-{
-    let v = turned(s[at], a);
-    s[at] = v;
-}
-
 // Whether the set that a buffer's lowest three bits hold has a member.
 pub fn member(n: usize, s: &[u8], f: Place) -> bool
     requires { ⌜ (n ≤ 32) × (pointCount n ≤ length (now s)) × OfGrid n (f .at) ⌝ }
@@ -242,52 +117,22 @@ pub fn member(n: usize, s: &[u8], f: Place) -> bool
     bit(s[at], a)
 }
 
-// Face f of the cell at (0,0,0), from the table.
-pub fn face_rule(f: usize) -> Place
-    requires { ⌜ f < 6 ⌝ }
-    ensures { λ r. ⌜ r ≡ faceRule f ⌝ }
+pub fn least(a: usize, b: usize) -> usize
+    ensures { λ r. ⌜ r ≡ min a b ⌝ }
 {
-    FACES[f]
-}
-
-// Edge k of the cell at (0,0,0), from the table.
-pub fn edge_rule(k: usize) -> Place
-    requires { ⌜ k < 12 ⌝ }
-    ensures { λ r. ⌜ r ≡ edgeRule k ⌝ }
-{
-    EDGES[k]
-}
-
-fn move_to(n: usize, c: Point, e: Place) -> Place
-    requires { ⌜ (n ≤ 32) × OfGrid n c × OfGrid 1 (e .at) ⌝ }
-    ensures { λ r. ⌜ r ≡ moved c e ⌝ }
-{
-    let o = e.at;
-    let a = e.axis;
-    let p = Point {
-        i: c.i + o.i,
-        j: c.j + o.j,
-        k: c.k + o.k,
-    };
-    Place { axis: a, at: p }
-}
-
-fn corner_rule(a: Axis) -> Place
-    ensures { λ r. ⌜ r ≡ cornerRule a ⌝ }
-{
-    match a {
-        Axis::X => edge_rule(0),
-        Axis::Y => edge_rule(4),
-        Axis::Z => edge_rule(8),
+    if a < b {
+        return a;
     }
+    b
 }
 
-// The edge along a at the lowest corner of the cell c. Every inner edge is such an edge of exactly one cell.
-pub fn corner_edge(n: usize, c: Point, a: Axis) -> Place
-    requires { ⌜ (n ≤ 32) × OfGrid n c ⌝ }
-    ensures { λ r. ⌜ r ≡ cornerEdge a c ⌝ }
+pub fn most(a: usize, b: usize) -> usize
+    ensures { λ r. ⌜ r ≡ max a b ⌝ }
 {
-    move_to(n, c, corner_rule(a))
+    if a < b {
+        return b;
+    }
+    a
 }
 
 fn differ(a: bool, b: bool) -> bool

@@ -1,6 +1,6 @@
 // What every scan of the points needs: the point after a point, inner edges, "is a grid", "no face is odd".
-use crate::bit;
-use crate::edge_rule;
+use crate::byte::bit;
+use crate::cell::edge_rule;
 use crate::level::point_count;
 use crate::number_of;
 use crate::odd;

@@ -1,46 +1,37 @@
 -- Marks added to a buffer, edge by edge. Assumes nothing.
 use mathlib.Core.Path.{_≡_, refl, sym, ap, ap₂, subst, _∙_}
-use mathlib.Core.Bool.{Bool, true, false, _&&_, _||_, cond, true≢false, and-false, or-true, or-false, or-assoc}
+use mathlib.Core.Bool.{Bool, true, false, _&&_, _||_, cond, true≢false, and-false, or-false, or-assoc}
 use mathlib.Core.List.{List}
-use Prim.Native.Nat.{ℕ, _+_, _/_, _%_, _≤_, _<_}
+use Prim.Native.Nat.{ℕ, _≤_, _<_}
 use native.Mathlib.Nat.{lt-of-lt-of-le}
 use native.Mathlib.Decide.{ℕ-discrete}
 use native.Mathlib.Omega.{arith}
-use borrow.Author.Tests.{eqb-false}
-use lib.Dec.{eqb}
 use lib.ListN.{length, getD, set, length-set}
 use lib.Seq.{getD-set-same, getD-set-other}
+use Rattle.rules.specs.Lists.{_⊕_}
 use Rattle.rules.specs.declared.Axis.{Axis}
 use Rattle.rules.specs.declared.Axis.the-variants.{X, Y, Z}
 use Rattle.rules.specs.declared.Point.{Point}
 use Rattle.rules.specs.declared.Place.{Place}
 use Rattle.rules.specs.Lattice.{up, sameAxis, samePoint, samePlace, Set, OfGrid, pointNumber, pointCount}
-use Rattle.rules.specs.Grid.{has, weight, stored, toggle}
-use Rattle.rules.proofs.Bits.{eqb-yes, and-left, and-right}
+use Rattle.rules.specs.Grid.{has, stored, toggle}
+use Rattle.rules.proofs.Bits.{⊕-false, and-left, and-right}
 use Rattle.rules.proofs.Cuts.{sameAxis→, samePoint→, samePlace→}
 use Rattle.rules.proofs.Store.{stored-set}
+use Rattle.lattice.specs.Byte.{above}
 use Rattle.lattice.specs.Cells.{turnAt, turnOne, cornerEdge, Cell}
 use Rattle.lattice.proofs.Laws.{num-below}
+use Rattle.lattice.proofs.Parts.{toggle-any, toggle-above}
 use Rattle.marking.specs.Met.{added}
 use Rattle.marking.specs.Scan.{Added, atEdge, atCell}
 
--- ---- a mark added to a byte
-module _ (b : ℕ) where
-  add-has : (a c : Axis) → has a b ≡ false → has c (b + weight a) ≡ has c b || sameAxis a c
-  add-has X X e = let f = eqb-false (b % 2) 1 e in let h : (b + 1) % 2 ≡ 1 = omega arith in eqb-yes _ _ h ∙ sym (or-true (has X b))
-  add-has X Y e = let f = eqb-false (b % 2) 1 e in let h : (b + 1) / 2 ≡ b / 2 = omega arith in ap (λ (k : ℕ). eqb (k % 2) 1) h ∙ sym (or-false (has Y b))
-  add-has X Z e = let f = eqb-false (b % 2) 1 e in let h : (b + 1) / 4 ≡ b / 4 = omega arith in ap (λ (k : ℕ). eqb (k % 2) 1) h ∙ sym (or-false (has Z b))
-  add-has Y X e = let f = eqb-false (b / 2 % 2) 1 e in let h : (b + 2) % 2 ≡ b % 2 = omega arith in ap (λ (k : ℕ). eqb k 1) h ∙ sym (or-false (has X b))
-  add-has Y Y e = let f = eqb-false (b / 2 % 2) 1 e in let h : (b + 2) / 2 % 2 ≡ 1 = omega arith in eqb-yes _ _ h ∙ sym (or-true (has Y b))
-  add-has Y Z e = let f = eqb-false (b / 2 % 2) 1 e in let h : (b + 2) / 4 ≡ b / 4 = omega arith in ap (λ (k : ℕ). eqb (k % 2) 1) h ∙ sym (or-false (has Z b))
-  add-has Z X e = let f = eqb-false (b / 4 % 2) 1 e in let h : (b + 4) % 2 ≡ b % 2 = omega arith in ap (λ (k : ℕ). eqb k 1) h ∙ sym (or-false (has X b))
-  add-has Z Y e = let f = eqb-false (b / 4 % 2) 1 e in let h : (b + 4) / 2 % 2 ≡ b / 2 % 2 = omega arith in ap (λ (k : ℕ). eqb k 1) h ∙ sym (or-false (has Y b))
-  add-has Z Z e = let f = eqb-false (b / 4 % 2) 1 e in let h : (b + 4) / 4 % 2 ≡ 1 = omega arith in eqb-yes _ _ h ∙ sym (or-true (has Z b))
-
-  add-high : (a : Axis) → has a b ≡ false → (b + weight a) / 8 ≡ b / 8
-  add-high X e = let f = eqb-false (b % 2) 1 e in omega arith
-  add-high Y e = let f = eqb-false (b / 2 % 2) 1 e in omega arith
-  add-high Z e = let f = eqb-false (b / 4 % 2) 1 e in omega arith
+-- ---- a mark added to a byte is one turned that was not there
+add-has : (b : ℕ) (a c : Axis) → has a b ≡ false → has c (toggle a b) ≡ has c b || sameAxis a c
+add-has b a c e = toggle-any a c b ∙ go (sameAxis a c) refl
+  where
+    go : (x : Bool) → sameAxis a c ≡ x → has c b ⊕ x ≡ has c b || x
+    go true q = let z : has c b ≡ false = ap (λ (d : Axis). has d b) (sym (sameAxis→ a c q)) ∙ e in rw z refl
+    go false q = ⊕-false (has c b) ∙ sym (or-false (has c b))
 
 -- ---- one set after another
 module _ (n : ℕ) where
@@ -96,12 +87,11 @@ module _ (n : ℕ) (E : Set) (e : Place) (g : List ℕ) where
   unfolding turnAt
   edge-turned long o h m =
       let below = num-below n (e .at) o in
-      let new : toggle (e .axis) b ≡ b + weight (e .axis) = rw h in
       record {
         long = length-set g i (toggle (e .axis) b);
         past = λ k q. getD-set-other g i k (toggle (e .axis) b) 0 (λ r. let z : ⊥ = omega arith in z);
-        high = λ k. high k (ℕ-discrete k i) (lt-of-lt-of-le below long) new;
-        marks-now = λ a p q. stored-set n g (e .at) (toggle (e .axis) b) o long a p q ∙ now a p new (samePoint (e .at) p) refl;
+        high = λ k. high k (ℕ-discrete k i) (lt-of-lt-of-le below long);
+        marks-now = λ a p q. stored-set n g (e .at) (toggle (e .axis) b) o long a p q ∙ now a p (samePoint (e .at) p) refl;
       }
     where
       i : ℕ
@@ -110,23 +100,21 @@ module _ (n : ℕ) (E : Set) (e : Place) (g : List ℕ) where
       b : ℕ
       b = getD g i 0
 
-      high : (k : ℕ) → Dec (k ≡ i) → i < length g → toggle (e .axis) b ≡ b + weight (e .axis) →
-          getD (set g i (toggle (e .axis) b)) k 0 / 8 ≡ getD g k 0 / 8
-      high k (yes q) s new =
-          rw q (ap (λ (x : ℕ). x / 8) (getD-set-same g i (toggle (e .axis) b) 0 s ∙ new) ∙ add-high b (e .axis) h)
-      high k (no q) s new = ap (λ (x : ℕ). x / 8) (getD-set-other g i k (toggle (e .axis) b) 0 q)
+      high : (k : ℕ) → Dec (k ≡ i) → i < length g → above (getD (set g i (toggle (e .axis) b)) k 0) ≡ above (getD g k 0)
+      high k (yes q) s = rw q (ap above (getD-set-same g i (toggle (e .axis) b) 0 s) ∙ toggle-above (e .axis) b)
+      high k (no q) s = ap above (getD-set-other g i k (toggle (e .axis) b) 0 q)
 
-      now : (a : Axis) (p : Point) → toggle (e .axis) b ≡ b + weight (e .axis) → (c : Bool) → samePoint (e .at) p ≡ c →
+      now : (a : Axis) (p : Point) → (c : Bool) → samePoint (e .at) p ≡ c →
           cond c (has a (toggle (e .axis) b)) (stored n g a p) ≡ stored n g a p || ((sameAxis (e .axis) a && c) && E a p)
-      now a p new true s =
+      now a p true s =
           let r : e .at ≡ p = samePoint→ (e .at) p s in
-          ap (has a) new ∙ add-has b (e .axis) a h
+          add-has b (e .axis) a h
           ∙ ap₂ _||_ (ap (λ (x : Point). stored n g a x) r) (axis (sameAxis (e .axis) a) refl)
         where
           axis : (d : Bool) → sameAxis (e .axis) a ≡ d → d ≡ (d && true) && E a p
           axis true f = sym (ap₂ E (sym (sameAxis→ (e .axis) a f)) (sym (samePoint→ (e .at) p s)) ∙ m)
           axis false f = refl
-      now a p new false s = sym (ap (λ (d : Bool). stored n g a p || (d && E a p)) (and-false (sameAxis (e .axis) a)) ∙ or-false (stored n g a p))
+      now a p false s = sym (ap (λ (d : Bool). stored n g a p || (d && E a p)) (and-false (sameAxis (e .axis) a)) ∙ or-false (stored n g a p))
 
 -- ---- the three edges at the lowest corner of a cell
 -- they exist

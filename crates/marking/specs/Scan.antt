@@ -2,7 +2,7 @@
 use mathlib.Core.Path.{_≡_}
 use mathlib.Core.Bool.{_&&_, _||_, cond}
 use mathlib.Core.List.{List}
-use Prim.Native.Nat.{ℕ, _+_, _*_, _/_, _≤_, _<_}
+use Prim.Native.Nat.{ℕ, _+_, _*_, _≤_, _<_}
 use lib.Dec.{ltb}
 use lib.ListN.{length, getD}
 use lib.IntN.{pos}
@@ -15,6 +15,7 @@ use Rattle.rules.specs.Lattice.{coord, samePoint, samePlace, Set, OfGrid, point
 use Rattle.rules.specs.Grid.{stored}
 use Rattle.lattice.specs.declared.level.Level.{Level}
 use Rattle.lattice.specs.Levels.{cellsOf, sideOf}
+use Rattle.lattice.specs.Byte.{above}
 use Rattle.lattice.specs.Cells.{indexOf}
 use Rattle.triangles.specs.declared.Span.{Span}
 use Rattle.triangles.specs.declared.Triangle.{Triangle}
@@ -44,7 +45,7 @@ nextCell b c =
 pub record Added (n : ℕ) (E : Set) (g h : List ℕ) : Type 0 where
   pub long : length h ≡ length g
   pub past : (i : ℕ) → pointCount n ≤ i → getD h i 0 ≡ getD g i 0
-  pub high : (i : ℕ) → getD h i 0 / 8 ≡ getD g i 0 / 8
+  pub high : (i : ℕ) → above (getD h i 0) ≡ above (getD g i 0)
   pub marks-now : (a : Axis) (p : Point) → OfGrid n p → stored n h a p ≡ stored n g a p || E a p
 
 -- of a set of edges, one edge

@@ -1,11 +1,11 @@
 // The marking scan: only the cells that the triangle's own box touches, and at each the three table edges at its lowest corner.
 use crate::range::plain;
 use crate::range::signed;
-use lattice::bit;
-use lattice::corner_edge;
+use lattice::byte::bit;
+use lattice::byte::turn;
+use lattice::cell::corner_edge;
 use lattice::level::Level;
 use lattice::number_of;
-use lattice::turn;
 use rules::Axis;
 use rules::Box;
 use rules::Place;

@@ -2,32 +2,33 @@
 use mathlib.Core.Path.{_≡_, refl, sym, ap, _∙_, fun-ext}
 use mathlib.Core.Bool.{Bool, true, false, _&&_, true≢false}
 use mathlib.Core.List.{List, [], _∷_}
-use Prim.Native.Nat.{ℕ, _+_, _*_, _/_, _≤_, _<_}
+use Prim.Native.Nat.{ℕ, _≤_}
 use native.Mathlib.Omega.{arith}
 use lib.ListN.{length, getD}
 use Rattle.rules.specs.Lists.{_⊕_, anyOf, parity, count}
 use Rattle.rules.proofs.Bits.{⊕-false, is-false}
 use Rattle.rules.specs.declared.Axis.{Axis}
-use Rattle.rules.specs.declared.Axis.the-variants.{X}
 use Rattle.rules.specs.declared.Point.{Point}
-use Rattle.rules.specs.Lattice.{OfGrid, pointNumber, pointOf, faceIn, whole, setOf, pointCount}
+use Rattle.rules.specs.Lattice.{OfGrid, pointNumber, faceIn, whole, setOf, pointCount}
 use Rattle.rules.specs.Cell.{oddFace}
 use Rattle.rules.specs.Grid.{has, marks, isGrid, stored}
 use Rattle.rules.specs.Rims.{rims, touch}
 use Rattle.rules.specs.Patch.{patchRim}
-use Rattle.rules.proofs.Numbers.{marks-inner, has-high, zero-has, byte-most}
+use Rattle.rules.proofs.Numbers.{marks-inner, zero-has, has-low}
 use Rattle.rules.proofs.Patched.{odd-in}
-use Rattle.rules.proofs.PointOf.{number-pointOf, pointOf-grid}
-use Rattle.lattice.specs.Cells.{layer, works}
+use Rattle.lattice.specs.Byte.{low, came, marksPutBy, odd, seen, oddPutBy}
+use Rattle.lattice.specs.Cells.{aside, works}
 use Rattle.lattice.proofs.Laws.{num-below}
-use Rattle.lattice.proofs.GridFacts.{grid-byte, grid-marks}
+use Rattle.lattice.proofs.GridFacts.{grid-marks}
 use Rattle.walking.specs.Walks.{oddIn, Fine, seenB}
-use Rattle.walking.proofs.Faces.{cell-grid, face-cell}
-use Rattle.patching.specs.Paint.{paint, nine, eight, nought}
+use Rattle.lattice.proofs.Parts.{packed-has, packed-flag, packed-high}
+use Rattle.lattice.proofs.PointSteps.{cell-grid}
+use Rattle.walking.proofs.Faces.{face-cell}
+use Rattle.patching.specs.Paint.{paint, nought}
 use Rattle.patching.specs.Marked.{marksFrom}
 use Rattle.patching.specs.Between.{none, Between}
 use Rattle.patching.proofs.PaintLaws.{paint-at, paint-past, paint-length}
-use Rattle.patching.proofs.Odd.{odd-stored, odd-small, odd-length, odd-past}
+use Rattle.patching.proofs.Odd.{odd-stored, odd-length, odd-past}
 
 module _ {R : Type 0} where
   zero-sum : (y : R → Bool) (rs : List R) → parity (λ r. false && y r) rs ≡ false
@@ -44,14 +45,14 @@ module _ {R : Type 0} where
 
 -- the marks beside themselves
 abbrev pub gridStart : ℕ → List ℕ → List ℕ
-gridStart n g = paint nine (pointCount n) g
+gridStart n g = paint marksPutBy (pointCount n) g
 
 -- the odd faces, as they are found and as they are put by
 abbrev pub oddFound : ℕ → List ℕ → List ℕ → List ℕ
 oddFound n g w = works n (marksFrom n g 0 (pointCount n)) (paint nought (pointCount n) w)
 
 abbrev pub workStart : ℕ → List ℕ → List ℕ → List ℕ
-workStart n g w = paint eight (pointCount n) (oddFound n g w)
+workStart n g w = paint oddPutBy (pointCount n) (oddFound n g w)
 
 module _ (n : ℕ) (g w : List ℕ) (lg : pointCount n ≤ length g) (lw : pointCount n ≤ length w) (h : isGrid n g ≡ true) where
   z-long : pointCount n ≤ length (paint nought (pointCount n) w)
@@ -63,51 +64,36 @@ module _ (n : ℕ) (g w : List ℕ) (lg : pointCount n ≤ length g) (lw : point
   o-long : pointCount n ≤ length (oddFound n g w)
   o-long = let e = odd-length n g lg h (paint nought (pointCount n) w) in let z = z-long in omega arith
 
-  -- every byte that is put by is small
-  pub grid-small : (i : ℕ) → i < pointCount n → getD g i 0 ≤ 7
-  grid-small i k =
-      let e = ap (λ (j : ℕ). getD g j 0) (sym (number-pointOf n i)) ∙ grid-byte n g lg h (pointOf n i) (pointOf-grid n i k) in
-      let m = byte-most (marks n g) (pointOf n i) in
-      omega arith
-
-  pub found-small : (i : ℕ) → i < pointCount n → getD (oddFound n g w) i 0 ≤ 7
-  found-small i k =
-      let e = ap (λ (j : ℕ). getD (oddFound n g w) j 0) (sym (number-pointOf n i)) in
-      let m = odd-small n g lg h (paint nought (pointCount n) w) z-long z-zero (pointOf n i) (pointOf-grid n i k) in
-      omega arith
-
   -- ---- the bits of the two buffers
-  at-g : (p : Point) → OfGrid n p → getD (gridStart n g) (pointNumber n p) 0 ≡ getD g (pointNumber n p) 0 * 9
-  at-g p b = paint-at nine (pointCount n) g (pointNumber n p) (num-below n p b) lg
+  at-g : (p : Point) → OfGrid n p → getD (gridStart n g) (pointNumber n p) 0 ≡ marksPutBy (getD g (pointNumber n p) 0)
+  at-g p b = paint-at marksPutBy (pointCount n) g (pointNumber n p) (num-below n p b) lg
 
-  at-w : (p : Point) → OfGrid n p → getD (workStart n g w) (pointNumber n p) 0 ≡ getD (oddFound n g w) (pointNumber n p) 0 * 8
-  at-w p b = paint-at eight (pointCount n) (oddFound n g w) (pointNumber n p) (num-below n p b) o-long
+  at-w : (p : Point) → OfGrid n p → getD (workStart n g w) (pointNumber n p) 0 ≡ oddPutBy (getD (oddFound n g w) (pointNumber n p) 0)
+  at-w p b = paint-at oddPutBy (pointCount n) (oddFound n g w) (pointNumber n p) (num-below n p b) o-long
 
-  pub came-bit : (a : Axis) (p : Point) → OfGrid n p → has a (getD (gridStart n g) (pointNumber n p) 0 / 8) ≡ marks n g a p
+  pub came-bit : (a : Axis) (p : Point) → OfGrid n p → came a (getD (gridStart n g) (pointNumber n p) 0) ≡ marks n g a p
   came-bit a p b =
-      let s = grid-small (pointNumber n p) (num-below n p b) in
-      ap (λ (k : ℕ). has a (k / 8)) (at-g p b) ∙ ap (has a) (let e : getD g (pointNumber n p) 0 * 9 / 8 ≡ getD g (pointNumber n p) 0 = omega arith in e) ∙ grid-marks n g lg h a p b
+      let x = getD g (pointNumber n p) 0 in
+      ap (came a) (at-g p b) ∙ ap (has a) (packed-high (low x) 0 (low x) (omega arith) (omega arith) (omega arith)) ∙ has-low a x ∙ grid-marks n g lg h a p b
 
   pub now-bit : (a : Axis) (p : Point) → OfGrid n p → stored n (gridStart n g) a p ≡ marks n g a p
   now-bit a p b =
-      ap (has a) (at-g p b ∙ (let e : getD g (pointNumber n p) 0 * 9 ≡ getD g (pointNumber n p) 0 + 8 * getD g (pointNumber n p) 0 = omega arith in e))
-      ∙ has-high a (getD g (pointNumber n p) 0) (getD g (pointNumber n p) 0) ∙ grid-marks n g lg h a p b
+      let x = getD g (pointNumber n p) 0 in
+      ap (has a) (at-g p b) ∙ packed-has (low x) 0 (low x) (omega arith) (omega arith) (omega arith) a ∙ has-low a x ∙ grid-marks n g lg h a p b
 
-  odd-bit : (a : Axis) (p : Point) → OfGrid n p → layer 8 n (workStart n g w) a p ≡ oddFace (marks n g) a p
+  odd-bit : (a : Axis) (p : Point) → OfGrid n p → aside n (workStart n g w) a p ≡ oddFace (marks n g) a p
   odd-bit a p b =
-      ap (λ (k : ℕ). has a (k / 8)) (at-w p b) ∙ ap (has a) (let e : getD (oddFound n g w) (pointNumber n p) 0 * 8 / 8 ≡ getD (oddFound n g w) (pointNumber n p) 0 = omega arith in e)
+      let x = getD (oddFound n g w) (pointNumber n p) 0 in
+      ap (odd a) (at-w p b) ∙ ap (has a) (packed-high 0 0 (low x) (omega arith) (omega arith) (omega arith)) ∙ has-low a x
       ∙ odd-stored n g lg h (paint nought (pointCount n) w) z-long z-zero a p b
 
   low-bit : (a : Axis) (p : Point) → OfGrid n p → stored n (workStart n g w) a p ≡ false
   low-bit a p b =
-      ap (has a) (at-w p b ∙ (let e : getD (oddFound n g w) (pointNumber n p) 0 * 8 ≡ 0 + 8 * getD (oddFound n g w) (pointNumber n p) 0 = omega arith in e))
-      ∙ has-high a 0 (getD (oddFound n g w) (pointNumber n p) 0) ∙ zero-has a
+      ap (has a) (at-w p b) ∙ packed-has 0 0 (low (getD (oddFound n g w) (pointNumber n p) 0)) (omega arith) (omega arith) (omega arith) a ∙ zero-has a
 
   dark-bit : (p : Point) → OfGrid n p → seenB n (workStart n g w) p ≡ false
   unfolding seenB
-  dark-bit p b =
-      let s = odd-small n g lg h (paint nought (pointCount n) w) z-long z-zero p b in
-      ap (λ (k : ℕ). has X (k / 64)) (at-w p b) ∙ ap (has X) (let e : getD (oddFound n g w) (pointNumber n p) 0 * 8 / 64 ≡ 0 = omega arith in e) ∙ zero-has X
+  dark-bit p b = ap seen (at-w p b) ∙ packed-flag 0 0 (low (getD (oddFound n g w) (pointNumber n p) 0)) (omega arith) (omega arith) (omega arith)
 
   inside : (a : Axis) (p : Point) → oddFace (marks n g) a p ≡ true → faceIn (whole n) a p ≡ true
   inside = odd-in n (marks n g) (marks-inner n g)
@@ -119,7 +105,7 @@ module _ (n : ℕ) (g w : List ℕ) (lg : pointCount n ≤ length g) (lw : point
   unfolding oddIn
   odd-start = fun-ext (λ a. fun-ext (λ p. go a p (faceIn (whole n) a p) refl))
     where
-      go : (a : Axis) (p : Point) (x : Bool) → faceIn (whole n) a p ≡ x → x && layer 8 n (workStart n g w) a p ≡ oddFace (marks n g) a p
+      go : (a : Axis) (p : Point) (x : Bool) → faceIn (whole n) a p ≡ x → x && aside n (workStart n g w) a p ≡ oddFace (marks n g) a p
       go a p true e = odd-bit a p (cell-grid n p (face-cell n a p e .0))
       go a p false e = sym (is-false (oddFace (marks n g) a p) (λ t. true≢false (sym (inside a p t) ∙ e)))
 
@@ -139,13 +125,13 @@ module _ (n : ℕ) (g w : List ℕ) (lg : pointCount n ≤ length g) (lw : point
 
   -- ---- what is not touched
   pub grid-long : length (gridStart n g) ≡ length g
-  grid-long = paint-length nine (pointCount n) g
+  grid-long = paint-length marksPutBy (pointCount n) g
 
   pub work-long : length (workStart n g w) ≡ length w
-  work-long = paint-length eight (pointCount n) (oddFound n g w) ∙ odd-length n g lg h (paint nought (pointCount n) w) ∙ paint-length nought (pointCount n) w
+  work-long = paint-length oddPutBy (pointCount n) (oddFound n g w) ∙ odd-length n g lg h (paint nought (pointCount n) w) ∙ paint-length nought (pointCount n) w
 
   pub grid-past : (i : ℕ) → pointCount n ≤ i → getD (gridStart n g) i 0 ≡ getD g i 0
-  grid-past i l = paint-past nine (pointCount n) g i l
+  grid-past i l = paint-past marksPutBy (pointCount n) g i l
 
   pub work-past : (i : ℕ) → pointCount n ≤ i → getD (workStart n g w) i 0 ≡ getD w i 0
-  work-past i l = paint-past eight (pointCount n) (oddFound n g w) i l ∙ odd-past n g lg h (paint nought (pointCount n) w) i l ∙ paint-past nought (pointCount n) w i l
+  work-past i l = paint-past oddPutBy (pointCount n) (oddFound n g w) i l ∙ odd-past n g lg h (paint nought (pointCount n) w) i l ∙ paint-past nought (pointCount n) w i l

@@ -27,7 +27,7 @@ use Rattle.rules.proofs.Bits.{or-true, or-left-true}
 use Rattle.rules.proofs.FaceMarks.{odd-kept}
 use Rattle.lattice.proofs.Laws.{num-below}
 use Rattle.walking.specs.Walks.{Fine}
-use Rattle.walking.proofs.Faces.{cell-grid}
+use Rattle.lattice.proofs.PointSteps.{cell-grid}
 use Rattle.patching.specs.Between.{owns, hits, pointsBelow, none, Between, Finished, Inner, Moves}
 use Rattle.patching.proofs.Rim.{face-cells}
 

@@ -2,36 +2,32 @@
 use mathlib.Core.Path.{_≡_, sym, ap, ap₂, _∙_, subst}
 use mathlib.Core.Bool.{Bool, true}
 use mathlib.Core.List.{List, _++_, map, map-map}
-use Prim.Native.Nat.{ℕ, suc, _+_, _-_, _%_, _≤_}
+use Prim.Native.Nat.{ℕ, suc, _+_, _-_, _≤_}
 use native.Mathlib.Omega.{arith}
 use lib.ListN.{length, getD, take, drop, take-append-drop, length-drop, replicate, length-replicate, getD-replicate}
 use lib.Seq.{ext-getD, getD-take, getD-drop, length-take-le}
 use Rattle.rules.specs.Lists.{_⊕_}
 use Rattle.rules.proofs.Lists.{all-weaken}
 use Rattle.rules.specs.declared.Axis.{Axis}
-use Rattle.rules.specs.declared.Axis.the-variants.{X, Y, Z}
 use Rattle.rules.specs.declared.Point.{Point}
-use Rattle.rules.specs.Lattice.{Set, OfGrid, pointNumber, setOf, points, pointCount}
-use Rattle.rules.specs.Grid.{has, marks, byteAt, value, bytes, isGrid, stored}
+use Rattle.rules.specs.Lattice.{OfGrid, pointNumber, setOf, points, pointCount}
+use Rattle.rules.specs.Grid.{has, marks, byteAt, bytes, isGrid, stored}
 use Rattle.rules.specs.Rims.{rims}
 use Rattle.rules.specs.Patch.{patched, flips, flipCount}
-use Rattle.rules.proofs.Numbers.{small-byte, take-upto, rising, marks-inner, has-low}
+use Rattle.rules.proofs.Numbers.{take-upto, rising, marks-inner}
 use Rattle.rules.proofs.PointOf.{points-grid}
 use Rattle.rules.proofs.Same.{map-same}
 use Rattle.lattice.specs.Cells.{works}
 use Rattle.lattice.proofs.Laws.{num-below}
-use Rattle.patching.specs.Paint.{paint, nine, eight, low, nought, gaps}
+use Rattle.lattice.specs.Byte.{low, marksPutBy, oddPutBy}
+use Rattle.lattice.proofs.Parts.{low-is}
+use Rattle.patching.specs.Paint.{paint, nought, allChanges}
 use Rattle.patching.specs.Marked.{marksFrom}
 use Rattle.patching.specs.Between.{Finished, AllPatched}
 use Rattle.patching.specs.Call.{counted, patchDone}
 use Rattle.patching.proofs.PaintLaws.{paint-at, paint-past, paint-length}
-use Rattle.patching.proofs.Flips.{gaps-count}
+use Rattle.patching.proofs.Flips.{changes-count}
 use Rattle.patching.proofs.Begins.{gridStart, oddFound, workStart, came-bit, now-bit, start, grid-long, work-long, grid-past, work-past}
-
-byte-is : (F : Set) (p : Point) (b : ℕ) → ((a : Axis) → has a b ≡ F a p) → b % 8 ≡ byteAt F p
-byte-is F p b h =
-    let q : (a : Axis) → has a (b % 8) ≡ F a p = λ a. has-low a b ∙ h a in
-    sym (small-byte (b % 8) (omega arith)) ∙ ap₂ (λ (x : Bool) (k : ℕ). value x 1 + k) (q X) (ap₂ (λ (x y : Bool). value x 2 + value y 4) (q Y) (q Z))
 
 -- a buffer whose first k bytes are known and whose others are as they were
 front : (k : ℕ) (s t h : List ℕ) → take k s ≡ h → length s ≡ length t → ((i : ℕ) → k ≤ i → getD s i 0 ≡ getD t i 0) → s ≡ h ++ drop k t
@@ -61,11 +57,11 @@ module _ (n : ℕ) (g w : List ℕ) (lg : pointCount n ≤ length g) (lw : point
       ∙ sym (ap (map (λ i. getD (paint low (pointCount n) g₃) i 0)) (rising n))
       ∙ map-map (λ i. getD (paint low (pointCount n) g₃) i 0) (pointNumber n) (points (suc n))
       ∙ map-same (λ p. getD (paint low (pointCount n) g₃) (pointNumber n p) 0) (byteAt (patched n (marks n g))) (points (suc n))
-      (all-weaken (OfGrid n) _ (λ p b. paint-at low (pointCount n) g₃ (pointNumber n p) (num-below n p b) s ∙ byte-is (patched n (marks n g)) p (getD g₃ (pointNumber n p) 0) (λ a. mark-is a p b)) (points (suc n)) (points-grid n))
+      (all-weaken (OfGrid n) _ (λ p b. paint-at low (pointCount n) g₃ (pointNumber n p) (num-below n p b) s ∙ low-is (patched n (marks n g)) p (getD g₃ (pointNumber n p) 0) (λ a. mark-is a p b)) (points (suc n)) (points-grid n))
 
-  flips-are : gaps (pointCount n) g₃ ≡ flipCount n (marks n g)
+  flips-are : allChanges (pointCount n) g₃ ≡ flipCount n (marks n g)
   unfolding flipCount
-  flips-are = gaps-count n (marks n g) (patched n (marks n g)) g₃
+  flips-are = changes-count n (marks n g) (patched n (marks n g)) g₃
       (all-weaken (OfGrid n) _ (λ p b a. (mark-is a p b, ap (has a) (D .came-in (pointNumber n p)) ∙ came-bit n g w lg lw h a p b)) (points (suc n)) (points-grid n))
 
   zeros-are : take (pointCount n) (paint nought (pointCount n) w₃) ≡ replicate (pointCount n) 0
@@ -76,7 +72,7 @@ module _ (n : ℕ) (g w : List ℕ) (lg : pointCount n ≤ length g) (lw : point
       ext-getD 0 _ _ (f ∙ sym (length-replicate (pointCount n) 0))
       (λ i l. getD-take (pointCount n) (paint nought (pointCount n) w₃) i 0 (omega arith) ∙ paint-at nought (pointCount n) w₃ i (omega arith) s ∙ sym (getD-replicate (pointCount n) i 0 0 (omega arith)))
 
-  all-well : counted r (gaps (pointCount n) g₃) (paint low (pointCount n) g₃) (paint nought (pointCount n) w₃) ≡ patchDone n g w
+  all-well : counted r (allChanges (pointCount n) g₃) (paint low (pointCount n) g₃) (paint nought (pointCount n) w₃) ≡ patchDone n g w
   unfolding patchDone
   all-well = λ i. record {
     number = 0;
@@ -89,19 +85,19 @@ module _ (n : ℕ) (g w : List ℕ) (lg : pointCount n ≤ length g) (lw : point
   }
 
 -- ---- the parts of the call one after the other
-pub found-is : (n : ℕ) (g w : List ℕ) → pointCount n ≤ length g → pointCount n ≤ length w → isGrid n g ≡ true → (k : ℕ) → k ≡ pointCount n → (z o : List ℕ) → z ≡ paint nought k w → o ≡ works n (marksFrom n g 0 (pointCount n)) z → o ≡ oddFound n g w
+found-is : (n : ℕ) (g w : List ℕ) → pointCount n ≤ length g → pointCount n ≤ length w → isGrid n g ≡ true → (k : ℕ) → k ≡ pointCount n → (z o : List ℕ) → z ≡ paint nought k w → o ≡ works n (marksFrom n g 0 (pointCount n)) z → o ≡ oddFound n g w
 found-is n g w lg lw h k ek z o ez eo = eo ∙ ap (works n (marksFrom n g 0 (pointCount n))) (ez ∙ ap (λ (j : ℕ). paint nought j w) ek)
 
 module _ (n : ℕ) (g w : List ℕ) (lg : pointCount n ≤ length g) (lw : pointCount n ≤ length w) (h : isGrid n g ≡ true) (k : ℕ) (ek : k ≡ pointCount n)
-    (z o g₁ w₁ : List ℕ) (ez : z ≡ paint nought k w) (eo : o ≡ works n (marksFrom n g 0 (pointCount n)) z) (eg : g₁ ≡ paint nine k g) (ew : w₁ ≡ paint eight k o) where
+    (z o g₁ w₁ : List ℕ) (ez : z ≡ paint nought k w) (eo : o ≡ works n (marksFrom n g 0 (pointCount n)) z) (eg : g₁ ≡ paint marksPutBy k g) (ew : w₁ ≡ paint oddPutBy k o) where
   pub grid-is : g₁ ≡ gridStart n g
-  grid-is = eg ∙ ap (λ (j : ℕ). paint nine j g) ek
+  grid-is = eg ∙ ap (λ (j : ℕ). paint marksPutBy j g) ek
 
   pub work-is : w₁ ≡ workStart n g w
-  work-is = ew ∙ ap₂ (λ (j : ℕ) (s : List ℕ). paint eight j s) ek (found-is n g w lg lw h k ek z o ez eo)
+  work-is = ew ∙ ap₂ (λ (j : ℕ) (s : List ℕ). paint oddPutBy j s) ek (found-is n g w lg lw h k ek z o ez eo)
 
-  pub ends-well : (g₃ w₃ : List ℕ) (r : ℕ) → AllPatched n g₁ w₁ g₃ w₃ r → (g₄ w₄ : List ℕ) (f : ℕ) → f ≡ gaps k g₃ → g₄ ≡ paint low k g₃ → w₄ ≡ paint nought k w₃ → counted r f g₄ w₄ ≡ patchDone n g w
+  pub ends-well : (g₃ w₃ : List ℕ) (r : ℕ) → AllPatched n g₁ w₁ g₃ w₃ r → (g₄ w₄ : List ℕ) (f : ℕ) → f ≡ allChanges k g₃ → g₄ ≡ paint low k g₃ → w₄ ≡ paint nought k w₃ → counted r f g₄ w₄ ≡ patchDone n g w
   ends-well g₃ w₃ r F g₄ w₄ f ef fg fw =
       let G = subst (λ (s : List ℕ). AllPatched n s (workStart n g w) g₃ w₃ r) grid-is (subst (λ (s : List ℕ). AllPatched n g₁ s g₃ w₃ r) work-is F) in
-      (λ i. counted r ((ef ∙ ap (λ (j : ℕ). gaps j g₃) ek) i) ((fg ∙ ap (λ (j : ℕ). paint low j g₃) ek) i) ((fw ∙ ap (λ (j : ℕ). paint nought j w₃) ek) i))
+      (λ i. counted r ((ef ∙ ap (λ (j : ℕ). allChanges j g₃) ek) i) ((fg ∙ ap (λ (j : ℕ). paint low j g₃) ek) i) ((fw ∙ ap (λ (j : ℕ). paint nought j w₃) ek) i))
       ∙ all-well n g w lg lw h g₃ w₃ r (G (marks n g) (marks-inner n g) (start n g w lg lw h))

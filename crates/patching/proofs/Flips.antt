@@ -2,7 +2,7 @@
 use mathlib.Core.Path.{_≡_, refl, sym, ap, ap₂, _∙_}
 use mathlib.Core.Bool.{Bool}
 use mathlib.Core.List.{List, [], _∷_}
-use Prim.Native.Nat.{ℕ, zero, suc, _+_, _/_}
+use Prim.Native.Nat.{ℕ, zero, suc, _+_}
 use native.Mathlib.Omega.{arith}
 use lib.ListN.{getD}
 use Rattle.rules.specs.Lists.{_⊕_, count, upto, All, sumOf}
@@ -16,32 +16,33 @@ use Rattle.rules.specs.declared.Axis.the-variants.{X, Y, Z}
 use Rattle.rules.specs.declared.Point.{Point}
 use Rattle.rules.specs.Lattice.{Set, isIn, symdiff, places, points, pointNumber, pointCount, placesAt}
 use Rattle.rules.specs.Grid.{has, value}
-use Rattle.patching.specs.Paint.{gap, gaps}
+use Rattle.lattice.specs.Byte.{came, changes}
+use Rattle.patching.specs.Paint.{allChanges}
 
-gaps-sum : (k : ℕ) (s : List ℕ) → gaps k s ≡ sumOf (λ i. gap (getD s i 0)) (upto 0 k)
-unfolding gaps
-gaps-sum zero s = refl
-gaps-sum (suc k) s =
-    ap (λ (m : ℕ). m + gap (getD s k 0)) (gaps-sum k s)
-    ∙ ap (λ (j : ℕ). sumOf (λ i. gap (getD s i 0)) (upto 0 k) + gap (getD s j 0)) (let e : k ≡ 0 + k = omega arith in e)
-    ∙ sym (sum-last (λ i. gap (getD s i 0)) 0 k)
+changes-sum : (k : ℕ) (s : List ℕ) → allChanges k s ≡ sumOf (λ i. changes (getD s i 0)) (upto 0 k)
+unfolding allChanges
+changes-sum zero s = refl
+changes-sum (suc k) s =
+    ap (λ (m : ℕ). m + changes (getD s k 0)) (changes-sum k s)
+    ∙ ap (λ (j : ℕ). sumOf (λ i. changes (getD s i 0)) (upto 0 k) + changes (getD s j 0)) (let e : k ≡ 0 + k = omega arith in e)
+    ∙ sym (sum-last (λ i. changes (getD s i 0)) 0 k)
 
--- a buffer that holds F in its lowest bits and E in those from 8 on
-pub gaps-count : (n : ℕ) (E F : Set) (s : List ℕ) →
-    All (λ p. (a : Axis) → (has a (getD s (pointNumber n p) 0) ≡ F a p) × (has a (getD s (pointNumber n p) 0 / 8) ≡ E a p)) (points (suc n)) →
-    gaps (pointCount n) s ≡ count (λ e. isIn (symdiff E F) e) (places (suc n))
-gaps-count n E F s h =
-    gaps-sum (pointCount n) s
-    ∙ ap (sumOf (λ i. gap (getD s i 0))) (sym (rising n))
-    ∙ sum-map (λ i. gap (getD s i 0)) (pointNumber n) (points (suc n))
+-- a buffer that holds F as it is now, and E as it came
+pub changes-count : (n : ℕ) (E F : Set) (s : List ℕ) →
+    All (λ p. (a : Axis) → (has a (getD s (pointNumber n p) 0) ≡ F a p) × (came a (getD s (pointNumber n p) 0) ≡ E a p)) (points (suc n)) →
+    allChanges (pointCount n) s ≡ count (λ e. isIn (symdiff E F) e) (places (suc n))
+changes-count n E F s h =
+    changes-sum (pointCount n) s
+    ∙ ap (sumOf (λ i. changes (getD s i 0))) (sym (rising n))
+    ∙ sum-map (λ i. changes (getD s i 0)) (pointNumber n) (points (suc n))
     ∙ sum-same _ _ (points (suc n)) (at-each (points (suc n)) h)
     ∙ sym (count-each (λ e. isIn (symdiff E F) e) placesAt (points (suc n)))
   where
-    bit : (p : Point) (b : ℕ) → ((a : Axis) → (has a b ≡ F a p) × (has a (b / 8) ≡ E a p)) → (a : Axis) → value (has a b ⊕ has a (b / 8)) 1 ≡ value (symdiff E F a p) 1
+    bit : (p : Point) (b : ℕ) → ((a : Axis) → (has a b ≡ F a p) × (came a b ≡ E a p)) → (a : Axis) → value (has a b ⊕ came a b) 1 ≡ value (symdiff E F a p) 1
     bit p b k a = ap (λ (x : Bool). value x 1) (ap₂ _⊕_ (k a .0) (k a .1) ∙ ⊕-comm (F a p) (E a p))
 
-    at-each : (l : List Point) → All (λ p. (a : Axis) → (has a (getD s (pointNumber n p) 0) ≡ F a p) × (has a (getD s (pointNumber n p) 0 / 8) ≡ E a p)) l →
-        All (λ p. gap (getD s (pointNumber n p) 0) ≡ count (λ e. isIn (symdiff E F) e) (placesAt p)) l
+    at-each : (l : List Point) → All (λ p. (a : Axis) → (has a (getD s (pointNumber n p) 0) ≡ F a p) × (came a (getD s (pointNumber n p) 0) ≡ E a p)) l →
+        All (λ p. changes (getD s (pointNumber n p) 0) ≡ count (λ e. isIn (symdiff E F) e) (placesAt p)) l
     at-each [] k = tt
     at-each (p ∷ l) k =
         let c = bit p (getD s (pointNumber n p) 0) (k .0) in

@@ -3,14 +3,13 @@ use mathlib.Core.Path.{_≡_, refl, sym, ap, ap₂, _∙_, subst}
 use mathlib.Core.Bool.{Bool, true, false, not, _&&_, _||_, cond, true≢false}
 use mathlib.Core.List.{List}
 use mathlib.Core.Logic.{_⊎_, inl, inr}
-use Prim.Native.Nat.{ℕ, _+_, _/_, _≤_}
+use Prim.Native.Nat.{ℕ, _+_, _≤_}
 use native.Mathlib.Omega.{arith}
 use lib.ListN.{length, getD}
 use Rattle.rules.specs.Lists.{_⊕_, anyOf, parity, each, All, count}
 use Rattle.rules.proofs.Bits.{⊕-self, xors, same-test}
 use Rattle.rules.proofs.Lists.{all-weaken, all-pair, all-swap}
 use Rattle.rules.specs.declared.Axis.{Axis}
-use Rattle.rules.specs.declared.Axis.the-variants.{X}
 use Rattle.rules.specs.declared.Point.{Point}
 use Rattle.rules.specs.declared.Place.{Place}
 use Rattle.rules.specs.declared.Box.{Box}
@@ -27,11 +26,13 @@ use Rattle.rules.proofs.Scan.{count-or-one}
 use Rattle.rules.proofs.Patched.{odd-in, rims-all}
 use Rattle.rules.proofs.FaceMarks.{odd-kept}
 use Rattle.rules.proofs.Same.{count-same, anyOf-same, parity-same}
+use Rattle.lattice.specs.Byte.{above, high}
 use Rattle.lattice.specs.Cells.{Cell, turns, works, facesOf}
+use Rattle.lattice.proofs.Parts.{above-high}
+use Rattle.lattice.proofs.PointSteps.{cell-grid}
 use Rattle.walking.specs.Walks.{seenB, New, Found}
-use Rattle.walking.proofs.Faces.{cell-grid}
-use Rattle.walking.proofs.Bytes.{odd-same, seen-same}
-use Rattle.halving.proofs.Turns.{turns-length, turns-high, turns-past, stored-turns, stored-works, low-edges, low-faces}
+use Rattle.walking.proofs.Bytes.{odd-same, seen-same, seen-above}
+use Rattle.halving.proofs.Turns.{turns-length, turns-above, turns-past, stored-turns, stored-works, low-edges, low-faces}
 use Rattle.halving.proofs.Boxes.{patch-edged}
 use Rattle.halving.specs.Halving.{Fits, Edged}
 use Rattle.patching.specs.Between.{owns, Between}
@@ -124,17 +125,13 @@ module _ (n : ℕ) (E : Set) (inner : (a : Axis) (p : Point) → E a p ≡ true 
       go (inl e) = old (seenB n v q) (seenB n w q) (seen-same n w v q e)
       go (inr h) = fresh (seenB n v q) (seenB n w q) (h .dark)
 
-  high-same : (s t : List ℕ) (q : Point) → getD s (pointNumber n q) 0 / 8 ≡ getD t (pointNumber n q) 0 / 8 → seenB n s q ≡ seenB n t q
-  unfolding seenB
-  high-same s t q e = ap (has X) (let f : getD s (pointNumber n q) 0 / 64 ≡ getD t (pointNumber n q) 0 / 64 = omega arith in f)
-
   pub rim-next : (g₂ w₂ : List ℕ) → g₂ ≡ turns n (patchOf b (stored n v)) g → w₂ ≡ works n (patchOf b (stored n v)) v → Between n E (λ s. owns c s || hit s) g₀ w₀ g₂ w₂ (k + 1)
   rim-next g₂ w₂ eg ew = record {
     g-long = ap length eg ∙ turns-length n (patchOf b (stored n v)) g ∙ B .g-long;
     w-long = ap length ew ∙ turns-length n (each facesOf (patchOf b (stored n v))) v ∙ F .long ∙ B .w-long;
     g-past = λ i l. ap (λ (s : List ℕ). getD s i 0) eg ∙ turns-past n (patchOf b (stored n v)) g i (low-edges n (patchOf b (stored n v)) ed) l ∙ B .g-past i l;
     w-past = λ i l. ap (λ (s : List ℕ). getD s i 0) ew ∙ turns-past n (each facesOf (patchOf b (stored n v))) v i (low-faces n (patchOf b (stored n v)) ed) l ∙ F .past i l ∙ B .w-past i l;
-    came-in = λ i. ap (λ (s : List ℕ). getD s i 0 / 8) eg ∙ turns-high n (patchOf b (stored n v)) g i (low-edges n (patchOf b (stored n v)) ed) g-size ∙ B .came-in i;
+    came-in = λ i. ap (λ (s : List ℕ). high (getD s i 0)) eg ∙ above-high _ _ (turns-above n (patchOf b (stored n v)) g i (low-edges n (patchOf b (stored n v)) ed) g-size) ∙ B .came-in i;
     marks-now = λ a p l. ap (λ (s : List ℕ). stored n s a p) eg ∙ stored-turns n (patchOf b (stored n v)) g (low-edges n (patchOf b (stored n v)) ed) g-size a p l
         ∙ ap (λ (x : Bool). x ⊕ setOf (patchOf b (stored n v)) a p) (B .marks-now a p l)
         ∙ assoc (stored n g₀ a p) (parity (λ r. hit r && setOf (patchRim r) a p) (rims n E)) (setOf (patchOf b (stored n v)) a p)
@@ -143,9 +140,9 @@ module _ (n : ℕ) (E : Set) (inner : (a : Axis) (p : Point) → E a p ≡ true 
     work-now = λ a p l. ap (λ (s : List ℕ). stored n s a p) ew ∙ stored-works n (patchOf b (stored n v)) v ed w-size′ a p l
         ∙ ap₂ _⊕_ (stored-is n E inner w v c b F a₀ o₀ shut′ (B .work-now) a p l) (ap (λ (t : List Place). oddFace (setOf t) a p) (the .2 (the .1) .patches) ∙ the .2 (the .1) .clears a p)
         ∙ ⊕-self (S n E inner w v c b F a₀ o₀ shut′ (B .work-now) (record { axis = a; at = p }));
-    odd-now = odd-same n v w₂ (λ a p l. ap (has a) (ap (λ (s : List ℕ). getD s (pointNumber n p) 0 / 8) ew ∙ turns-high n (each facesOf (patchOf b (stored n v))) v (pointNumber n p) (low-faces n (patchOf b (stored n v)) ed) w-size′))
+    odd-now = odd-same n v w₂ (λ a p l. ap (has a) (above-high _ _ (work-above (pointNumber n p))))
         ∙ odd-same n w v (F .odds) ∙ B .odd-now;
-    seen-now = λ q u. high-same w₂ v q (ap (λ (s : List ℕ). getD s (pointNumber n q) 0 / 8) ew ∙ turns-high n (each facesOf (patchOf b (stored n v))) v (pointNumber n q) (low-faces n (patchOf b (stored n v)) ed) w-size′)
+    seen-now = λ q u. seen-above n v w₂ q (work-above (pointNumber n q))
         ∙ seen-or q u ∙ ap (λ (x : Bool). x || newB n E inner w v c b F a₀ o₀ shut′ (B .work-now) q) (B .seen-now q u)
         ∙ sym (join-any (owns c) hit (touch q) (newB n E inner w v c b F a₀ o₀ shut′ (B .work-now) q) (rims n E) not-hit
         (all-pair (λ r. owns c r ≡ elem (record { axis = a₀; at = c }) r) _ _ (λ r x y e. y (sym x ∙ e) .touches q u) (rims n E) own-is got) own-one);
@@ -157,6 +154,9 @@ module _ (n : ℕ) (E : Set) (inner : (a : Axis) (p : Point) → E a p ≡ true 
     where
       ed : All (Edged n) (patchOf b (stored n v))
       ed = patch-edged n b (stored n v) fit
+
+      work-above : (i : ℕ) → above (getD w₂ i 0) ≡ above (getD v i 0)
+      work-above i = ap (λ (s : List ℕ). above (getD s i 0)) ew ∙ turns-above n (each facesOf (patchOf b (stored n v))) v i (low-faces n (patchOf b (stored n v)) ed) w-size′
 
       assoc : (p q s : Bool) → (p ⊕ q) ⊕ s ≡ p ⊕ (q ⊕ s)
       assoc p q s = simp xors

@@ -2,7 +2,7 @@
 use mathlib.Core.Path.{_≡_, refl, sym, ap, ap₂, _∙_, subst, fun-ext}
 use mathlib.Core.Bool.{Bool, true, false, cond}
 use mathlib.Core.List.{List, [], _∷_, _++_}
-use Prim.Native.Nat.{ℕ, suc, _+_, _-_, _/_, _≤_, _<_}
+use Prim.Native.Nat.{ℕ, suc, _+_, _-_, _≤_, _<_}
 use native.Mathlib.Numerals.{add-one}
 use native.Mathlib.Omega.{arith}
 use lib.ListN.{length, getD}
@@ -23,7 +23,7 @@ use Rattle.rules.proofs.Same.{keep-same, each-same}
 use Rattle.lattice.specs.Cells.{works, facesOf}
 use Rattle.lattice.proofs.GridFacts.{grid-marks}
 use Rattle.halving.specs.Halving.{Edged}
-use Rattle.halving.proofs.Turns.{works-append, turns-length, turns-high, turns-past, stored-works, low-faces}
+use Rattle.halving.proofs.Turns.{works-append, turns-length, turns-past, stored-works, low-faces}
 use Rattle.patching.specs.Marked.{markAt, marksAt, marksFrom}
 
 -- ---- the marked edges of a point, one axis after the other
@@ -127,14 +127,6 @@ module _ (n : ℕ) (g : List ℕ) (long : pointCount n ≤ length g) (grid : isG
     odd-stored a p b =
         stored-works n (marksFrom n g 0 (pointCount n)) z all-edged size a p b
         ∙ ap₂ (λ (x : Bool) (E : Set). x ⊕ oddFace E a p) (ap (has a) (zero p b) ∙ zero-has a) marks-set
-
-    -- and nothing else
-    pub odd-small : (p : Point) → OfGrid n p → getD (works n (marksFrom n g 0 (pointCount n)) z) (pointNumber n p) 0 < 8
-    odd-small p b =
-        let h = turns-high n (each facesOf (marksFrom n g 0 (pointCount n))) z (pointNumber n p) (low-faces n (marksFrom n g 0 (pointCount n)) all-edged) size in
-        let e = zero p b in
-        let f : getD z (pointNumber n p) 0 / 8 ≡ 0 = rw e refl in
-        omega arith
 
   pub odd-length : (z : List ℕ) → length (works n (marksFrom n g 0 (pointCount n)) z) ≡ length z
   odd-length z = turns-length n (each facesOf (marksFrom n g 0 (pointCount n))) z

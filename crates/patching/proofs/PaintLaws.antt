@@ -1,19 +1,19 @@
 -- Laws of paint. Assumes nothing.
 use mathlib.Core.Path.{_≡_, refl, sym, ap, ap₂, _∙_}
 use mathlib.Core.List.{List, _++_}
-use mathlib.Core.Bool.{Bool, true, false}
-use Prim.Native.Nat.{ℕ, zero, suc, _+_, _*_, _/_, _%_, _≤_, _<_}
-use lib.Dec.{eqb}
+use Prim.Native.Nat.{ℕ, zero, suc, _+_, _*_, _≤_, _<_}
 use Rattle.rules.specs.Lists.{_⊕_}
 use Rattle.rules.specs.declared.Axis.the-variants.{X, Y, Z}
-use Rattle.rules.specs.Grid.{has, value}
+use Rattle.rules.specs.Grid.{has}
 use native.Mathlib.Omega.{arith}
 use native.Mathlib.Numerals.{add-one}
 use native.Mathlib.Decide.{ℕ-discrete}
 use lib.ListN.{length, getD, set, drop, replicate, length-set}
 use lib.Seq.{getD-set-same, getD-set-other}
+use Rattle.lattice.specs.Byte.{came, changes}
 use Rattle.lattice.proofs.Clearing.{cleared-more}
-use Rattle.patching.specs.Paint.{paint, nought, gap, gaps}
+use Rattle.rules.proofs.Numbers.{value-most}
+use Rattle.patching.specs.Paint.{paint, nought, allChanges}
 
 pub paint-length : (f : ℕ → ℕ) (k : ℕ) (s : List ℕ) → length (paint f k s) ≡ length s
 unfolding paint
@@ -36,10 +36,14 @@ paint-at f (suc k) s i h l = go (ℕ-discrete i k) (λ r. paint-at f k s i r (om
         ap (λ (j : ℕ). getD (set (paint f k s) k (f (getD s k 0))) j 0) e ∙ getD-set-same (paint f k s) k (f (getD s k 0)) 0 (omega arith) ∙ ap (λ (j : ℕ). f (getD s j 0)) (sym e)
     go (no e) r = getD-set-other (paint f k s) k i (f (getD s k 0)) 0 e ∙ r (omega arith)
 
+pub paint-read : (f : ℕ → ℕ) (k : ℕ) (s t : List ℕ) → t ≡ paint f k s → getD t k 0 ≡ getD s k 0
+paint-read f k s t e = ap (λ (u : List ℕ). getD u k 0) e ∙ paint-past f k s k (omega arith)
+
 -- one more turn
-pub paint-more : (f : ℕ → ℕ) (k : ℕ) (s t : List ℕ) → t ≡ paint f k s → set t k (f (getD t k 0)) ≡ paint f (k + 1) s
+pub paint-more : (f : ℕ → ℕ) (k : ℕ) (s t : List ℕ) (v : ℕ) → t ≡ paint f k s → v ≡ f (getD t k 0) → set t k v ≡ paint f (k + 1) s
 unfolding paint
-paint-more f k s t e = ap (λ (u : List ℕ). set u k (f (getD u k 0))) e ∙ ap (λ (v : ℕ). set (paint f k s) k (f v)) (paint-past f k s k (omega arith)) ∙ ap (λ (j : ℕ). paint f j s) (sym (add-one k))
+paint-more f k s t v e q =
+    ap₂ (λ (u : List ℕ) (x : ℕ). set u k x) e (q ∙ ap f (paint-read f k s t e)) ∙ ap (λ (j : ℕ). paint f j s) (sym (add-one k))
 
 -- the next byte is there
 pub paint-room : (f : ℕ → ℕ) (k p : ℕ) (s t : List ℕ) → t ≡ paint f p s → p < k → k ≤ length s → p < length t
@@ -47,9 +51,6 @@ paint-room f k p s t e l h = let n = ap length e ∙ paint-length f p s in omega
 
 pub paint-kept : (f : ℕ → ℕ) (p : ℕ) (s t : List ℕ) → t ≡ paint f p s → length t ≡ length s
 paint-kept f p s t e = ap length e ∙ paint-length f p s
-
-pub paint-read : (f : ℕ → ℕ) (k : ℕ) (s t : List ℕ) → t ≡ paint f k s → getD t k 0 ≡ getD s k 0
-paint-read f k s t e = ap (λ (u : List ℕ). getD u k 0) e ∙ paint-past f k s k (omega arith)
 
 -- bytes set to 0 are painted with zeros
 pub cleared-paint : (k : ℕ) (s : List ℕ) → k ≤ length s → replicate k 0 ++ drop k s ≡ paint nought k s
@@ -59,39 +60,25 @@ cleared-paint (suc k) s h =
     ap (λ (j : ℕ). replicate j 0 ++ drop j s) (sym (add-one k)) ∙ sym (cleared-more k s (omega arith))
     ∙ ap (λ (t : List ℕ). set t k 0) (cleared-paint k s (omega arith))
 
-bit-most : (x : Bool) → value x 1 ≤ 1
-bit-most true = omega arith
-bit-most false = omega arith
-
-pub gap-most : (b : ℕ) → gap b ≤ 3
-gap-most b =
-    let x = bit-most (has X b ⊕ has X (b / 8)) in
-    let y = bit-most (has Y b ⊕ has Y (b / 8)) in
-    let z = bit-most (has Z b ⊕ has Z (b / 8)) in
+changes-small : (b : ℕ) → changes b ≤ 3
+changes-small b =
+    let x = value-most (has X b ⊕ came X b) 1 in
+    let y = value-most (has Y b ⊕ came Y b) 1 in
+    let z = value-most (has Z b ⊕ came Z b) 1 in
     omega arith
 
--- two bits differ
-pub bit-gap : (x y : ℕ) → x < 2 → y < 2 → (x + y) % 2 ≡ value (eqb x 1 ⊕ eqb y 1) 1
-bit-gap zero zero h k = refl
-bit-gap zero (suc zero) h k = refl
-bit-gap (suc zero) zero h k = refl
-bit-gap (suc zero) (suc zero) h k = refl
-bit-gap zero (suc (suc y)) h k = absurd (omega arith)
-bit-gap (suc zero) (suc (suc y)) h k = absurd (omega arith)
-bit-gap (suc (suc x)) y h k = absurd (omega arith)
+pub changes-most : (k : ℕ) (s : List ℕ) → allChanges k s ≤ 3 * k
+unfolding allChanges
+changes-most zero s = omega arith
+changes-most (suc k) s = let a = changes-most k s in let b = changes-small (getD s k 0) in omega arith
 
-pub gaps-most : (k : ℕ) (s : List ℕ) → gaps k s ≤ 3 * k
-unfolding gaps
-gaps-most zero s = omega arith
-gaps-most (suc k) s = let a = gaps-most k s in let b = gap-most (getD s k 0) in omega arith
+pub changes-more : (k n : ℕ) (s : List ℕ) (v : ℕ) → n ≡ allChanges k s → v ≡ getD s k 0 → n + changes v ≡ allChanges (k + 1) s
+unfolding allChanges
+changes-more k n s v e q = ap₂ (λ (a b : ℕ). a + changes b) e q ∙ ap (λ (j : ℕ). allChanges j s) (sym (add-one k))
 
-pub gaps-more : (k n : ℕ) (s : List ℕ) (v : ℕ) → n ≡ gaps k s → v ≡ getD s k 0 → n + gap v ≡ gaps (k + 1) s
-unfolding gaps
-gaps-more k n s v e q = ap₂ (λ (a b : ℕ). a + gap b) e q ∙ ap (λ (j : ℕ). gaps j s) (sym (add-one k))
-
-pub gaps-none : (s : List ℕ) → 0 ≡ gaps 0 s
-unfolding gaps
-gaps-none s = refl
+pub changes-none : (s : List ℕ) → 0 ≡ allChanges 0 s
+unfolding allChanges
+changes-none s = refl
 
 pub paint-none : (f : ℕ → ℕ) (s : List ℕ) → s ≡ paint f 0 s
 unfolding paint

@@ -30,8 +30,8 @@ use Rattle.lattice.specs.Cells.{faceOf, indexOf, Cell}
 use Rattle.rules.specs.Lattice.{OfGrid}
 use Rattle.rules.specs.Grid.{stored}
 use Rattle.walking.specs.Walks.{seenB, acrossOf, cellBox, Route, here, over, New, Found}
-use Rattle.lattice.proofs.PointSteps.{up-down, pred-most, down-cell}
-use Rattle.walking.proofs.Faces.{which, face-lower, face-upper, across-lower, across-upper, index-small, cell-grid, face-cell}
+use Rattle.lattice.proofs.PointSteps.{pred-most, up-down, cell-grid, down-cell}
+use Rattle.walking.proofs.Faces.{which, face-lower, face-upper, across-lower, across-upper, index-small, face-cell}
 use Rattle.walking.proofs.Bytes.{seen-same}
 use Rattle.halving.proofs.Boxes.{patchOf-cong, face-grid as box-face}
 use Rattle.halving.specs.Halving.{Fits}

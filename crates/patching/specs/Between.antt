@@ -2,7 +2,7 @@
 use mathlib.Core.Path.{_≡_}
 use mathlib.Core.Bool.{Bool, true, false, _&&_, _||_}
 use mathlib.Core.List.{List, [], _∷_}
-use Prim.Native.Nat.{ℕ, zero, suc, _+_, _/_, _≤_}
+use Prim.Native.Nat.{ℕ, zero, suc, _+_, _≤_}
 use lib.ListN.{length, getD}
 use Rattle.rules.specs.Lists.{_⊕_, parity, anyOf, count}
 use Rattle.rules.specs.declared.Axis.{Axis}
@@ -13,6 +13,7 @@ use Rattle.rules.specs.Cell.{oddFace}
 use Rattle.rules.specs.Rims.{rims, touch}
 use Rattle.rules.specs.Patch.{flips, patchRim}
 use Rattle.rules.specs.Grid.{stored}
+use Rattle.lattice.specs.Byte.{high}
 use Rattle.lattice.specs.Cells.{Cell}
 use Rattle.walking.specs.Walks.{oddIn, seenB}
 
@@ -40,7 +41,7 @@ pub record Between (n : ℕ) (E : Set) (hit : List Place → Bool) (g₀ w₀ g 
   pub w-long : length w ≡ length w₀
   pub g-past : (i : ℕ) → pointCount n ≤ i → getD g i 0 ≡ getD g₀ i 0
   pub w-past : (i : ℕ) → pointCount n ≤ i → getD w i 0 ≡ getD w₀ i 0
-  pub came-in : (i : ℕ) → getD g i 0 / 8 ≡ getD g₀ i 0 / 8
+  pub came-in : (i : ℕ) → high (getD g i 0) ≡ high (getD g₀ i 0)
   pub marks-now : (a : Axis) (p : Point) → OfGrid n p → stored n g a p ≡ stored n g₀ a p ⊕ parity (λ r. hit r && setOf (patchRim r) a p) (rims n E)
   pub work-now : (a : Axis) (p : Point) → OfGrid n p → stored n w a p ≡ false
   pub odd-now : oddIn n w ≡ oddFace E
@@ -53,7 +54,7 @@ pub record Finished (n : ℕ) (E : Set) (g₀ w₀ g w : List ℕ) (k : ℕ) : T
   pub w-long : length w ≡ length w₀
   pub g-past : (i : ℕ) → pointCount n ≤ i → getD g i 0 ≡ getD g₀ i 0
   pub w-past : (i : ℕ) → pointCount n ≤ i → getD w i 0 ≡ getD w₀ i 0
-  pub came-in : (i : ℕ) → getD g i 0 / 8 ≡ getD g₀ i 0 / 8
+  pub came-in : (i : ℕ) → high (getD g i 0) ≡ high (getD g₀ i 0)
   pub marks-now : (a : Axis) (p : Point) → OfGrid n p → stored n g a p ≡ stored n g₀ a p ⊕ setOf (flips n E) a p
   pub counted : k ≡ length (rims n E)
 

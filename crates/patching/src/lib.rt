@@ -1,7 +1,13 @@
 // The call patch.
 use halving::patch_box;
 use halving::turn_faces;
-use lattice::bit;
+use lattice::byte::bit;
+use lattice::byte::changes;
+use lattice::byte::is_seen;
+use lattice::byte::low;
+use lattice::byte::marks_put_by;
+use lattice::byte::none_odd;
+use lattice::byte::odd_put_by;
 use lattice::clear;
 use lattice::level::Level;
 use lattice::level::LevelRead;
@@ -18,10 +24,11 @@ ghost use lib.ListN.{length, getD};
 ghost use Rattle.rules.specs.declared.Axis.{Axis};
 ghost use Rattle.rules.specs.Lattice.{pointCount, pointOf};
 ghost use Rattle.rules.specs.Grid.{has, isGrid};
+ghost use Rattle.lattice.specs.Byte.{low, marksPutBy, oddPutBy};
 ghost use Rattle.lattice.specs.Cells.{works};
 ghost use Rattle.walking.specs.Walks.{Fine};
 ghost use Rattle.halving.specs.Halving.{Edged};
-ghost use Rattle.patching.specs.Paint.{paint, gap, gaps, nine, eight, low, nought};
+ghost use Rattle.patching.specs.Paint.{paint, allChanges, nought};
 ghost use Rattle.patching.specs.Marked.{markAt, marksAt, marksFrom};
 ghost use Rattle.patching.specs.Between.{Moves, AllPatched};
 ghost use Rattle.patching.specs.Call.{told, counted, patchDone, patchCall};
@@ -118,15 +125,15 @@ fn find_odd(n: usize, grid: &[u8], work: &mut [u8])
     }
 }
 
-// Puts each mark beside itself, into the bits 8, 16 and 32, and moves each odd face there.
+// Puts the marks by as they came, and the odd faces.
 fn put_by(count: usize, grid: &mut [u8], work: &mut [u8])
-    requires { ⌜ (count ≤ length (now grid)) × (count ≤ length (now work)) × ((i : ℕ) → i < count → getD (now grid) i 0 ≤ 7) × ((i : ℕ) → i < count → getD (now work) i 0 ≤ 7) ⌝ }
-    ensures { λ _. ⌜ (now (grid .exit) ≡ paint nine count (now (grid .entry))) × (now (work .exit) ≡ paint eight count (now (work .entry))) ⌝ }
+    requires { ⌜ (count ≤ length (now grid)) × (count ≤ length (now work)) ⌝ }
+    ensures { λ _. ⌜ (now (grid .exit) ≡ paint marksPutBy count (now (grid .entry))) × (now (work .exit) ≡ paint oddPutBy count (now (work .entry))) ⌝ }
 {
     let mut p: usize = 0;
     while p < count {
-        grid[p] = grid[p] * 9;
-        work[p] = work[p] * 8;
+        grid[p] = marks_put_by(grid[p]);
+        work[p] = odd_put_by(work[p]);
         p += 1;
     }
 }
@@ -150,10 +157,10 @@ fn rim_at(n: usize, grid: &mut [u8], work: &mut [u8], p: usize) -> u32
     ensures { λ r. ⌜ (r ≤ 1) × Moves n (pointOf n p) (now (grid .entry)) (now (work .entry)) (now (grid .exit)) (now (work .exit)) r × Fine n (now (work .exit)) ⌝ }
 {
     let b = work[p];
-    if b / 8 % 8 == 0 {
+    if none_odd(b) {
         return 0;
     }
-    if b / 64 % 2 == 1 {
+    if is_seen(b) {
         return 0;
     }
     let reach = find_rim(n, work, point_of(n, p));
@@ -176,27 +183,16 @@ fn all_rims(n: usize, grid: &mut [u8], work: &mut [u8]) -> u32
     found
 }
 
-// How many of a point's three marks differ from those that came.
-fn gap_of(b: u8) -> u32
-    ensures { λ r. ⌜ (r ≡ gap b) × (r ≤ 3) ⌝ }
-{
-    let came = b / 8;
-    let x = (b % 2 + came % 2) % 2;
-    let y = (b / 2 % 2 + came / 2 % 2) % 2;
-    let z = (b / 4 % 2 + came / 4 % 2) % 2;
-    (x + (y + z)) as u32
-}
-
 // Keeps the marks as they are now, clears the work bytes, and counts the edges whose mark differs.
 fn finish(count: usize, grid: &mut [u8], work: &mut [u8]) -> u32
     requires { ⌜ (count ≤ 35937) × (count ≤ length (now grid)) × (count ≤ length (now work)) ⌝ }
-    ensures { λ r. ⌜ (r ≡ gaps count (now (grid .entry))) × (now (grid .exit) ≡ paint low count (now (grid .entry))) × (now (work .exit) ≡ paint nought count (now (work .entry))) ⌝ }
+    ensures { λ r. ⌜ (r ≡ allChanges count (now (grid .entry))) × (now (grid .exit) ≡ paint low count (now (grid .entry))) × (now (work .exit) ≡ paint nought count (now (work .entry))) ⌝ }
 {
     let mut flips: u32 = 0;
     let mut p: usize = 0;
     while p < count {
-        flips += gap_of(grid[p]);
-        grid[p] = grid[p] % 8;
+        flips += changes(grid[p]);
+        grid[p] = low(grid[p]);
         work[p] = 0;
         p += 1;
     }

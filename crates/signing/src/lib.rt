@@ -1,5 +1,5 @@
 // The call sign: which points are inside.
-use lattice::bit;
+use lattice::byte::bit;
 use lattice::level::Level;
 use lattice::level::LevelRead;
 use lattice::level::point_count;

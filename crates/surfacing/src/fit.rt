@@ -1,5 +1,5 @@
 // Whether signs fit a grid: none above 1, point (0,0,0) outside, and a sign change exactly where there is a mark.
-use lattice::bit;
+use lattice::byte::bit;
 use lattice::coordinate;
 use lattice::level::point_count;
 use lattice::scan::next_point;

@@ -1,5 +1,5 @@
 // The list of quads: the four cells around each marked edge, by rising point number, x before y before z at one point.
-use lattice::bit;
+use lattice::byte::bit;
 use lattice::level::point_count;
 use lattice::scan::next_point;
 use rules::Axis;

@@ -15,7 +15,7 @@ use Rattle.rules.proofs.PointOf.{low-digit, high-digit}
 use Rattle.lattice.specs.Cells.{Cell}
 use Rattle.walking.specs.Walks.{seenB, lightOf}
 use Rattle.walking.specs.Bound.{cellOf, darkBelow}
-use Rattle.walking.proofs.Faces.{cell-grid}
+use Rattle.lattice.proofs.PointSteps.{cell-grid}
 use Rattle.walking.proofs.Bytes.{seen-same, light-other, light-seen}
 
 -- ---- a cell and its number

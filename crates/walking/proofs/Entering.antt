@@ -19,7 +19,8 @@ use Rattle.rules.proofs.Bits.{and-left, and-right, or-no-left, or-no-right}
 use Rattle.rules.proofs.RimBox.{sub-trans, sub-join, join-left, join-right}
 use Rattle.walking.specs.Walks.{seenB, lightOf, oddAt, acrossOf, opposite, backOf, openB, cellBox, Walked, pushOf, over, New}
 use Rattle.walking.specs.Bound.{darkCells}
-use Rattle.walking.proofs.Faces.{Crossed, crossed, cell-grid}
+use Rattle.lattice.proofs.PointSteps.{cell-grid}
+use Rattle.walking.proofs.Faces.{Crossed, crossed}
 use Rattle.walking.proofs.Bytes.{seen-same, light-length, light-past, light-seen, light-way, light-odd}
 use Rattle.walking.proofs.Dark.{dark-enter}
 use Rattle.walking.proofs.Trail.{not-same, trailOf, Trail, trail-new, trail-lit, byte-on, new-on, trail-on, new-was, each-on, done-on}

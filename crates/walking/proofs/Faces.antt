@@ -2,8 +2,8 @@
 use mathlib.Core.Path.{_≡_, refl, sym, ap, ap₂, _∙_, subst}
 use mathlib.Core.Logic.{_⊎_, inl, inr}
 use mathlib.Core.Bool.{Bool, true, false}
-use Prim.Native.Nat.{ℕ, zero, suc, pred, _+_, _-_, _≤_, _<_}
-use native.Mathlib.Nat.{add-zero, le-trans}
+use Prim.Native.Nat.{ℕ, zero, suc, pred, _+_, _-_, _*_, _≤_, _<_}
+use native.Mathlib.Nat.{add-zero}
 use native.Mathlib.Numerals.{add-one}
 use native.Mathlib.Omega.{arith}
 use lib.Dec.{eqb}
@@ -11,15 +11,16 @@ use Rattle.rules.specs.declared.Axis.{Axis}
 use Rattle.rules.specs.declared.Axis.the-variants.{X, Y, Z}
 use Rattle.rules.specs.declared.Point.{Point}
 use Rattle.rules.specs.declared.Place.{Place}
-use Rattle.rules.specs.Lattice.{coord, up, down, faceIn, whole, OfGrid}
+use Rattle.rules.specs.Lattice.{coord, withCoord, up, down, origin, faceIn, whole, OfGrid}
 use Rattle.rules.specs.Grid.{value}
 use Rattle.rules.proofs.Bits.{eqb→}
 use Rattle.rules.proofs.Boxes.{faceIn→}
-use Rattle.rules.proofs.Rims.{down-up, pred-suc}
-use Rattle.lattice.specs.Cells.{faceRule, faceOf, indexOf, Cell}
+use Rattle.lattice.specs.Cells.{upperFace, faceRule, faceOf, indexOf, Cell}
 use Rattle.lattice.proofs.Laws.{face-small}
-use Rattle.lattice.proofs.PointSteps.{up-down, pred-most, down-cell}
-use Rattle.walking.specs.Walks.{Inside, acrossOf, opposite}
+use Rattle.rules.proofs.Numbers.{value-most}
+use Rattle.lattice.proofs.PointSteps.{up-down, down-cell}
+use Rattle.rules.proofs.Rims.{down-up}
+use Rattle.walking.specs.Walks.{Inside, crossedOn, acrossOf, opposite}
 
 -- ---- a lower and an upper face on each axis
 at-zero : (c : Point) → record { i = c .i + 0; j = c .j + 0; k = c .k + 0 } ≡ c
@@ -76,17 +77,9 @@ which (suc (suc (suc (suc (suc zero))))) h = inr (Z, refl)
 which (suc (suc (suc (suc (suc (suc f)))))) h = absurd (omega arith)
 
 -- ---- points and cells around a cell
-pub cell-grid : (n : ℕ) (c : Point) → Cell n c → OfGrid n c
-cell-grid n c h = omega arith
-
 pub face-grid : (n f : ℕ) (c : Point) → Cell n c → OfGrid n (faceOf f c .at)
 unfolding faceOf
 face-grid n f c k = let b = face-small f (faceRule f) refl in omega arith
-
-pub down-grid : (n : ℕ) (a : Axis) (p : Point) → OfGrid n p → OfGrid n (down a p)
-down-grid n X p h = let m = pred-most (p .i) in record { i = le-trans m (h .i); j = h .j; k = h .k }
-down-grid n Y p h = let m = pred-most (p .j) in record { i = h .i; j = le-trans m (h .j); k = h .k }
-down-grid n Z p h = let m = pred-most (p .k) in record { i = h .i; j = h .j; k = le-trans m (h .k) }
 
 -- a face between two cells: its upper cell, and its place above the lowest layer
 pub face-cell : (n : ℕ) (a : Axis) (p : Point) → faceIn (whole n) a p ≡ true → Cell n p × (1 ≤ coord a p)
@@ -130,19 +123,13 @@ crossed n f c l k i = go (which f l)
     go (inl e) = subst (λ (g : ℕ). Crossed n g c) (sym (e .1)) (lower (e .0) (subst (λ (g : ℕ). Inside n g c) (e .1) i))
     go (inr e) = subst (λ (g : ℕ). Crossed n g c) (sym (e .1)) (upper (e .0) (subst (λ (g : ℕ). Inside n g c) (e .1) i))
 
--- the cell across, as code adds it up
-pub across-sum : (n f : ℕ) (c : Point) → f < 6 → Inside n f c →
-    record {
-      i = c .i + value (eqb f 3) 1 - value (eqb f 0) 1;
-      j = c .j + value (eqb f 4) 1 - value (eqb f 1) 1;
-      k = c .k + value (eqb f 5) 1 - value (eqb f 2) 1;
-    }
-    ≡ acrossOf f c
-across-sum n f c l h = go f l h
+-- ---- the cell across, as code adds it up: on one axis after the other
+pub crossed-all : (n f : ℕ) (c : Point) → f < 6 → Inside n f c → crossedOn Z f (crossedOn Y f (crossedOn X f c)) ≡ acrossOf f c
+crossed-all n f c l h = go f l h
   where
     low : (k : ℕ) → 1 ≤ k → k + 0 - 1 ≡ pred k
     low zero e = absurd (omega arith)
-    low (suc k) e = let p = pred-suc k in omega arith
+    low (suc k) e = let p : pred (suc k) ≡ k = omega arith in omega arith
 
     same : (k : ℕ) → k + 0 - 0 ≡ k
     same k = omega arith
@@ -153,13 +140,7 @@ across-sum n f c l h = go f l h
     above : (a : Axis) → Inside n (indexOf a) c → 1 ≤ coord a c
     above a i = face-cell n a c (subst (λ (e : Place). faceIn (whole n) (e .axis) (e .at) ≡ true) (face-lower a c) i) .1
 
-    go : (g : ℕ) → g < 6 → Inside n g c →
-        record {
-          i = c .i + value (eqb g 3) 1 - value (eqb g 0) 1;
-          j = c .j + value (eqb g 4) 1 - value (eqb g 1) 1;
-          k = c .k + value (eqb g 5) 1 - value (eqb g 2) 1;
-        }
-        ≡ acrossOf g c
+    go : (g : ℕ) → g < 6 → Inside n g c → crossedOn Z g (crossedOn Y g (crossedOn X g c)) ≡ acrossOf g c
     go zero k i = (λ t. record { i = low (c .i) (above X i) t; j = same (c .j) t; k = same (c .k) t }) ∙ sym (across-lower X c)
     go (suc zero) k i = (λ t. record { i = same (c .i) t; j = low (c .j) (above Y i) t; k = same (c .k) t }) ∙ sym (across-lower Y c)
     go (suc (suc zero)) k i = (λ t. record { i = same (c .i) t; j = same (c .j) t; k = low (c .k) (above Z i) t }) ∙ sym (across-lower Z c)
@@ -169,20 +150,60 @@ across-sum n f c l h = go f l h
     go (suc (suc (suc (suc (suc (suc g)))))) k i = absurd (omega arith)
 
 -- what is taken away is there
-pub across-fits : (n f : ℕ) (c : Point) → f < 6 → Inside n f c → (value (eqb f 0) 1 ≤ c .i) × (value (eqb f 1) 1 ≤ c .j) × (value (eqb f 2) 1 ≤ c .k)
-across-fits n f c l h = (at f X h (c .i) refl, at f Y h (c .j) refl, at f Z h (c .k) refl)
+pub crossed-fits : (n f : ℕ) (c : Point) (a : Axis) → Inside n f c → value (eqb f (indexOf a)) 1 ≤ coord a c
+crossed-fits n f c a i = go (eqb f (indexOf a)) refl
   where
-    at : (g : ℕ) (a : Axis) → Inside n g c → (k : ℕ) → coord a c ≡ k → value (eqb g (indexOf a)) 1 ≤ k
-    at g a i k e = go (eqb g (indexOf a)) refl
-      where
-        go : (x : Bool) → eqb g (indexOf a) ≡ x → value x 1 ≤ k
-        go true q =
-            let j = subst (λ (m : ℕ). Inside n m c) (eqb→ g (indexOf a) q) i in
-            let b = face-cell n a c (subst (λ (y : Place). faceIn (whole n) (y .axis) (y .at) ≡ true) (face-lower a c) j) in
-            omega (arith, b .1)
-        go false q = omega arith
+    go : (x : Bool) → eqb f (indexOf a) ≡ x → value x 1 ≤ coord a c
+    go true q =
+        let j = subst (λ (m : ℕ). Inside n m c) (eqb→ f (indexOf a) q) i in
+        face-cell n a c (subst (λ (y : Place). faceIn (whole n) (y .axis) (y .at) ≡ true) (face-lower a c) j) .1
+    go false q = omega arith
 
-pub across-by : (n f : ℕ) (c : Point) → f < 6 → Inside n f c → (p q r s t u : ℕ) →
-    p ≡ value (eqb f 3) 1 → q ≡ value (eqb f 0) 1 → r ≡ value (eqb f 4) 1 → s ≡ value (eqb f 1) 1 → t ≡ value (eqb f 5) 1 → u ≡ value (eqb f 2) 1 →
-    record { i = c .i + p - q; j = c .j + r - s; k = c .k + t - u } ≡ acrossOf f c
-across-by n f c l h p q r s t u ep eq er es et eu = rw (ep, eq, er, es, et, eu) (across-sum n f c l h)
+-- a step from a cell leads to a point
+pub crossed-grid : (n f : ℕ) (c : Point) (a : Axis) → OfGrid n c → coord a c < n → OfGrid n (crossedOn a f c)
+crossed-grid n f c X h k = let v = value-most (eqb f 3) 1 in omega arith
+crossed-grid n f c Y h k = let v = value-most (eqb f 4) 1 in omega arith
+crossed-grid n f c Z h k = let v = value-most (eqb f 5) 1 in omega arith
+
+-- ---- one step by the table's offset
+module _ (a : Axis) (e : Place) (q : e ≡ upperFace a) where
+  pub offset-small : OfGrid 1 (e .at)
+  offset-small = subst (λ (o : Place). OfGrid 1 (o .at)) (sym q) (go a)
+    where
+      go : (b : Axis) → OfGrid 1 (up b origin)
+      go X = omega arith
+      go Y = omega arith
+      go Z = omega arith
+
+  pub offset-fits : (c : Point) (y : ℕ) → y ≤ coord a c → (y * e .at .i ≤ c .i) × (y * e .at .j ≤ c .j) × (y * e .at .k ≤ c .k)
+  offset-fits c y h = rw q (go a h)
+    where
+      go : (b : Axis) → y ≤ coord b c → (y * up b origin .i ≤ c .i) × (y * up b origin .j ≤ c .j) × (y * up b origin .k ≤ c .k)
+      go X k = (omega arith, omega arith, omega arith)
+      go Y k = (omega arith, omega arith, omega arith)
+      go Z k = (omega arith, omega arith, omega arith)
+
+  offset-is : (c : Point) (x y : ℕ) →
+      record { i = c .i + x * e .at .i - y * e .at .i; j = c .j + x * e .at .j - y * e .at .j; k = c .k + x * e .at .k - y * e .at .k } ≡ withCoord a (coord a c + x - y) c
+  offset-is c x y = rw q (go a)
+    where
+      none : (k : ℕ) → k + x * 0 - y * 0 ≡ k
+      none k = omega arith
+
+      one : (k : ℕ) → k + x * 1 - y * 1 ≡ k + x - y
+      one k = omega arith
+
+      go : (b : Axis) →
+          record { i = c .i + x * up b origin .i - y * up b origin .i; j = c .j + x * up b origin .j - y * up b origin .j; k = c .k + x * up b origin .k - y * up b origin .k }
+          ≡ withCoord b (coord b c + x - y) c
+      go X = λ t. record { i = one (c .i) t; j = none (c .j) t; k = none (c .k) t }
+      go Y = λ t. record { i = none (c .i) t; j = one (c .j) t; k = none (c .k) t }
+      go Z = λ t. record { i = none (c .i) t; j = none (c .j) t; k = one (c .k) t }
+
+  pub crossed-by : (c : Point) (f k x y : ℕ) → k ≡ indexOf a → x ≡ value (eqb f (k + 3)) 1 → y ≡ value (eqb f k) 1 → (u v w : ℕ) →
+      u ≡ c .i + x * e .at .i - y * e .at .i → v ≡ c .j + x * e .at .j - y * e .at .j → w ≡ c .k + x * e .at .k - y * e .at .k →
+      record { i = u; j = v; k = w } ≡ crossedOn a f c
+  crossed-by c f k x y ek ex ey u v w eu ev ew =
+      (λ t. record { i = eu t; j = ev t; k = ew t })
+      ∙ offset-is c x y
+      ∙ ap₂ (λ (m l : ℕ). withCoord a (coord a c + m - l) c) (ex ∙ ap (λ (j : ℕ). value (eqb f (j + 3)) 1) ek) (ey ∙ ap (λ (j : ℕ). value (eqb f j) 1) ek)

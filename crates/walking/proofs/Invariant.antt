@@ -11,7 +11,7 @@ use Rattle.rules.specs.declared.Point.{Point}
 use Rattle.rules.specs.declared.Box.{Box}
 use Rattle.rules.specs.Lattice.{OfGrid, Set, pointNumber, samePoint, pointCount, Sub}
 use Rattle.rules.specs.Grid.{stored}
-use Rattle.lattice.specs.Cells.{layer}
+use Rattle.lattice.specs.Cells.{aside}
 use Rattle.walking.specs.Walks.{cellBox, Walked, New, Done, Found}
 use Rattle.walking.specs.Bound.{darkCells}
 use Rattle.walking.proofs.Trail.{trailOf, Trail}
@@ -24,7 +24,7 @@ module _ (n : ℕ) (F : Set) (w₀ : List ℕ) (seed : Point) where
   pub record Inv (s : Walked) : Type 0 where
     pub long : length (s .work) ≡ length w₀
     pub past : (i : ℕ) → pointCount n ≤ i → getD (s .work) i 0 ≡ getD w₀ i 0
-    pub odds : (a : Axis) (p : Point) → OfGrid n p → layer 8 n (s .work) a p ≡ layer 8 n w₀ a p
+    pub odds : (a : Axis) (p : Point) → OfGrid n p → aside n (s .work) a p ≡ aside n w₀ a p
     pub each : (q : Point) → OfGrid n q → (getD (s .work) (pointNumber n q) 0 ≡ getD w₀ (pointNumber n q) 0) ⊎ New n F w₀ (s .work) seed q
     pub first : New n F w₀ (s .work) seed seed
     pub trail : Trail n F w₀ seed (s .work) (s .walk .depth) (s .walk .cell)

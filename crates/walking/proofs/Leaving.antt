@@ -3,7 +3,7 @@ use mathlib.Core.Path.{_≡_, refl, sym, ap, _∙_, subst}
 use mathlib.Core.Bool.{Bool, true, false, not, _||_, true≢false}
 use mathlib.Core.List.{List, [], _∷_}
 use mathlib.Core.Logic.{_⊎_, inl, inr}
-use Prim.Native.Nat.{ℕ, suc, _+_, _-_, _*_, _/_, _%_, _≤_, _<_}
+use Prim.Native.Nat.{ℕ, suc, _+_, _-_, _*_, _≤_, _<_}
 use native.Mathlib.Omega.{arith}
 use lib.ListN.{length, getD}
 use Rattle.rules.specs.Lists.{anyOf}
@@ -14,11 +14,11 @@ use Rattle.rules.specs.Lattice.{OfGrid, Set, pointNumber, faceIn, whole, samePo
 use Rattle.rules.specs.Grid.{has, stored}
 use Rattle.rules.proofs.Bits.{both}
 use Rattle.rules.proofs.Cuts.{samePoint→}
-use Rattle.rules.proofs.Numbers.{has-low}
-use Rattle.lattice.specs.Cells.{layer}
+use Rattle.lattice.specs.Byte.{high}
+use Rattle.lattice.specs.Cells.{aside}
 use Rattle.walking.specs.Walks.{seenB, acrossOf, leaveOf, oddAt, backOf, firstOpen, cellBox, Walked, popOf, stopOf, New, Done, Found}
 use Rattle.walking.specs.Bound.{darkCells}
-use Rattle.walking.proofs.Faces.{cell-grid}
+use Rattle.lattice.proofs.PointSteps.{cell-grid}
 use Rattle.walking.proofs.Bytes.{light-length, light-past, light-low, light-odd}
 use Rattle.walking.proofs.Dark.{dark-leave}
 use Rattle.walking.proofs.FirstOpen.{first-none}
@@ -26,7 +26,7 @@ use Rattle.walking.proofs.Trail.{not-same, trailOf, Trail, trail-new, b
 use Rattle.walking.proofs.Invariant.{Settled, Inv, left}
 
 module _ (n : ℕ) (F : Set) (w₀ : List ℕ) (seed : Point) (inside : (a : Axis) (p : Point) → F a p ≡ true → faceIn (whole n) a p ≡ true) (size : pointCount n ≤ length w₀)
-    (bits : (a : Axis) (p : Point) → OfGrid n p → layer 8 n w₀ a p ≡ F a p) where
+    (bits : (a : Axis) (p : Point) → OfGrid n p → aside n w₀ a p ≡ F a p) where
   module _ (s : Walked) (h : Inv n F w₀ seed s) (none : 6 ≤ firstOpen n F (s .work) (s .walk .cell) 6 0) where
     abbrev c : Point
     c = s .walk .cell
@@ -40,7 +40,7 @@ module _ (n : ℕ) (F : Set) (w₀ : List ℕ) (seed : Point) (inside : (a : Axi
     at : New n F w₀ w seed c
     at = trail-new n F w₀ seed w (s .walk .depth) c (h .trail)
 
-    little : getD w (pointNumber n c) 0 / 8 % 8 < 8
+    little : high (getD w (pointNumber n c) 0) < 8
     little = omega arith
 
     size″ : pointCount n ≤ length w
@@ -58,7 +58,7 @@ module _ (n : ℕ) (F : Set) (w₀ : List ℕ) (seed : Point) (inside : (a : Axi
     leave-past : (i : ℕ) → pointCount n ≤ i → getD u i 0 ≡ getD w₀ i 0
     leave-past i k = light-past n _ _ little w size″ here-grid i k ∙ h .past i k
 
-    leave-odds : (a : Axis) (p : Point) → OfGrid n p → layer 8 n u a p ≡ layer 8 n w₀ a p
+    leave-odds : (a : Axis) (p : Point) → OfGrid n p → aside n u a p ≡ aside n w₀ a p
     leave-odds a p k = light-odd n _ _ little w size″ here-grid a p k ∙ h .odds a p k
 
     leave-each : (q : Point) → OfGrid n q → (getD u (pointNumber n q) 0 ≡ getD w₀ (pointNumber n q) 0) ⊎ New n F w₀ u seed q
@@ -93,7 +93,7 @@ module _ (n : ℕ) (F : Set) (w₀ : List ℕ) (seed : Point) (inside : (a : Axi
             go false e = absurd (true≢false (sym (both (oddAt F f c) (not (seenB n w (acrossOf f c))) o (ap not e)) ∙ first-none n F w c 6 0 none f (omega arith) l))
 
         faces : (a : Axis) → stored n u a c ≡ F a c
-        faces a = light-low n _ _ little w size″ here-grid a ∙ has-low a (getD w (pointNumber n c) 0 / 8) ∙ h .odds a c here-grid ∙ bits a c here-grid
+        faces a = light-low n _ _ little w size″ here-grid a ∙ h .odds a c here-grid ∙ bits a c here-grid
 
     -- every new cell is settled that is not on the trail behind
     leave-closed : (q : Point) (t : List Point) → New n F w₀ u seed q → anyOf (samePoint q) t ≡ false →

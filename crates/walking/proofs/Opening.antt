@@ -3,18 +3,18 @@ use mathlib.Core.Path.{_≡_, refl, sym, ap, ap₂, _∙_, subst}
 use mathlib.Core.Bool.{Bool, true, false, not, _&&_, cond}
 use mathlib.Core.List.{List}
 use mathlib.Core.Logic.{_⊎_, inl, inr}
-use Prim.Native.Nat.{ℕ, _+_, _-_, _*_, _/_, _≤_, _<_}
+use Prim.Native.Nat.{ℕ, _+_, _-_, _*_, _≤_, _<_}
 use native.Mathlib.Omega.{arith}
 use lib.Dec.{ltb}
 use lib.ListN.{getD}
 use borrow.Author.Tests.{le-ltb}
 use Rattle.rules.specs.declared.Axis.{Axis}
-use Rattle.rules.specs.declared.Axis.the-variants.{X}
 use Rattle.rules.specs.declared.Point.{Point}
 use Rattle.rules.specs.declared.Place.{Place}
 use Rattle.rules.specs.Lattice.{OfGrid, down, faceIn, whole, pointNumber, pointCount, pointOf}
-use Rattle.rules.specs.Grid.{has, value}
+use Rattle.rules.specs.Grid.{value}
 use Rattle.rules.proofs.PointOf.{number-pointOf}
+use Rattle.lattice.specs.Byte.{odd, seen}
 use Rattle.lattice.specs.Cells.{faceRule, faceOf, indexOf, moved, pointStep, Cell}
 use Rattle.lattice.proofs.Laws.{face-small, num-below}
 use Rattle.lattice.proofs.PointSteps.{number-moved, number-down}
@@ -41,9 +41,9 @@ module _ (n : ℕ) (w : List ℕ) (at f : ℕ) (cell : Cell n (pointOf n at)) (f
   pub some-cells : 1 ≤ n
   some-cells = omega arith
 
-  pub odd-is : (e : Place) → e ≡ faceRule f → (p : ℕ) → p ≡ pointNumber n (faceOf f (pointOf n at) .at) → has (e .axis) (getD w p 0 / 8) ≡ oddAt (oddIn n w) f (pointOf n at)
+  pub odd-is : (e : Place) → e ≡ faceRule f → (p : ℕ) → p ≡ pointNumber n (faceOf f (pointOf n at) .at) → odd (e .axis) (getD w p 0) ≡ oddAt (oddIn n w) f (pointOf n at)
   unfolding faceOf
-  odd-is e q p h = ap₂ (λ (x : Place) (i : ℕ). has (x .axis) (getD w i 0 / 8)) q h ∙ odd-face n w fine (faceRule f .axis) (moved c (faceRule f) .at) (face-grid n f c cell)
+  odd-is e q p h = ap₂ (λ (x : Place) (i : ℕ). odd (x .axis) (getD w i 0)) q h ∙ odd-face n w fine (faceRule f .axis) (moved c (faceRule f) .at) (face-grid n f c cell)
 
   -- the cell across a lower face that is odd
   lower-number : f < 3 → oddAt (oddIn n w) f (pointOf n at) ≡ true → pointNumber n (acrossOf f (pointOf n at)) + pointStep n (faceOf f (pointOf n at) .axis) ≡ at
@@ -74,25 +74,25 @@ module _ (n : ℕ) (w : List ℕ) (at f : ℕ) (cell : Cell n (pointOf n at)) (f
           rw z (omega arith)
 
   -- seen or not, beside odd or not
-  pub open-lower : (e : Place) → e ≡ faceRule f → f < 3 → (o d q s : ℕ) → o ≡ value (oddAt (oddIn n w) f (pointOf n at)) 1 → d ≡ pointStep n (e .axis) → q ≡ at - o * d → s ≡ value (has X (getD w q 0 / 64)) 1 →
+  pub open-lower : (e : Place) → e ≡ faceRule f → f < 3 → (o d q s : ℕ) → o ≡ value (oddAt (oddIn n w) f (pointOf n at)) 1 → d ≡ pointStep n (e .axis) → q ≡ at - o * d → s ≡ value (seen (getD w q 0)) 1 →
       ltb s o ≡ openB n (oddIn n w) w (pointOf n at) f
   unfolding faceOf seenB
   open-lower e r h o d q s eo ed eq es = go (oddAt (oddIn n w) f c) refl
     where
-      go : (x : Bool) → oddAt (oddIn n w) f c ≡ x → ltb s o ≡ oddAt (oddIn n w) f c && not (has X (getD w (pointNumber n (acrossOf f c)) 0 / 64))
+      go : (x : Bool) → oddAt (oddIn n w) f c ≡ x → ltb s o ≡ oddAt (oddIn n w) f c && not (seen (getD w (pointNumber n (acrossOf f c)) 0))
       go true y =
           let a = lower-number h y in
           let b : d ≡ pointStep n (faceRule f .axis) = ed ∙ ap (λ (x : Place). pointStep n (x .axis)) r in
           let z : o ≡ 1 = eo ∙ ap (λ (x : Bool). value x 1) y in
           let t : o * d ≡ d = rw z (omega arith) in
           let k : q ≡ pointNumber n (acrossOf f c) = omega arith in
-          ap₂ ltb (es ∙ ap (λ (i : ℕ). value (has X (getD w i 0 / 64)) 1) k) eo ∙ bit-less (oddAt (oddIn n w) f c) (has X (getD w (pointNumber n (acrossOf f c)) 0 / 64))
+          ap₂ ltb (es ∙ ap (λ (i : ℕ). value (seen (getD w i 0)) 1) k) eo ∙ bit-less (oddAt (oddIn n w) f c) (seen (getD w (pointNumber n (acrossOf f c)) 0))
       go false y =
           let z : o ≡ 0 = eo ∙ ap (λ (x : Bool). value x 1) y in
-          ap (ltb s) z ∙ le-ltb s 0 (omega arith) ∙ sym (ap (λ (x : Bool). x && not (has X (getD w (pointNumber n (acrossOf f c)) 0 / 64))) y)
+          ap (ltb s) z ∙ le-ltb s 0 (omega arith) ∙ sym (ap (λ (x : Bool). x && not (seen (getD w (pointNumber n (acrossOf f c)) 0))) y)
 
-  pub open-upper : 3 ≤ f → (o p s : ℕ) → o ≡ value (oddAt (oddIn n w) f (pointOf n at)) 1 → p ≡ pointNumber n (faceOf f (pointOf n at) .at) → s ≡ value (has X (getD w p 0 / 64)) 1 → ltb s o ≡ openB n (oddIn n w) w (pointOf n at) f
+  pub open-upper : 3 ≤ f → (o p s : ℕ) → o ≡ value (oddAt (oddIn n w) f (pointOf n at)) 1 → p ≡ pointNumber n (faceOf f (pointOf n at) .at) → s ≡ value (seen (getD w p 0)) 1 → ltb s o ≡ openB n (oddIn n w) w (pointOf n at) f
   unfolding seenB acrossOf
   open-upper h o p s eo ep es =
       let k : p ≡ pointNumber n (acrossOf f c) = ep ∙ ap (pointNumber n) (sym (ap (λ (b : Bool). cond b (down (faceOf f c .axis) (faceOf f c .at)) (faceOf f c .at)) (le-ltb f 3 h))) in
-      ap₂ ltb (es ∙ ap (λ (i : ℕ). value (has X (getD w i 0 / 64)) 1) k) eo ∙ bit-less (oddAt (oddIn n w) f c) (has X (getD w (pointNumber n (acrossOf f c)) 0 / 64))
+      ap₂ ltb (es ∙ ap (λ (i : ℕ). value (seen (getD w i 0)) 1) k) eo ∙ bit-less (oddAt (oddIn n w) f c) (seen (getD w (pointNumber n (acrossOf f c)) 0))

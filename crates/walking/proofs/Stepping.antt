@@ -18,7 +18,8 @@ use Rattle.lattice.specs.Cells.{Cell}
 use Rattle.walking.specs.Walks.{oddIn, Fine, seenB, lightOf, wayOf, leaveOf, oddAt, Inside, acrossOf, opposite, backOf, firstOpen, cellBox, Walked, stepOf}
 use Rattle.walking.specs.Bound.{darkCells}
 use Rattle.walking.specs.declared.Walk.{Walk}
-use Rattle.walking.proofs.Faces.{crossed, cell-grid}
+use Rattle.lattice.proofs.PointSteps.{cell-grid}
+use Rattle.walking.proofs.Faces.{crossed}
 use Rattle.walking.proofs.Bytes.{odd-face, odd-inside, odd-same}
 use Rattle.walking.proofs.FirstOpen.{first-is}
 use Rattle.walking.proofs.Trail.{Trail, trail-new}

@@ -13,10 +13,10 @@ use Rattle.rules.specs.declared.Point.{Point}
 use Rattle.rules.specs.declared.Box.{Box}
 use Rattle.rules.specs.Lattice.{OfGrid, Set, faceIn, whole, samePoint, pointCount, Sub}
 use Rattle.rules.proofs.Bits.{or-no-left}
-use Rattle.lattice.specs.Cells.{layer, Cell}
+use Rattle.lattice.specs.Cells.{aside, Cell}
 use Rattle.walking.specs.Walks.{seenB, lightOf, firstOpen, cellBox, Walked, pushOf, popOf, stopOf, stepOf, here, New}
 use Rattle.walking.specs.Bound.{darkCells}
-use Rattle.walking.proofs.Faces.{cell-grid}
+use Rattle.lattice.proofs.PointSteps.{cell-grid}
 use Rattle.walking.proofs.Bytes.{light-length, light-past, light-seen, light-odd}
 use Rattle.walking.proofs.Dark.{dark-most, dark-enter}
 use Rattle.walking.proofs.FirstOpen.{first-is}
@@ -26,7 +26,7 @@ use Rattle.walking.proofs.Entering.{push-inv, push-left}
 use Rattle.walking.proofs.Leaving.{leave-long, pop-inv, pop-left, stop-found, stop-left}
 
 module _ (n : ℕ) (F : Set) (w₀ : List ℕ) (seed : Point) (inside : (a : Axis) (p : Point) → F a p ≡ true → faceIn (whole n) a p ≡ true) (size : pointCount n ≤ length w₀)
-    (bits : (a : Axis) (p : Point) → OfGrid n p → layer 8 n w₀ a p ≡ F a p) where
+    (bits : (a : Axis) (p : Point) → OfGrid n p → aside n w₀ a p ≡ F a p) where
   -- ---- the beginning
   pub start-live : Cell n seed → seenB n w₀ seed ≡ false → Live n F w₀ seed (record { walk = record { cell = seed; depth = 0; reach = cellBox seed; on = true }; work = lightOf n seed 0 w₀ })
   start-live cell unseen = record {

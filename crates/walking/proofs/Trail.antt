@@ -3,7 +3,7 @@ use mathlib.Core.Path.{_≡_, refl, sym, ap, _∙_, subst}
 use mathlib.Core.Bool.{Bool, true, false, _||_, true≢false}
 use mathlib.Core.List.{List, [], _∷_}
 use mathlib.Core.Logic.{_⊎_, inl, inr}
-use Prim.Native.Nat.{ℕ, zero, suc, _%_, _≤_, _<_}
+use Prim.Native.Nat.{ℕ, zero, suc, _≤_, _<_}
 use native.Mathlib.Decide.{ℕ-discrete}
 use lib.ListN.{length, getD}
 use Rattle.rules.specs.Lists.{anyOf}
@@ -14,9 +14,11 @@ use Rattle.rules.proofs.Cuts.{samePoint→}
 use Rattle.rules.proofs.Chains.{same-point}
 use Rattle.rules.proofs.Bits.{is-false, or-no-left, or-no-right}
 use Rattle.rules.proofs.Store.{number-inj}
+use Rattle.lattice.specs.Byte.{wayBack}
 use Rattle.lattice.specs.Cells.{Cell}
 use Rattle.walking.specs.Walks.{seenB, lightOf, wayOf, oddAt, acrossOf, opposite, backOf, New, Done}
-use Rattle.walking.proofs.Faces.{crossed, cell-grid}
+use Rattle.lattice.proofs.PointSteps.{cell-grid}
+use Rattle.walking.proofs.Faces.{crossed}
 use Rattle.walking.proofs.Bytes.{seen-same, light-other, light-grows}
 
 -- the cells from where the walk stands back to its beginning
@@ -74,15 +76,15 @@ module _ (n : ℕ) (F : Set) (w₀ : List ℕ) (seed : Point) where
         let u = lightOf n d v w in
         let other : (c ≡ d → ⊥) = λ q. not-same d c (or-no-left (samePoint d c) (anyOf (samePoint d) (trailOf n w k (backOf n w c))) e) (sym q) in
         let same = byte-on c (cell-grid n c (h .0 .new .cell)) other in
-        let back : backOf n u c ≡ backOf n w c = ap (λ (x : ℕ). acrossOf (opposite (x % 8)) c) same in
+        let back : backOf n u c ≡ backOf n w c = ap (λ (x : ℕ). acrossOf (opposite (wayBack x)) c) same in
         let rest = trail-on k (backOf n w c) (or-no-right (samePoint d c) (anyOf (samePoint d) (trailOf n w k (backOf n w c))) e) (h .1) in
         let trail : trailOf n u k (backOf n u c) ≡ trailOf n w k (backOf n w c) = ap (trailOf n u k) back ∙ rest .0 in (
           ap (λ (l : List Point). c ∷ l) trail,
           (
             record {
               new = new-on c (h .0 .new);
-              way = subst (λ (x : ℕ). x % 8 < 6) (sym same) (h .0 .way);
-              odd = subst (λ (x : ℕ). oddAt F (opposite (x % 8)) c ≡ true) (sym same) (h .0 .odd);
+              way = subst (λ (x : ℕ). wayBack x < 6) (sym same) (h .0 .way);
+              odd = subst (λ (x : ℕ). oddAt F (opposite (wayBack x)) c ≡ true) (sym same) (h .0 .odd);
               once = ap (anyOf (samePoint c)) trail ∙ h .0 .once;
             },
             subst (Trail u k) (sym back) (rest .1),

@@ -3,47 +3,45 @@ use mathlib.Core.Path.{_≡_}
 use mathlib.Core.Bool.{Bool, true, false, not, _&&_, cond}
 use mathlib.Core.List.{List}
 use mathlib.Core.Logic.{_⊎_}
-use Prim.Native.Nat.{ℕ, zero, suc, _+_, _-_, _*_, _/_, _%_, _≤_, _<_}
+use Prim.Native.Nat.{ℕ, zero, suc, _+_, _-_, _≤_, _<_}
 use lib.Dec.{ltb, eqb}
 use lib.ListN.{length, getD, set}
 use Rattle.rules.specs.declared.Axis.{Axis}
 use Rattle.rules.specs.declared.Axis.the-variants.{X, Y, Z}
 use Rattle.rules.specs.declared.Point.{Point}
 use Rattle.rules.specs.declared.Box.{Box}
-use Rattle.rules.specs.Lattice.{up, down, Set, OfGrid, pointNumber, faceIn, whole, pointCount, Sub}
-use Rattle.rules.specs.Grid.{has, stored}
+use Rattle.rules.specs.Lattice.{coord, withCoord, up, down, Set, OfGrid, pointNumber, faceIn, whole, pointCount, Sub}
+use Rattle.rules.specs.Grid.{has, value, stored}
 use Rattle.rules.specs.Rims.{joinBox}
-use Rattle.lattice.specs.Cells.{faceOf, layer, Cell}
+use Rattle.lattice.specs.Byte.{high, seen, wayBack, entered}
+use Rattle.lattice.specs.Cells.{indexOf, faceOf, aside, Cell}
 use Rattle.walking.specs.declared.Walk.{Walk}
 
--- ---- what a work byte holds: the working faces below 8, the odd faces from 8 on, and 64 where the cell has been seen
+-- ---- what the work bytes hold
 
 -- the odd faces, which lie between two cells
 unfoldable pub oddIn : ℕ → List ℕ → Set
-oddIn n w a p = faceIn (whole n) a p && layer 8 n w a p
+oddIn n w a p = faceIn (whole n) a p && aside n w a p
 
 -- no other face is told as odd
 pub record Fine (n : ℕ) (w : List ℕ) : Type 0 where
-  pub between : (a : Axis) (p : Point) → OfGrid n p → layer 8 n w a p ≡ true → faceIn (whole n) a p ≡ true
+  pub between : (a : Axis) (p : Point) → OfGrid n p → aside n w a p ≡ true → faceIn (whole n) a p ≡ true
 
 -- the cell has been seen
 unfoldable pub seenB : ℕ → List ℕ → Point → Bool
-seenB n w c = has X (getD w (pointNumber n c) 0 / 64)
+seenB n w c = seen (getD w (pointNumber n c) 0)
 
--- a cell is seen, with v in its lowest three bits; its odd faces stay
-abbrev pub litByte : ℕ → ℕ → ℕ
-litByte b v = 64 + (b / 8 % 8 * 8 + v)
-
+-- a cell is seen, with v in the lowest part of its byte
 unfoldable pub lightOf : ℕ → Point → ℕ → List ℕ → List ℕ
-lightOf n c v w = set w (pointNumber n c) (litByte (getD w (pointNumber n c) 0) v)
+lightOf n c v w = set w (pointNumber n c) (entered v (getD w (pointNumber n c) 0))
 
--- the face of the cell before by which a cell was entered: its lowest three bits until it is left
+-- the face of the cell before by which a cell was entered
 abbrev pub wayOf : ℕ → List ℕ → Point → ℕ
-wayOf n w c = getD w (pointNumber n c) 0 % 8
+wayOf n w c = wayBack (getD w (pointNumber n c) 0)
 
 -- a cell is left for good: its odd lower faces go into the working set
 abbrev pub leaveOf : ℕ → Point → List ℕ → List ℕ
-leaveOf n c w = lightOf n c (getD w (pointNumber n c) 0 / 8 % 8) w
+leaveOf n c w = lightOf n c (high (getD w (pointNumber n c) 0)) w
 
 -- ---- the cells around a cell
 
@@ -54,6 +52,10 @@ oddAt F f c = F (faceOf f c .axis) (faceOf f c .at)
 -- face f of a cell lies between two cells
 abbrev pub Inside : ℕ → ℕ → Point → Type 0
 Inside n f c = faceIn (whole n) (faceOf f c .axis) (faceOf f c .at) ≡ true
+
+-- a step across face f where it is square to a: on across the upper one, back across the lower one
+abbrev pub crossedOn : Axis → ℕ → Point → Point
+crossedOn a f c = withCoord a (coord a c + value (eqb f (indexOf a + 3)) 1 - value (eqb f (indexOf a)) 1) c
 
 -- the cell across face f
 unfoldable pub acrossOf : ℕ → Point → Point
@@ -136,7 +138,7 @@ Done n F w q = (f : ℕ) → f < 6 → oddAt F f q ≡ true → seenB n w (acros
 pub record Found (n : ℕ) (F : Set) (w₀ w : List ℕ) (s : Point) (b : Box) : Type 0 where
   pub long : length w ≡ length w₀
   pub past : (i : ℕ) → pointCount n ≤ i → getD w i 0 ≡ getD w₀ i 0
-  pub odds : (a : Axis) (p : Point) → OfGrid n p → layer 8 n w a p ≡ layer 8 n w₀ a p
+  pub odds : (a : Axis) (p : Point) → OfGrid n p → aside n w a p ≡ aside n w₀ a p
   pub each : (q : Point) → OfGrid n q → (getD w (pointNumber n q) 0 ≡ getD w₀ (pointNumber n q) 0) ⊎ New n F w₀ w s q
   pub first : New n F w₀ w s s
   pub faces : (q : Point) → New n F w₀ w s q → (a : Axis) → stored n w a q ≡ F a q

@@ -1,6 +1,14 @@
 // The cells of one rim, found by a walk that keeps its way back in the cells' bytes.
-use lattice::face_rule;
+use lattice::byte::departed;
+use lattice::byte::entered;
+use lattice::byte::odd_bit;
+use lattice::byte::seen_bit;
+use lattice::byte::way_back;
+use lattice::cell::face_rule;
+use lattice::cell::upper_face;
 use lattice::index;
+use lattice::least;
+use lattice::most;
 use lattice::number_of;
 use lattice::step;
 use rules::Axis;
@@ -8,15 +16,14 @@ use rules::Box;
 use rules::Point;
 ghost use mathlib.Core.Path.{_≡_};
 ghost use mathlib.Core.Bool.{false};
-ghost use Prim.Native.Nat.{_≤_, _<_, _+_, _/_, min, max};
+ghost use Prim.Native.Nat.{_≤_, _<_, _+_, _-_, _*_};
 ghost use lib.Dec.{eqb};
 ghost use lib.ListN.{length};
-ghost use Rattle.rules.specs.declared.Axis.the-variants.{X};
-ghost use Rattle.rules.specs.Lattice.{OfGrid, pointOf, pointCount};
-ghost use Rattle.rules.specs.Grid.{has, value};
+ghost use Rattle.rules.specs.Lattice.{coord, OfGrid, pointOf, pointCount};
+ghost use Rattle.rules.specs.Grid.{value};
 ghost use Rattle.rules.specs.Rims.{joinBox};
-ghost use Rattle.lattice.specs.Cells.{Cell};
-ghost use Rattle.walking.specs.Walks.{oddIn, Fine, seenB, lightOf, wayOf, leaveOf, Inside, acrossOf, opposite, openB, firstOpen, cellBox, Walked, stepOf, Found};
+ghost use Rattle.lattice.specs.Cells.{indexOf, Cell};
+ghost use Rattle.walking.specs.Walks.{oddIn, Fine, seenB, lightOf, wayOf, leaveOf, Inside, crossedOn, acrossOf, opposite, openB, firstOpen, cellBox, Walked, stepOf, Found};
 
 // The cell where the walk stands, how many cells lie behind it on the way back, the box of all that it has seen, and whether it goes on.
 pub struct Walk {
@@ -24,20 +31,6 @@ pub struct Walk {
     pub depth: usize,
     pub reach: Box,
     pub on: bool,
-}
-
-// 1 where a byte says that its cell has been seen, else 0.
-fn seen_bit(b: u8) -> u8
-    ensures { λ r. ⌜ r ≡ value (has X (b / 64)) 1 ⌝ }
-{
-    b / 64 % 2
-}
-
-// 1 where a byte says that its cell's lower face on an axis is odd, else 0.
-fn odd_bit(b: u8, a: Axis) -> u8
-    ensures { λ r. ⌜ (r ≡ value (has a (b / 8)) 1) × (r ≤ 1) ⌝ }
-{
-    ((b / 8) >> index(a)) % 2
 }
 
 // Whether face f of the cell at point number `at` is odd and leads to a cell not yet seen.
@@ -81,16 +74,38 @@ fn same(f: usize, g: usize) -> usize
     0
 }
 
+// A coordinate moved by an offset of the table: on, back, or not at all.
+fn shifted(k: usize, o: usize, on: usize, back: usize) -> usize
+    requires { ⌜ (k ≤ 32) × (o ≤ 1) × (on ≤ 1) × (back * o ≤ k) ⌝ }
+    ensures { λ r. ⌜ r ≡ k + on * o - back * o ⌝ }
+{
+    k + on * o - back * o
+}
+
+// A cell moved across face f where that is one of its two faces square to a: on or back by the table's step to the upper one. Without a branch.
+fn crossed_on(n: usize, c: Point, a: Axis, f: usize) -> Point
+    requires { ⌜ (n ≤ 32) × OfGrid n c × (value (eqb f (indexOf a)) 1 ≤ coord a c) ⌝ }
+    ensures { λ r. ⌜ r ≡ crossedOn a f c ⌝ }
+{
+    let o = upper_face(a).at;
+    let k = index(a);
+    let on = same(f, k + 3);
+    let back = same(f, k);
+    Point {
+        i: shifted(c.i, o.i, on, back),
+        j: shifted(c.j, o.j, on, back),
+        k: shifted(c.k, o.k, on, back),
+    }
+}
+
 // The cell across face f of a cell, where the face lies between two cells.
 fn across(n: usize, c: Point, f: usize) -> Point
     requires { ⌜ (n ≤ 32) × Cell n c × (f < 6) × Inside n f c ⌝ }
     ensures { λ r. ⌜ r ≡ acrossOf f c ⌝ }
 {
-    Point {
-        i: c.i + same(f, 3) - same(f, 0),
-        j: c.j + same(f, 4) - same(f, 1),
-        k: c.k + same(f, 5) - same(f, 2),
-    }
+    let p = crossed_on(n, c, Axis::X, f);
+    let q = crossed_on(n, p, Axis::Y, f);
+    crossed_on(n, q, Axis::Z, f)
 }
 
 // The number that face f of a cell has at the cell across.
@@ -110,8 +125,7 @@ fn enter(n: usize, work: &mut [u8], c: Point, f: usize)
     ensures { λ _. ⌜ now (work .exit) ≡ lightOf n c f (now (work .entry)) ⌝ }
 {
     let at = number_of(n, c);
-    let odd = work[at] / 8 % 8;
-    work[at] = 64 + (odd * 8 + (f as u8));
+    work[at] = entered(work[at], f);
 }
 
 // Leaves a cell for good: puts its odd lower faces into the working set, and answers the face by which it was entered.
@@ -121,27 +135,8 @@ fn leave(n: usize, work: &mut [u8], c: Point) -> usize
 {
     let at = number_of(n, c);
     let b = work[at];
-    let odd = b / 8 % 8;
-    work[at] = 64 + (odd * 8 + odd);
-    (b % 8) as usize
-}
-
-pub fn least(a: usize, b: usize) -> usize
-    ensures { λ r. ⌜ r ≡ min a b ⌝ }
-{
-    if a < b {
-        return a;
-    }
-    b
-}
-
-pub fn most(a: usize, b: usize) -> usize
-    ensures { λ r. ⌜ r ≡ max a b ⌝ }
-{
-    if a < b {
-        return b;
-    }
-    a
+    work[at] = departed(b);
+    way_back(b)
 }
 
 // The smallest box that holds a box and a cell.

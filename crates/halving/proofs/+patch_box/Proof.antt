@@ -7,12 +7,12 @@ use Rattle.halving.proofs.patch_box.Reads as patch-box
 use Rattle.halving.proofs.patch_box.Kinds as patch-box-kinds
 use Rattle.halving.proofs.+patch_box.Lts-patch_box as patch-box-lts
 use Rattle.halving.proofs.cut_plane.Reads as cut-plane-reads
-use Rattle.halving.proofs.is_clear.Reads as is-clear-reads
-use Rattle.halving.proofs.is_one_cell.Reads as is-one-cell-reads
-use Rattle.halving.proofs.longest_axis.Reads as longest-axis-reads
-use Rattle.halving.proofs.lower_half.Reads as lower-half-reads
-use Rattle.halving.proofs.middle_of.Reads as middle-of-reads
-use Rattle.halving.proofs.upper_half.Reads as upper-half-reads
+use Rattle.halving.proofs.halves.is_clear.Reads as is-clear-reads
+use Rattle.halving.proofs.halves.is_one_cell.Reads as is-one-cell-reads
+use Rattle.halving.proofs.halves.longest_axis.Reads as longest-axis-reads
+use Rattle.halving.proofs.halves.lower_half.Reads as lower-half-reads
+use Rattle.halving.proofs.halves.middle_of.Reads as middle-of-reads
+use Rattle.halving.proofs.halves.upper_half.Reads as upper-half-reads
 use Rattle.halving.specs.Halving.{cellCount}
 use Rattle.halving.proofs.Boxes.{one-is, mid-low, mid-high, low-ok, up-ok, halves-turn}
 use Rattle.halving.proofs.Clear.{clear-is}

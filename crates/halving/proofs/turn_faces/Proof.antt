@@ -1,5 +1,7 @@
--- `turn_faces` turns the two faces at the edge's point, and one a step below it on each crosswise axis. Assumes nothing.
-use Rattle.halving.proofs.Turns.{some-cells, earlier-down, later-down, faces-turn}
+-- `turn_faces` turns the edge's faces in the cell above it, and in the cell below it. Assumes nothing.
+use mathlib.Core.Path.{ap, _∙_}
+use Rattle.lattice.specs.Cells.{lowerFace, upperFace}
+use Rattle.halving.proofs.Turns.{Below, below-is, edge-fits, lower-fits, earlier-fits, later-fits, faces-turn}
 use borrow.Author.Needs.{needs}
 use Rattle.halving.proofs.turn_faces.Statement.{statement}
 use Rattle.halving.proofs.turn_faces.Tie as tie
@@ -10,37 +12,73 @@ earlier-requires c κs = search needs
 later-requires : tie.Need-later-requires
 later-requires c κs = search needs
 
-turn-requires : tie.Need-turn-requires
-turn-requires c κs = search needs
+upper-edge-requires : tie.Need-upper-edge-requires
+upper-edge-requires c κs = search needs
 
-turn-requires-2 : tie.Need-turn-requires-2
-turn-requires-2 c κs = search needs
+number-of-requires : tie.Need-number-of-requires
+number-of-requires c κs = let s = c .before .before .before .before in (s .pre .0, edge-fits (s .args .n) (s .args .a) (s .args .at) (s .pre .3) _ (c .upper-edge .ensures))
 
-step-requires : tie.Need-step-requires
-step-requires c κs = let s = c .before .before .before .before .before .before .before .before .before .before .before .before in (some-cells _ _ (s .pre .3), s .pre .0)
+-- the cell below the edge
+beneath : (c : tie.After-number-of) → Below (c .before .before .before .before .before .args .n) (c .before .before .before .before .before .args .a) (c .before .before .before .before .before .args .at) (c .before .before .before .before .before .pre .3) (c .number-of .result)
+beneath c = let s = c .before .before .before .before .before in below-is (s .args .n) (s .args .a) (s .args .at) (s .pre .3) _ _ (c .before .upper-edge .ensures) (c .number-of .ensures .0)
 
-sub-turn : tie.Need-sub-turn
-sub-turn c = let s = c .before .before .before .before .before .before .before .before .before .before .before .before .before in later-down (s .args .n) (s .args .a) (s .args .at) (s .pre .3) _ _ (c .before .before .before .before .before .before .before .before .before .before .before .earlier .ensures) (c .before .before .before .before .before .before .before .before .before .before .later .ensures) _ (c .step .ensures) .0
+sub-below : tie.Need-sub-below
+sub-below c = beneath c .fits
 
-turn-requires-3 : tie.Need-turn-requires-3
-turn-requires-3 c κs = search needs
+lower-face-requires : tie.Need-lower-face-requires
+lower-face-requires c κs = search needs
 
-step-requires-2 : tie.Need-step-requires-2
-step-requires-2 c κs = let s = c .before .before .before .before .before .before .before .before .before .before .before .before .before .before .before .before .before in (some-cells _ _ (s .pre .3), s .pre .0)
+turn-face-requires : tie.Need-turn-face-requires
+turn-face-requires c κs =
+    let s = c .before .before .before .before .before .before .before in
+    let f = lower-fits (s .args .n) (s .args .a) (s .args .at) (s .pre .3) _ _ (c .lower-face .ensures) in
+    (s .pre .0, s .pre .1, f .0, f .1)
 
-sub-turn-2 : tie.Need-sub-turn-2
-sub-turn-2 c = let s = c .before .before .before .before .before .before .before .before .before .before .before .before .before .before .before .before .before .before in earlier-down (s .args .n) (s .args .a) (s .args .at) (s .pre .3) _ _ (c .before .before .before .before .before .before .before .before .before .before .before .before .before .before .before .before .earlier .ensures) (c .before .before .before .before .before .before .before .before .before .before .before .before .before .before .before .later .ensures) _ (c .step2 .ensures) .0
+lower-face-requires-2 : tie.Need-lower-face-requires-2
+lower-face-requires-2 c κs = search needs
 
-turn-requires-4 : tie.Need-turn-requires-4
-turn-requires-4 c κs = search needs
+turn-face-requires-2 : tie.Need-turn-face-requires-2
+turn-face-requires-2 c κs =
+    let s = c .before .before .before .before .before .before .before .before .before .before .before .before in
+    let f = lower-fits (s .args .n) (s .args .a) (s .args .at) (s .pre .3) _ _ (c .lower-face2 .ensures) in
+    (s .pre .0, rw (c .before .before .before .before .turn-face .kept .1 .0) (s .pre .1), f .0, f .1)
+
+upper-face-requires : tie.Need-upper-face-requires
+upper-face-requires c κs = search needs
+
+turn-face-requires-3 : tie.Need-turn-face-requires-3
+turn-face-requires-3 c κs =
+    let s = c .before .before .before .before .before .before .before .before .before .before .before .before .before .before .before .before .before in
+    let f = earlier-fits (s .args .n) (s .args .a) (s .args .at) (s .pre .3) _ (beneath (c .before .before .before .before .before .before .before .before .before .before .before .before)) _ (c .upper-face .ensures ∙ ap upperFace (c .before .before .before .before .before .before .before .before .before .before .before .before .before .before .before .earlier .ensures)) in
+    (s .pre .0, rw (c .before .before .before .before .turn-face2 .kept .1 .0, c .before .before .before .before .before .before .before .before .before .turn-face .kept .1 .0) (s .pre .1), f .0, f .1)
+
+upper-face-requires-2 : tie.Need-upper-face-requires-2
+upper-face-requires-2 c κs = search needs
+
+turn-face-requires-4 : tie.Need-turn-face-requires-4
+turn-face-requires-4 c κs =
+    let s = c .before .before .before .before .before .before .before .before .before .before .before .before .before .before .before .before .before .before .before .before .before .before in
+    let f = later-fits (s .args .n) (s .args .a) (s .args .at) (s .pre .3) _ (beneath (c .before .before .before .before .before .before .before .before .before .before .before .before .before .before .before .before .before)) _ (c .upper-face2 .ensures ∙ ap upperFace (c .before .before .before .before .before .before .before .before .before .before .before .before .before .before .before .before .before .before .before .later .ensures)) in
+    (s .pre .0, rw (c .before .before .before .before .turn-face3 .kept .1 .0, c .before .before .before .before .before .before .before .before .before .turn-face2 .kept .1 .0, c .before .before .before .before .before .before .before .before .before .before .before .before .before .before .turn-face .kept .1 .0) (s .pre .1), f .0, f .1)
 
 same-length : tie.Need-same-length
 same-length c = search needs
 
 returns : tie.Need-returns
 returns c =
-    let s = c .before .before .before .before .before .before .before .before .before .before .before .before .before .before .before .before .before .before .before .before .before in
-    faces-turn (s .args .n) (s .args .a) (s .args .at) (s .pre .3) _ _ (c .before .before .before .before .before .before .before .before .before .before .before .before .before .before .before .before .before .before .before .earlier .ensures) (c .before .before .before .before .before .before .before .before .before .before .before .before .before .before .before .before .before .before .later .ensures) _ _ (c .before .before .before .step2 .ensures) (c .before .before .before .before .before .before .before .before .step .ensures) _ _ _ _ _ (c .before .before .before .before .before .before .before .before .before .before .before .before .before .before .before .before .turn .ensures) (c .before .before .before .before .before .before .before .before .before .before .before .before .turn2 .ensures) (c .before .before .before .before .before .before .before .turn3 .ensures) (c .before .before .turn4 .ensures)
+    let s = c .before .before .before .before .before .before .before .before .before .before .before .before .before .before .before .before .before .before .before .before .before .before .before .before .before in
+    let b = c .before .before .before .before .before .before .before .before .before .before .before .before .before .before .before .before .before .before .before .before .before .before .before .earlier .ensures in
+    let l = c .before .before .before .before .before .before .before .before .before .before .before .before .before .before .before .before .before .before .before .before .before .before .later .ensures in
+    faces-turn (s .args .n) (s .args .a) (s .args .at) (s .pre .3) _ (beneath (c .before .before .before .before .before .before .before .before .before .before .before .before .before .before .before .before .before .before .before .before)) _ _ _ _
+    (c .before .before .before .before .before .before .before .before .before .before .before .before .before .before .before .before .before .before .lower-face .ensures ∙ ap lowerFace b)
+    (c .before .before .before .before .before .before .before .before .before .before .before .before .before .lower-face2 .ensures ∙ ap lowerFace l)
+    (c .before .before .before .before .before .before .before .before .upper-face .ensures ∙ ap upperFace b)
+    (c .before .before .before .upper-face2 .ensures ∙ ap upperFace l)
+    _ _ _ _ _
+    (c .before .before .before .before .before .before .before .before .before .before .before .before .before .before .before .before .before .turn-face .ensures)
+    (c .before .before .before .before .before .before .before .before .before .before .before .before .turn-face2 .ensures)
+    (c .before .before .before .before .before .before .before .turn-face3 .ensures)
+    (c .before .before .turn-face4 .ensures)
 
 pub turn-faces-spec : {M : Type 1} → statement M
 turn-faces-spec =
@@ -48,13 +86,16 @@ turn-faces-spec =
     (tie.spec
     earlier-requires
     later-requires
-    turn-requires
-    turn-requires-2
-    step-requires
-    sub-turn
-    turn-requires-3
-    step-requires-2
-    sub-turn-2
-    turn-requires-4
+    upper-edge-requires
+    number-of-requires
+    sub-below
+    lower-face-requires
+    turn-face-requires
+    lower-face-requires-2
+    turn-face-requires-2
+    upper-face-requires
+    turn-face-requires-3
+    upper-face-requires-2
+    turn-face-requires-4
     same-length
     returns)

@@ -1,5 +1,6 @@
 -- `step` is the number of the point one step from (0,0,0). Assumes nothing.
 use mathlib.Core.Path.{ap, _∙_}
+use Rattle.rules.specs.declared.Place.{Place}
 use Rattle.rules.specs.Lattice.{pointNumber}
 use Rattle.lattice.proofs.PointSteps.{number-step, step-grid}
 use borrow.Author.Needs.{needs}
@@ -10,12 +11,12 @@ upper-face-requires : tie.Need-upper-face-requires
 upper-face-requires c κs = search needs
 
 number-of-requires : tie.Need-number-of-requires
-number-of-requires c κs = step-grid (c .before .args .a) (c .before .pre .0) (c .before .pre .1) (c .upper-face .ensures)
+number-of-requires c κs = (c .before .pre .1, step-grid (c .before .args .a) (c .before .pre .0) (c .upper-face .ensures))
 
 returns : tie.Need-returns
 returns c =
     let s = c .before .before in
-    c .number-of .ensures .0 ∙ ap (pointNumber (s .args .n)) (c .before .upper-face .ensures) ∙ number-step (s .args .n) (s .args .a)
+    c .number-of .ensures .0 ∙ ap (λ (e : Place). pointNumber (s .args .n) (e .at)) (c .before .upper-face .ensures) ∙ number-step (s .args .n) (s .args .a)
 
 pub step-spec : {M : Type 1} → statement M
 step-spec = tie.close (tie.spec upper-face-requires number-of-requires returns)

@@ -1,59 +1,69 @@
-use Rattle.patching.proofs.finish.Tie as tie
-use Rattle.patching.proofs.finish.Statement.{statement}
-use mathlib.Core.Path.{_≡_, _∙_, ap}
+-- `finish` keeps the lowest part of each grid byte, and counts the marks that differ. Assumes nothing.
+use mathlib.Core.Path.{_≡_, refl, ap, _∙_}
 use Prim.Native.Nat.{ℕ, _-_, _+_, _≤_}
-use native.Mathlib.Omega.{arith}
 use native.Mathlib.Nat.{le-antisymm}
-use lib.ListN.{length}
-use Rattle.patching.specs.Paint.{paint, gaps, low, nought}
-use Rattle.patching.proofs.PaintLaws.{paint-none, paint-length, paint-more, paint-read, gaps-most, gaps-more, gaps-none}
+use native.Mathlib.Omega.{arith}
+use Rattle.lattice.specs.Byte.{low}
+use Rattle.patching.specs.Paint.{paint, allChanges, nought}
+use Rattle.patching.proofs.PaintLaws.{paint-none, paint-room, paint-kept, paint-more, paint-read, changes-most, changes-more, changes-none}
+use Rattle.patching.proofs.finish.Statement.{statement}
+use Rattle.patching.proofs.finish.Tie as tie
 
 abbrev Inv-loop : tie.InvT-loop
-Inv-loop count grid₀ work₀ flips₀ p₀ grid work flips p = (p ≤ count) × (grid ≡ paint low p grid₀) × (work ≡ paint nought p work₀) × (flips ≡ gaps p grid₀)
+Inv-loop count grid₀ work₀ flips₀ p₀ grid work flips p = (p ≤ count) × (grid ≡ paint low p grid₀) × (work ≡ paint nought p work₀) × (flips ≡ allChanges p grid₀)
 
 abbrev μ-loop : tie.MeasureT-loop
 μ-loop count grid₀ work₀ flips₀ p₀ grid work flips p = count - p
 
 loop-holds : tie.Need-loop-holds Inv-loop μ-loop
-loop-holds c = (omega arith, paint-none _ _, paint-none _ _, gaps-none _)
+loop-holds c = (omega arith, paint-none _ _, paint-none _ _, changes-none _)
 
-slice-read-gap-of : tie.Need-slice-read-gap-of Inv-loop μ-loop
-slice-read-gap-of c = let e = ap length (c .before .before .loop .inv .1) ∙ paint-length low (c .before .before .loop .p) (c .before .before .before .before .before .args .grid .now) in let a = c .before .before .before .before .before .pre .1 in omega (arith, c .before .loop-test .taken)
+slice-read-changes : tie.Need-slice-read-changes Inv-loop μ-loop
+slice-read-changes c = paint-room low _ _ _ _ (c .before .before .loop .inv .1) (c .before .loop-test .taken) (c .before .before .before .before .before .pre .1)
 
-gap-of-requires : tie.Need-gap-of-requires Inv-loop μ-loop
-gap-of-requires c κs = tt
+changes-requires : tie.Need-changes-requires Inv-loop μ-loop
+changes-requires c κs = tt
 
 add-flips : tie.Need-add-flips Inv-loop μ-loop
-add-flips c = let a = gaps-most (c .before .before .before .loop .p) (c .before .before .before .before .before .before .args .grid .now) in let b = c .before .before .before .loop .inv .3 in let d = c .gap-of .ensures .1 in let f = c .before .before .before .before .before .before .pre .0 in omega (arith, c .before .before .loop-test .taken)
+add-flips c =
+    let a = changes-most (c .before .before .before .loop .p) (c .before .before .before .before .before .before .args .grid .now) in
+    let b = c .before .before .before .loop .inv .3 in
+    let d = c .changes .ensures .1 in
+    let f = c .before .before .before .before .before .before .pre .0 in
+    omega (arith, c .before .before .loop-test .taken)
 
-slice-read-grid : tie.Need-slice-read-grid Inv-loop μ-loop
-slice-read-grid c = let e = ap length (c .before .before .before .before .loop .inv .1) ∙ paint-length low (c .before .before .before .before .loop .p) (c .before .before .before .before .before .before .before .args .grid .now) in let a = c .before .before .before .before .before .before .before .pre .1 in omega (arith, c .before .before .before .loop-test .taken)
+slice-read-low : tie.Need-slice-read-low Inv-loop μ-loop
+slice-read-low c = paint-room low _ _ _ _ (c .before .before .before .before .loop .inv .1) (c .before .before .before .loop-test .taken) (c .before .before .before .before .before .before .before .pre .1)
+
+low-requires : tie.Need-low-requires Inv-loop μ-loop
+low-requires c κs = tt
 
 slice-write-grid : tie.Need-slice-write-grid Inv-loop μ-loop
-slice-write-grid c = let e = ap length (c .before .before .before .before .loop .inv .1) ∙ paint-length low (c .before .before .before .before .loop .p) (c .before .before .before .before .before .before .before .args .grid .now) in let a = c .before .before .before .before .before .before .before .pre .1 in omega (arith, c .before .before .before .loop-test .taken)
+slice-write-grid c = paint-room low _ _ _ _ (c .before .before .before .before .before .loop .inv .1) (c .before .before .before .before .loop-test .taken) (c .before .before .before .before .before .before .before .before .pre .1)
 
 slice-write-work : tie.Need-slice-write-work Inv-loop μ-loop
-slice-write-work c = let e = ap length (c .before .before .before .before .loop .inv .2) ∙ paint-length nought (c .before .before .before .before .loop .p) (c .before .before .before .before .before .before .before .args .work .now) in let a = c .before .before .before .before .before .before .before .pre .2 in omega (arith, c .before .before .before .loop-test .taken)
+slice-write-work c = paint-room nought _ _ _ _ (c .before .before .before .before .before .loop .inv .2) (c .before .before .before .before .loop-test .taken) (c .before .before .before .before .before .before .before .before .pre .2)
 
 add-p : tie.Need-add-p Inv-loop μ-loop
-add-p c = let f = c .before .before .before .before .before .before .before .pre .0 in omega (arith, c .before .before .before .loop-test .taken)
+add-p c = let f = c .before .before .before .before .before .before .before .before .pre .0 in omega (arith, c .before .before .before .before .loop-test .taken)
 
 loop-less : tie.Need-loop-less Inv-loop μ-loop
-loop-less c = omega (arith, c .before .before .before .loop-test .taken)
+loop-less c = omega (arith, c .before .before .before .before .loop-test .taken)
 
 loop-again : tie.Need-loop-again Inv-loop μ-loop
-loop-again c = (
-  omega (arith, c .before .before .before .loop-test .taken),
-  paint-more low (c .before .before .before .before .loop .p) (c .before .before .before .before .before .before .before .args .grid .now) (c .before .before .before .before .loop .grid) (c .before .before .before .before .loop .inv .1),
-  paint-more nought (c .before .before .before .before .loop .p) (c .before .before .before .before .before .before .before .args .work .now) (c .before .before .before .before .loop .work) (c .before .before .before .before .loop .inv .2),
-  ap (λ (x : ℕ). c .before .before .before .before .loop .flips + x) (c .before .gap-of .ensures .0) ∙ gaps-more (c .before .before .before .before .loop .p) (c .before .before .before .before .loop .flips) (c .before .before .before .before .before .before .before .args .grid .now) _ (c .before .before .before .before .loop .inv .3) (paint-read low (c .before .before .before .before .loop .p) (c .before .before .before .before .before .before .before .args .grid .now) (c .before .before .before .before .loop .grid) (c .before .before .before .before .loop .inv .1)),
-)
+loop-again c =
+    let l = c .before .before .before .before .before .loop in (
+      omega (arith, c .before .before .before .before .loop-test .taken),
+      paint-more low _ _ _ _ (l .inv .1) (c .low .ensures .0),
+      paint-more nought _ _ _ 0 (l .inv .2) refl,
+      ap (λ (x : ℕ). l .flips + x) (c .before .before .changes .ensures .0) ∙ changes-more (l .p) (l .flips) (c .before .before .before .before .before .before .before .before .args .grid .now) _ (l .inv .3) (paint-read low _ _ _ (l .inv .1)),
+    )
 
 same-length : tie.Need-same-length Inv-loop μ-loop
-same-length c = ap length (c .before .loop .inv .1) ∙ paint-length low (c .before .loop .p) (c .before .before .before .before .args .grid .now)
+same-length c = paint-kept low _ _ _ (c .before .loop .inv .1)
 
 same-length-2 : tie.Need-same-length-2 Inv-loop μ-loop
-same-length-2 c = ap length (c .before .loop .inv .2) ∙ paint-length nought (c .before .loop .p) (c .before .before .before .before .args .work .now)
+same-length-2 c = paint-kept nought _ _ _ (c .before .loop .inv .2)
 
 returns : tie.Need-returns Inv-loop μ-loop
 returns c =
@@ -68,10 +78,11 @@ finish-spec =
     Inv-loop
     μ-loop
     loop-holds
-    slice-read-gap-of
-    gap-of-requires
+    slice-read-changes
+    changes-requires
     add-flips
-    slice-read-grid
+    slice-read-low
+    low-requires
     slice-write-grid
     slice-write-work
     add-p

@@ -1,14 +1,11 @@
 -- `patch_grid` finds the odd faces, patches every rim, and settles and counts the marks. Assumes nothing.
 use mathlib.Core.Path.{_≡_, sym, _∙_, subst}
-use mathlib.Core.List.{List}
-use Prim.Native.Nat.{ℕ, _≤_, _<_}
-use lib.ListN.{getD}
 use Rattle.walking.specs.Walks.{Fine}
 use Rattle.patching.proofs.Odd.{marks-edged}
 use Rattle.patching.specs.Paint.{paint, nought}
 use Rattle.patching.proofs.PaintLaws.{cleared-paint}
-use Rattle.patching.proofs.Begins.{grid-small, found-small, fine-start}
-use Rattle.patching.proofs.Ends.{found-is, work-is, ends-well}
+use Rattle.patching.proofs.Begins.{fine-start}
+use Rattle.patching.proofs.Ends.{work-is, ends-well}
 use native.Mathlib.Omega.{arith}
 use borrow.Author.Needs.{needs}
 use Rattle.patching.proofs.patch_grid.Statement.{statement}
@@ -33,12 +30,7 @@ put-by-requires : tie.Need-put-by-requires
 put-by-requires c κs =
     let s = c .before .before .before .before .before .before .before .before .before .before .before .before .before .before in
     let k = c .before .before .before .before .before .before .before .before .before .before .before .point-count .ensures .0 in
-    let o = found-is (s .args .n) (s .args .grid .now) (s .args .work .now) (s .pre .2) (s .pre .3) (s .pre .4) _ k _ _ (painted (c .before .before .before .before .before .before .before .before .before)) (c .before .before .before .before .find-odd .ensures) in (
-      rw k (s .pre .2),
-      rw (c .before .before .before .before .find-odd .kept .1 .1 .0, c .before .before .before .before .before .before .before .before .before .clear .kept .1 .0, k) (s .pre .3),
-      (λ i l. grid-small (s .args .n) (s .args .grid .now) (s .args .work .now) (s .pre .2) (s .pre .3) (s .pre .4) i (subst (λ (j : ℕ). i < j) k l)),
-      (λ i l. subst (λ (w : List ℕ). getD w i 0 ≤ 7) (sym o) (found-small (s .args .n) (s .args .grid .now) (s .args .work .now) (s .pre .2) (s .pre .3) (s .pre .4) i (subst (λ (j : ℕ). i < j) k l))),
-    )
+    (rw k (s .pre .2), rw (c .before .before .before .before .find-odd .kept .1 .1 .0, c .before .before .before .before .before .before .before .before .before .clear .kept .1 .0, k) (s .pre .3))
 
 all-rims-requires : tie.Need-all-rims-requires
 all-rims-requires c κs =

@@ -6,7 +6,7 @@ use lib.ListN.{length}
 use Rattle.rules.specs.declared.Point.{Point}
 use Rattle.rules.specs.Lattice.{pointCount}
 use Rattle.walking.specs.Walks.{oddIn, Fine}
-use Rattle.walking.proofs.Faces.{cell-grid}
+use Rattle.lattice.proofs.PointSteps.{cell-grid}
 use Rattle.walking.proofs.Invariant.{Live, left}
 use Rattle.walking.proofs.Stepping.{start-from, step-from, ready}
 use Rattle.walking.proofs.find_rim.Statement.{statement}

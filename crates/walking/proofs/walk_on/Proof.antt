@@ -3,7 +3,7 @@ use mathlib.Core.Path.{sym, ap, _∙_, subst}
 use Prim.Native.Nat.{ℕ, _<_}
 use Rattle.lattice.specs.Cells.{Cell}
 use Rattle.walking.specs.Walks.{Inside, acrossOf, opposite}
-use Rattle.walking.proofs.Faces.{cell-grid}
+use Rattle.lattice.proofs.PointSteps.{cell-grid}
 use Rattle.walking.proofs.Stepping.{cell-at, first-of, open-inside, across-grid, step-push, step-stop, step-pop}
 use borrow.Author.Needs.{needs}
 use Rattle.walking.proofs.walk_on.Statement.{statement}

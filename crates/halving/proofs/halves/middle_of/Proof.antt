@@ -1,0 +1,23 @@
+use Rattle.halving.proofs.halves.middle_of.Tie as tie
+use borrow.Author.Needs.{needs}
+use Rattle.halving.proofs.halves.middle_of.Statement.{statement}
+use Rattle.halving.proofs.Boxes.{coord-le}
+
+coordinate-requires : tie.Need-coordinate-requires
+coordinate-requires c κs = search needs
+
+coordinate-requires-2 : tie.Need-coordinate-requires-2
+coordinate-requires-2 c κs = search needs
+
+sub-result : tie.Need-sub-result
+sub-result c = rw (c .before .coordinate .ensures, c .coordinate2 .ensures) (coord-le (c .before .before .before .before .args .n) (c .before .before .before .before .args .b) (c .before .before .before .before .args .a) (c .before .before .before .before .pre .1))
+
+add-result : tie.Need-add-result
+add-result c = search needs
+
+returns : tie.Need-returns
+returns c = search needs
+
+pub middle-of-spec : {M : Type 1} → statement M
+middle-of-spec =
+    tie.close (tie.spec coordinate-requires coordinate-requires-2 sub-result add-result returns)
