@@ -1,6 +1,5 @@
 -- `all_rims` hits every rim. Assumes nothing.
 use mathlib.Core.Path.{_≡_, refl}
-use mathlib.Core.Path.{_≡_, refl}
 use Prim.Native.Nat.{_-_}
 use native.Mathlib.Nat.{le-antisymm}
 use native.Mathlib.Omega.{arith}
@@ -26,7 +25,8 @@ rim-at-requires : tie.Need-rim-at-requires Inv-loop μ-loop
 rim-at-requires c κs =
     let s = c .before .before .before .before .before .before .before in
     let i = c .before .before .before .loop .inv in
-    (s .pre .0, rw (i .1 .g-long) (s .pre .1), rw (i .1 .w-long) (s .pre .2), rw (i .0) at (c .before .before .loop-test .taken), i .1 .fine)
+    let l = rw (i .0) at (c .before .before .loop-test .taken) in
+    (s .pre .0, rw (i .1 .g-long) (s .pre .1), rw (i .1 .w-long) (s .pre .2), omega (arith, l), i .1 .fine)
 
 add-found : tie.Need-add-found Inv-loop μ-loop
 add-found c = let i = c .before .before .before .before .before .before .before .before .loop .inv in let a = i .1 .few in let r = c .before .before .before .before .rim-at .ensures .0 in omega (arith, c .before .before .before .before .before .before .before .loop-test .taken, c .before .before .before .before .before .before .before .before .before .point-count .ensures .1)

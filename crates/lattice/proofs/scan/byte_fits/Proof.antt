@@ -1,6 +1,7 @@
 use mathlib.Core.Path.{_≡_, refl, sym, _∙_}
 use mathlib.Core.Bool.{Bool, true, false, not, _&&_, _||_}
 use Prim.Native.Nat.{ℕ}
+use native.Mathlib.Omega.{arith}
 use lib.Dec.{leb}
 use borrow.Author.Needs.{needs}
 use Rattle.rules.specs.declared.Axis.the-variants.{X, Y, Z}
@@ -28,13 +29,17 @@ returns : tie.Need-returns
 returns c = rw (c .if1 .taken)
 
 returns-2 : tie.Need-returns-2
-returns-2 c = rw (leb-no _ _ (c .if2 .taken))
+returns-2 c = rw (leb-no (c .before .before .args .b) 7 (omega (arith, c .if2 .taken)))
+
+-- a byte above 7 is not let through
+at-most : (c : tie.Else2) → leb (c .before .before .args .b) 7 ≡ true
+at-most c = leb-yes (c .before .before .args .b) 7 (c .if2 .left)
 
 is-deep-requires : tie.Need-is-deep-requires
 is-deep-requires c κs = search needs
 
 returns-3 : tie.Need-returns-3
-returns-3 c = sym (deep-fits (c .before .before .before .before .args .n) (c .before .before .before .before .args .b) (c .before .before .before .before .args .p) (leb-yes _ _ (c .before .before .if2 .left)) (sym (c .before .is-deep .ensures) ∙ c .if3 .taken))
+returns-3 c = sym (deep-fits (c .before .before .before .before .args .n) (c .before .before .before .before .args .b) (c .before .before .before .before .args .p) (at-most (c .before .before)) (sym (c .before .is-deep .ensures) ∙ c .if3 .taken))
 
 mark-fits-requires : tie.Need-mark-fits-requires
 mark-fits-requires c κs = search needs
@@ -46,15 +51,15 @@ mark-fits-requires-3 : tie.Need-mark-fits-requires-3
 mark-fits-requires-3 c κs = search needs
 
 returns-4 : tie.Need-returns-4
-returns-4 c = rw (leb-yes _ _ (c .before .before .before .before .if2 .left), fails (c .before .mark-fits .ensures) (c .if4 .taken))
+returns-4 c = rw (at-most (c .before .before .before .before), fails (c .before .mark-fits .ensures) (c .if4 .taken))
 
 returns-5 : tie.Need-returns-5
 returns-5 c =
-    rw (leb-yes _ _ (c .before .before .before .before .before .before .if2 .left), holds (c .before .before .before .mark-fits .ensures) (c .before .before .if4 .left), fails (c .before .mark-fits2 .ensures) (c .if5 .taken))
+    rw (at-most (c .before .before .before .before .before .before), holds (c .before .before .before .mark-fits .ensures) (c .before .before .if4 .left), fails (c .before .mark-fits2 .ensures) (c .if5 .taken))
 
 returns-6 : tie.Need-returns-6
 returns-6 c =
-    rw (leb-yes _ _ (c .before .before .before .before .before .before .before .if2 .left), holds (c .before .before .before .before .mark-fits .ensures) (c .before .before .before .if4 .left), holds (c .before .before .mark-fits2 .ensures) (c .before .if5 .left))
+    rw (at-most (c .before .before .before .before .before .before .before), holds (c .before .before .before .before .mark-fits .ensures) (c .before .before .before .if4 .left), holds (c .before .before .mark-fits2 .ensures) (c .before .if5 .left))
     (c .mark-fits3 .ensures)
 
 pub byte-fits-spec : {M : Type 1} → statement M
