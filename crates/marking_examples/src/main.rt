@@ -6,8 +6,10 @@ use marking::open;
 use showing::all_hold;
 use showing::put;
 use showing::say;
+use showing::say_case;
+use showing::say_count;
+use showing::say_if;
 use showing::say_marks;
-use showing::say_number;
 
 // The points of level 2, and the bytes of a buffer that is longer.
 const POINTS: usize = 125;
@@ -18,13 +20,17 @@ const DIRTY: u8 = 90;
 
 // Says a number, and whether the buffer is as dirty as it was.
 fn say_opened(name: &[u8], number: u32, grid: &[u8]) {
-    say(b"open, ");
-    say(name);
-    say(b": ");
-    say_number(number);
-    if all_hold(grid, 0, LONG, DIRTY) {
-        say(b", kept");
+    say_case(b"open, ", name, number);
+    say_if(all_hold(grid, 0, LONG, DIRTY), b", kept");
+}
+
+// Says what open left where it was done.
+fn say_left(number: u32, grid: &[u8]) {
+    if number != 0 {
+        return;
     }
+    say_if(all_hold(grid, POINTS, LONG, DIRTY), b", rest");
+    say_marks(grid);
 }
 
 // Opens a grid in a buffer that is longer and dirty.
@@ -32,12 +38,7 @@ fn show_open(name: &[u8], level: u32) {
     let mut grid = [DIRTY; LONG];
     let number = open(level, &mut grid).number();
     say_opened(name, number, &grid);
-    if number == 0 {
-        if all_hold(&grid, POINTS, LONG, DIRTY) {
-            say(b", rest");
-        }
-        say_marks(&grid);
-    }
+    say_left(number, &grid);
     say(b"\n");
 }
 
@@ -51,13 +52,8 @@ fn show_open_short() {
 
 // Says a number, and the marks of the first points.
 fn say_marked(name: &[u8], number: u32, grid: &[u8]) {
-    say(b"mark, ");
-    say(name);
-    say(b": ");
-    say_number(number);
-    if all_hold(grid, POINTS, LONG, DIRTY) {
-        say(b", rest");
-    }
+    say_case(b"mark, ", name, number);
+    say_if(all_hold(grid, POINTS, LONG, DIRTY), b", rest");
     say_marks(grid);
     say(b"\n");
 }
@@ -107,8 +103,7 @@ fn show_nine(name: &[u8], v: i32) {
     say(b" at each of nine places:");
     let mut k: usize = 0;
     while k < 9 {
-        say(b" ");
-        say_number(number_with(k, v));
+        say_count(b" ", number_with(k, v));
         k += 1;
     }
     say(b"\n");
@@ -244,10 +239,11 @@ fn show_refusals() {
     show_put(b"a byte of 8 behind the grid", 2, 125, 8, &nine);
     show_put(b"a mark that is there", 2, 31, 1, &nine);
     let mut none = [0u8; 0];
-    say(b"mark, level 1, no bytes: ");
-    say_number(mark(1, &mut none, &nine).number());
-    say(b"\nopen, level 1, no bytes: ");
-    say_number(open(1, &mut none).number());
+    say_count(
+        b"mark, level 1, no bytes: ",
+        mark(1, &mut none, &nine).number(),
+    );
+    say_count(b"\nopen, level 1, no bytes: ", open(1, &mut none).number());
     say(b"\n");
 }
 

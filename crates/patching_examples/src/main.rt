@@ -5,8 +5,9 @@ use patching::PatchAnswer;
 use patching::patch;
 use showing::all_hold;
 use showing::say;
+use showing::say_count;
+use showing::say_if;
 use showing::say_marks;
-use showing::say_number;
 ghost use Prim.Native.Nat.{_≤_, _<_};
 ghost use lib.ListN.{length};
 
@@ -90,12 +91,9 @@ fn fill(buffer: &mut [u8], v: u8) {
 }
 
 fn say_counts(number: u32, rims: u32, flips: u32) {
-    say(b": ");
-    say_number(number);
-    say(b", rims ");
-    say_number(rims);
-    say(b", flips ");
-    say_number(flips);
+    say_count(b": ", number);
+    say_count(b", rims ", rims);
+    say_count(b", flips ", flips);
 }
 
 // Prints what patch answered.
@@ -104,6 +102,14 @@ fn say_answer(answer: PatchAnswer) {
         PatchAnswer::Done { rims, flips } => say_counts(0, rims, flips),
         PatchAnswer::Refused(why) => say_counts(why.number(), 0, 0),
     }
+}
+
+// Whether the bytes of both buffers from `from` up to `to` hold what is given for each.
+fn both_hold(grid: &[u8], v: u8, work: &[u8], w: u8, from: usize, to: usize) -> bool {
+    if !all_hold(grid, from, to, v) {
+        return false;
+    }
+    all_hold(work, from, to, w)
 }
 
 // Patches the grid of the edges named, in buffers that are longer and with a dirty work buffer.
@@ -115,14 +121,11 @@ fn show(name: &[u8], edges: &[u8]) {
     build(edges, &mut grid);
     say(name);
     say_answer(patch(2, &mut grid, &mut work));
-    if all_hold(&work, 0, POINTS, 0) {
-        say(b", clear");
-    }
-    if all_hold(&work, POINTS, LONG, BEHIND) {
-        if all_hold(&grid, POINTS, LONG, BEHIND) {
-            say(b", rest");
-        }
-    }
+    say_if(all_hold(&work, 0, POINTS, 0), b", clear");
+    say_if(
+        both_hold(&grid, BEHIND, &work, BEHIND, POINTS, LONG),
+        b", rest",
+    );
     say(b",");
     say_marks(&grid);
     say(b"\n");
@@ -145,11 +148,7 @@ fn show_refusal(name: &[u8], level: u32, grid_length: usize, work_length: usize,
     fill(&mut work, DIRTY);
     say(name);
     lend(level, &mut grid, grid_length, &mut work, work_length);
-    if all_hold(&grid, 0, POINTS, v) {
-        if all_hold(&work, 0, POINTS, DIRTY) {
-            say(b", kept");
-        }
-    }
+    say_if(both_hold(&grid, v, &work, DIRTY, 0, POINTS), b", kept");
     say(b"\n");
 }
 

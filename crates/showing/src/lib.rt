@@ -12,6 +12,26 @@ pub fn say_number(k: u32) {
     io::print_decimal(STDOUT_FILENO, k as u64);
 }
 
+// Prints a text if something is so.
+pub fn say_if(so: bool, text: &[u8]) {
+    if so {
+        say(text);
+    }
+}
+
+// Prints a text and a number behind it.
+pub fn say_count(text: &[u8], k: u32) {
+    say(text);
+    say_number(k);
+}
+
+// Prints which call, on what, and the number that it gave.
+pub fn say_case(call: &[u8], name: &[u8], number: u32) {
+    say(call);
+    say(name);
+    say_count(b": ", number);
+}
+
 // Puts a byte into a buffer.
 pub fn put(buffer: &mut [u8], p: usize, v: u8) {
     if p < buffer.len() {

@@ -4,31 +4,31 @@ use mathlib.Core.Path.{_≡_}
 use mathlib.Core.List.{List, [], _++_}
 use Prim.Native.Nat.{ℕ, _-_, _≤_}
 use lib.ListN.{length, take}
-use Rattle.rules.specs.Lattice.{Set}
-use Rattle.rules.specs.Grid.{marks}
 use Rattle.lattice.specs.declared.level.Level.{Level}
-use Rattle.lattice.specs.Levels.{cellsOf}
+use Rattle.lattice.specs.Levels.{numberOf}
 use Rattle.streaming.specs.declared.Wanted.{Wanted}
-use Rattle.streaming.specs.declared.feed.Fed.{Fed}
-use Rattle.streaming.specs.Stream.{taken, mostTriangles, noMarks, printedTaken, printed}
-use Rattle.streaming.specs.Feed.{Ready, after}
+use Rattle.feeding.specs.declared.Fed.{Fed}
+use Rattle.feeding.specs.Taken.{taken, mostTriangles}
+use Rattle.reporting.specs.Report.{lentBytes}
+use Rattle.streaming.specs.Stream.{printedTaken, printed}
+use Rattle.feeding.specs.Feed.{Ready, after}
 
--- t triangles have come, and the marks went from E to F, by the bytes so far
-pub record Came (l : Level) (E : Set) (t : ℕ) (F : Set) : Type 0 where
+-- t triangles have come, and the grid went from g to h, by the bytes so far
+pub record Came (l : Level) (g : List ℕ) (t : ℕ) (h : List ℕ) : Type 0 where
   pub bytes : List ℕ
-  pub goes-on : (rest : List ℕ) → taken l mostTriangles (bytes ++ rest) 0 E ≡ taken l (mostTriangles - t) rest t F
+  pub goes-on : (rest : List ℕ) → taken (numberOf l) mostTriangles (bytes ++ rest) 0 g ≡ taken (numberOf l) (mostTriangles - t) rest t h
 
--- the whole stream was taken, from the marks E
-pub record Streamed (l : Level) (E : Set) (r : Fed) (g : List ℕ) : Type 0 where
+-- the whole stream was taken, from the grid g
+pub record Streamed (l : Level) (g : List ℕ) (r : Fed) (h : List ℕ) : Type 0 where
   pub bytes : List ℕ
-  pub ready : Ready l g
-  pub ends : taken l mostTriangles bytes 0 E ≡ after l r [] (marks (cellsOf l) g)
+  pub ready : Ready l h
+  pub ends : taken (numberOf l) mostTriangles bytes 0 g ≡ after l r [] h
 
 -- the first `size` bytes of a buffer are what is printed for a stream behind its level byte
-pub record PrintedAt (w : Wanted) (level : ℕ) (l : Level) (out : List ℕ) (size : ℕ) : Type 0 where
+pub record PrintedAt (w : Wanted) (l : Level) (out : List ℕ) (size : ℕ) : Type 0 where
   pub bytes : List ℕ
   pub fits : size ≤ length out
-  pub text : take size out ≡ printedTaken w level l (taken l mostTriangles bytes 0 noMarks)
+  pub text : take size out ≡ printedTaken w (numberOf l) (taken (numberOf l) mostTriangles bytes 0 lentBytes)
 
 -- the first `size` bytes of a buffer are what is printed for a stream
 pub record Printed (w : Wanted) (out : List ℕ) (size : ℕ) : Type 0 where

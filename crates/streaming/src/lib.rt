@@ -1,26 +1,19 @@
 // The program's work: a stream of triangles in, a listing of quads out.
-pub mod feed;
-pub mod picture;
-pub mod report;
-pub mod text;
-pub mod words;
-
-use crate::feed::Fed;
-use crate::feed::feed;
-use crate::picture::show;
-use crate::report::report;
-use crate::text::put_refusal;
-use crate::words::wide;
+use feeding::Fed;
+use feeding::feed;
 use lattice::level::Level;
 use lattice::level::LevelRead;
 use libc::STDIN_FILENO;
 use libc::STDOUT_FILENO;
+use reporting::report;
+use reporting::show;
+use text::listing::put_refusal;
+use text::words::wide;
 ghost use mathlib.Core.Path.{_≡_};
 ghost use Prim.Native.Nat.{_≤_};
 ghost use lib.ListN.{length, replicate};
-ghost use Rattle.rules.specs.Grid.{marks};
-ghost use Rattle.lattice.specs.Levels.{cellsOf};
-ghost use Rattle.streaming.specs.Feed.{Ready};
+ghost use Rattle.lattice.specs.Levels.{numberOf};
+ghost use Rattle.feeding.specs.Feed.{Ready};
 ghost use Rattle.streaming.specs.Read.{Streamed, PrintedAt, Printed};
 
 // What is printed for a stream that is not refused: the listing of its surface, or its layers of points.
@@ -30,9 +23,9 @@ pub enum Wanted {
 }
 
 // The bytes that are read at once: 113 triangles.
-pub const BLOCK: usize = 4068;
+const BLOCK: usize = 4068;
 
-// An empty grid, of whatever level.
+// Bytes for the points of any level: an empty grid.
 fn empty_grid() -> [u8; 35937]
     ensures { λ r. ⌜ r ≡ replicate 35937 0 ⌝ }
 {
@@ -41,7 +34,7 @@ fn empty_grid() -> [u8; 35937]
 
 // The list that is lent to surface.
 fn empty_list() -> [u16; 32768]
-    ensures { λ r. ⌜ length r ≡ 32768 ⌝ }
+    ensures { λ r. ⌜ r ≡ replicate 32768 0 ⌝ }
 {
     [0u16; 32768]
 }
@@ -63,7 +56,7 @@ fn empty_block() -> [u8; 4068]
 // Reads standard input to its end or to the first refused triangle, and marks the triangles block by block.
 fn feed_all(l: Level, grid: &mut [u8]) -> Fed
     requires { ⌜ Ready l (now grid) ⌝ }
-    ensures { λ r. ⌜ Streamed l (marks (cellsOf l) (now (grid .entry))) r (now (grid .exit)) ⌝ }
+    ensures { λ r. ⌜ Streamed l (now (grid .entry)) r (now (grid .exit)) ⌝ }
 {
     let mut triangles: u32 = 0;
     let mut block = empty_block();
@@ -82,8 +75,8 @@ fn feed_all(l: Level, grid: &mut [u8]) -> Fed
 
 // Reads the triangles of a stream, repairs, and puts what is wanted into a buffer; answers its length.
 fn repair_at(wanted: Wanted, level: u32, l: Level, out: &mut [u8]) -> usize
-    requires { ⌜ 213098 ≤ length (now out) ⌝ }
-    ensures { λ r. ⌜ PrintedAt wanted level l (now (out .exit)) r ⌝ }
+    requires { ⌜ (level ≡ numberOf l) × (213098 ≤ length (now out)) ⌝ }
+    ensures { λ r. ⌜ PrintedAt wanted l (now (out .exit)) r ⌝ }
 {
     let mut grid = empty_grid();
     match feed_all(l, &mut grid) {

@@ -5,7 +5,9 @@
 use showing::all_hold;
 use showing::put;
 use showing::say;
-use showing::say_number;
+use showing::say_case;
+use showing::say_count;
+use showing::say_if;
 use showing::say_point;
 use signing::sign;
 use surfacing::SurfaceAnswer;
@@ -56,23 +58,22 @@ fn say_inside(signs: &[u8]) {
     }
 }
 
+// Says what sign left where it was done.
+fn say_signed(number: u32, signs: &[u8]) {
+    if number != 0 {
+        return;
+    }
+    say_if(all_hold(signs, POINTS, LONG, DIRTY), b", rest, inside");
+    say_inside(signs);
+}
+
 // Signs a grid, in a sign buffer that is longer and dirty.
 fn show_sign(name: &[u8], level: u32, grid: &[u8]) {
     let mut signs = [DIRTY; LONG];
     let number = sign(level, grid, &mut signs).number();
-    say(b"sign, ");
-    say(name);
-    say(b": ");
-    say_number(number);
-    if all_hold(&signs, 0, LONG, DIRTY) {
-        say(b", kept");
-    }
-    if number == 0 {
-        if all_hold(&signs, POINTS, LONG, DIRTY) {
-            say(b", rest, inside");
-        }
-        say_inside(&signs);
-    }
+    say_case(b"sign, ", name, number);
+    say_if(all_hold(&signs, 0, LONG, DIRTY), b", kept");
+    say_signed(number, &signs);
     say(b"\n");
 }
 
@@ -95,8 +96,7 @@ fn say_entry(p: usize, v: u16) {
     if p % 4 == 0 {
         say(b"\nq");
     }
-    say(b" ");
-    say_number(v as u32);
+    say_count(b" ", v as u32);
 }
 
 // Prints the entries of a list up to `end`.
@@ -115,18 +115,10 @@ fn show_surface(name: &[u8], level: u32, grid: &[u8], signs: &[u8], list: &mut [
     let answer = surface(level, grid, signs, list);
     let quads = quad_count(answer);
     let end = 4 * (quads as usize);
-    say(b"surface, ");
-    say(name);
-    say(b": ");
-    say_number(surface_number(answer));
-    say(b", quads ");
-    say_number(quads);
-    if entries_blank(list, 0) {
-        say(b", kept");
-    }
-    if entries_blank(list, end) {
-        say(b", rest");
-    }
+    say_case(b"surface, ", name, surface_number(answer));
+    say_count(b", quads ", quads);
+    say_if(entries_blank(list, 0), b", kept");
+    say_if(entries_blank(list, end), b", rest");
     say_quads(list, end);
     say(b"\n");
 }

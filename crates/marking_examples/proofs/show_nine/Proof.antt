@@ -28,17 +28,14 @@ say-requires-3 c κs = search needs
 loop-holds : tie.Need-loop-holds Inv-loop μ-loop
 loop-holds c = search needs
 
-slice-aggregate-say-3 : tie.Need-slice-aggregate-say-3 Inv-loop μ-loop
-slice-aggregate-say-3 c = search needs
-
-say-requires-4 : tie.Need-say-requires-4 Inv-loop μ-loop
-say-requires-4 c κs = search needs
+slice-aggregate-say-count : tie.Need-slice-aggregate-say-count Inv-loop μ-loop
+slice-aggregate-say-count c = search needs
 
 number-with-requires : tie.Need-number-with-requires Inv-loop μ-loop
 number-with-requires c κs = search needs
 
-say-number-requires : tie.Need-say-number-requires Inv-loop μ-loop
-say-number-requires c κs = search needs
+say-count-requires : tie.Need-say-count-requires Inv-loop μ-loop
+say-count-requires c κs = search needs
 
 add-k : tie.Need-add-k Inv-loop μ-loop
 add-k c = search needs
@@ -49,11 +46,11 @@ loop-less c = search needs
 loop-again : tie.Need-loop-again Inv-loop μ-loop
 loop-again c = search needs
 
-slice-aggregate-say-4 : tie.Need-slice-aggregate-say-4 Inv-loop μ-loop
-slice-aggregate-say-4 c = search needs
+slice-aggregate-say-3 : tie.Need-slice-aggregate-say-3 Inv-loop μ-loop
+slice-aggregate-say-3 c = search needs
 
-say-requires-5 : tie.Need-say-requires-5 Inv-loop μ-loop
-say-requires-5 c κs = search needs
+say-requires-4 : tie.Need-say-requires-4 Inv-loop μ-loop
+say-requires-4 c κs = search needs
 
 returns : tie.Need-returns Inv-loop μ-loop
 returns c = search needs
@@ -70,13 +67,12 @@ show-nine-spec =
     slice-aggregate-say-2
     say-requires-3
     loop-holds
-    slice-aggregate-say-3
-    say-requires-4
+    slice-aggregate-say-count
     number-with-requires
-    say-number-requires
+    say-count-requires
     add-k
     loop-less
     loop-again
-    slice-aggregate-say-4
-    say-requires-5
+    slice-aggregate-say-3
+    say-requires-4
     returns)

@@ -5,11 +5,9 @@ use Prim.Native.Nat.{_-_, _≤_}
 use native.Mathlib.Omega.{arith}
 use lib.ListN.{length}
 use borrow.Author.Needs.{needs}
-use Rattle.rules.specs.Grid.{marks}
-use Rattle.lattice.specs.Levels.{cellsOf}
-use Rattle.streaming.specs.Feed.{Ready}
+use Rattle.feeding.specs.Feed.{Ready}
 use Rattle.streaming.specs.Read.{Came}
-use Rattle.streaming.proofs.Feeding.{came-more, came-end}
+use Rattle.streaming.proofs.Blocks.{came-more, came-end}
 use Rattle.streaming.proofs.feed_all.Statement.{statement}
 use Rattle.streaming.proofs.feed_all.Tie as tie
 
@@ -19,7 +17,7 @@ Inv-loop l grid₀ triangles₀ block₀ grid triangles block =
     × (length block ≡ 4068)
     × (length grid ≡ length grid₀)
     × Ready l grid
-    × Came l (marks (cellsOf l) grid₀) triangles (marks (cellsOf l) grid)
+    × Came l grid₀ triangles grid
 
 abbrev μ-loop : tie.MeasureT-loop
 μ-loop l grid₀ triangles₀ block₀ grid triangles block = 100000 - triangles

@@ -2,7 +2,8 @@
 use mathlib.Core.Path.{_∙_}
 use native.Mathlib.Omega.{arith}
 use Rattle.streaming.specs.declared.Wanted.the-variants.{Listing, Layers}
-use Rattle.streaming.proofs.Opened.{empty-long, empty-ready, empty-marks, printed-done, printed-refused}
+use Rattle.reporting.proofs.Lent.{bytes-lent, list-lent}
+use Rattle.streaming.proofs.Opened.{lent-ready, printed-done, printed-refused}
 use borrow.Author.Needs.{needs}
 use Rattle.streaming.proofs.repair_at.Statement.{statement}
 use Rattle.streaming.proofs.repair_at.Tie as tie
@@ -14,7 +15,7 @@ slice-aggregate-feed-all : tie.Need-slice-aggregate-feed-all
 slice-aggregate-feed-all c = search needs
 
 feed-all-requires : tie.Need-feed-all-requires
-feed-all-requires c κs = empty-ready (c .before .before .before .args .l) _ (c .before .empty-grid .ensures)
+feed-all-requires c κs = rw (c .before .empty-grid .ensures ∙ bytes-lent) (lent-ready (c .before .before .before .args .l))
 
 enum-known-triangles : tie.Need-enum-known-triangles
 enum-known-triangles c = search needs
@@ -39,8 +40,7 @@ slice-aggregate-report-3 c = search needs
 
 report-requires : tie.Need-report-requires
 report-requires c κs =
-    let f = c .before .before .before .before .before .before .before .before .before .before .before .before .feed-all .ensures .ready in
-    ((f .long, empty-long (c .before .before .before .before .before .before .before .before .before .before .before .before .before .before .before .before .args .l) _ (c .before .before .before .before .before .before .before .empty-grid2 .ensures), f .grid), (c .before .before .before .before .empty-list .ensures, c .before .before .before .before .before .before .before .before .before .before .before .before .before .before .before .before .pre))
+    (c .before .before .before .before .before .before .before .before .before .before .before .before .before .before .before .before .pre .0, c .before .before .before .before .before .before .before .before .before .before .before .before .feed-all .ensures .ready, c .before .before .before .before .before .before .before .empty-grid2 .ensures ∙ bytes-lent, c .before .before .before .before .empty-list .ensures ∙ list-lent, c .before .before .before .before .before .before .before .before .before .before .before .before .before .before .before .before .pre .1)
 
 enum-told-2 : tie.Need-enum-told-2
 enum-told-2 c = search needs
@@ -52,9 +52,7 @@ slice-aggregate-show-2 : tie.Need-slice-aggregate-show-2
 slice-aggregate-show-2 c = search needs
 
 show-requires : tie.Need-show-requires
-show-requires c κs =
-    let f = c .before .before .before .before .before .before .before .before .before .before .feed-all .ensures .ready in
-    ((f .long, empty-long (c .before .before .before .before .before .before .before .before .before .before .before .before .before .before .args .l) _ (c .before .before .before .before .before .empty-grid2 .ensures), f .grid), omega (arith, c .before .before .before .before .before .before .before .before .before .before .before .before .before .before .pre))
+show-requires c κs = (c .before .before .before .before .before .before .before .before .before .before .feed-all .ensures .ready, c .before .before .before .before .before .empty-grid2 .ensures ∙ bytes-lent, omega (arith, c .before .before .before .before .before .before .before .before .before .before .before .before .before .before .pre .1))
 
 enum-known-number : tie.Need-enum-known-number
 enum-known-number c = search needs
@@ -67,14 +65,13 @@ same-length c = search needs
 
 returns : tie.Need-returns
 returns c =
-    let a = c .before .before .before .before .before .before .before .before .before .before .before .before .before .before .before .before .before .before .before .before .before .before .args in
-    let s = rw (c .before .before .before .before .before .before .before .before .before .before .before .before .before .before .before .triangles .given .1) at (c .before .before .before .before .before .before .before .before .before .before .before .before .before .before .before .before .before .before .feed-all .ensures) in
+    let s = rw (c .before .before .before .before .before .before .before .before .before .before .before .before .before .before .before .triangles .given .1, c .before .before .before .before .before .before .before .before .before .before .before .before .before .before .before .before .before .before .before .before .empty-grid .ensures ∙ bytes-lent) at (c .before .before .before .before .before .before .before .before .before .before .before .before .before .before .before .before .before .before .feed-all .ensures) in
     let p = c .before .before .before .before .before .report .ensures in
     rw (c .before .before .before .before .before .before .before .before .before .before .before .enum-told .given .1)
     (record {
       bytes = s .bytes;
       fits = p .1;
-      text = p .0 ∙ printed-done Listing (a .level) (a .l) _ _ (empty-marks (a .l) _ (c .before .before .before .before .before .before .before .before .before .before .before .before .before .before .before .before .before .before .before .before .empty-grid .ensures)) (c .before .before .before .before .before .before .before .before .before .before .before .before .before .before .before .triangles .given .0 .0) s;
+      text = p .0 .holds ∙ rw (c .before .before .before .before .before .before .before .before .before .before .before .before .before .before .before .before .before .before .before .before .before .before .pre .0) (printed-done Listing (c .before .before .before .before .before .before .before .before .before .before .before .before .before .before .before .before .before .before .before .before .before .before .args .l) _ (c .before .before .before .before .before .before .before .before .before .before .before .before .before .before .before .triangles .given .0 .0) s);
     })
 
 same-length-2 : tie.Need-same-length-2
@@ -82,28 +79,22 @@ same-length-2 c = search needs
 
 returns-2 : tie.Need-returns-2
 returns-2 c =
-    let a = c .before .before .before .before .before .before .before .before .before .before .before .before .before .before .before .before .before .before .before .args in
-    let s = rw (c .before .before .before .before .before .before .before .before .before .before .before .before .triangles .given .1) at (c .before .before .before .before .before .before .before .before .before .before .before .before .before .before .before .feed-all .ensures) in
+    let s = rw (c .before .before .before .before .before .before .before .before .before .before .before .before .triangles .given .1, c .before .before .before .before .before .before .before .before .before .before .before .before .before .before .before .before .before .empty-grid .ensures ∙ bytes-lent) at (c .before .before .before .before .before .before .before .before .before .before .before .before .before .before .before .feed-all .ensures) in
     let p = c .before .before .before .before .show .ensures in
-    rw (c .before .before .before .before .before .before .before .before .enum-told2 .given .1)
-    (record {
-      bytes = s .bytes;
-      fits = p .1;
-      text = p .0 ∙ printed-done Layers (a .level) (a .l) _ _ (empty-marks (a .l) _ (c .before .before .before .before .before .before .before .before .before .before .before .before .before .before .before .before .before .empty-grid .ensures)) (c .before .before .before .before .before .before .before .before .before .before .before .before .triangles .given .0 .0) s;
-    })
+    let t = c .before .before .before .before .before .before .before .before .before .before .before .before .triangles .given .0 .0 in
+    rw (c .before .before .before .before .before .before .before .before .enum-told2 .given .1) (record { bytes = s .bytes; fits = p .1; text = p .0 .holds ∙ printed-done Layers (c .before .before .before .before .before .before .before .before .before .before .before .before .before .before .before .before .before .before .before .args .l) _ t s })
 
 same-length-3 : tie.Need-same-length-3
 same-length-3 c = search needs
 
 returns-3 : tie.Need-returns-3
 returns-3 c =
-    let a = c .before .before .before .before .before .before .before .before .before .before .before .before .args in
-    let s = rw (c .before .before .before .before .before .number .given .1) at (c .before .before .before .before .before .before .before .before .feed-all .ensures) in
+    let s = rw (c .before .before .before .before .before .number .given .1, c .before .before .before .before .before .before .before .before .before .before .empty-grid .ensures ∙ bytes-lent) at (c .before .before .before .before .before .before .before .before .feed-all .ensures) in
     let p = c .before .before .put-refusal .ensures in
     record {
       bytes = s .bytes;
       fits = p .1;
-      text = p .0 ∙ printed-refused (a .wanted) (a .level) (a .l) _ _ (empty-marks (a .l) _ (c .before .before .before .before .before .before .before .before .before .before .empty-grid .ensures)) (c .before .before .before .before .before .number .given .0 .0) s;
+      text = p .0 .holds ∙ printed-refused (c .before .before .before .before .before .before .before .before .before .before .before .before .args .wanted) (c .before .before .before .before .before .before .before .before .before .before .before .before .args .l) _ (c .before .before .before .before .before .number .given .0 .0) s;
     }
 
 pub repair-at-spec : {M : Type 1} → statement M

@@ -1,8 +1,9 @@
 -- `repair_stream` meets its contract. Assumes nothing.
 use mathlib.Core.Path.{sym, _∙_}
 use mathlib.Core.List.{[], _∷_}
-use Rattle.streaming.proofs.Opened.{printed-none, printed-bad, printed-level}
+use Rattle.streaming.proofs.Opened.{printed-none, printed-bad, printed-level, read-number}
 use borrow.Author.Needs.{needs}
+use Rattle.lattice.specs.Levels.{numberOf}
 use Rattle.streaming.proofs.repair_stream.Statement.{statement}
 use Rattle.streaming.proofs.repair_stream.Tie as tie
 
@@ -21,7 +22,7 @@ same-length c = search needs
 returns : tie.Need-returns
 returns c =
     let p = c .before .before .put-refusal .ensures in
-    record { bytes = []; fits = p .1; text = p .0 ∙ printed-none (c .before .before .before .before .before .before .before .before .before .args .wanted) }
+    record { bytes = []; fits = p .1; text = p .0 .holds ∙ printed-none (c .before .before .before .before .before .before .before .before .before .args .wanted) }
 
 array-read-wide : tie.Need-array-read-wide
 array-read-wide c = search needs
@@ -51,11 +52,11 @@ returns-2 c =
     record {
       bytes = w ∷ [];
       fits = p .1;
-      text = p .0 ∙ printed-bad (c .before .before .before .before .before .before .before .before .before .before .before .before .before .args .wanted) w [] (sym (c .before .before .before .before .before .before .read .ensures) ∙ c .before .before .before .before .enum-told .given .1);
+      text = p .0 .holds ∙ printed-bad (c .before .before .before .before .before .before .before .before .before .before .before .before .before .args .wanted) [] w (sym (c .before .before .before .before .before .before .read .ensures) ∙ c .before .before .before .before .enum-told .given .1);
     }
 
 repair-at-requires : tie.Need-repair-at-requires
-repair-at-requires c κs = search needs
+repair-at-requires c κs = (read-number _ _ (sym (c .before .before .before .before .read .ensures) ∙ c .before .before .l .given .1), c .before .before .before .before .before .before .before .before .before .before .before .pre)
 
 same-length-3 : tie.Need-same-length-3
 same-length-3 c = search needs
@@ -63,11 +64,11 @@ same-length-3 c = search needs
 returns-3 : tie.Need-returns-3
 returns-3 c =
     let p = c .before .before .repair-at .ensures in
-    let w = c .before .before .before .before .before .before .before .before .wide .result in
+    let l = c .before .before .before .before .before .l .given .0 .0 in
     record {
-      bytes = w ∷ p .bytes;
+      bytes = numberOf l ∷ p .bytes;
       fits = p .fits;
-      text = p .text ∙ printed-level (c .before .before .before .before .before .before .before .before .before .before .before .before .before .before .args .wanted) w (p .bytes) (c .before .before .before .before .before .l .given .0 .0) (sym (c .before .before .before .before .before .before .before .read .ensures) ∙ c .before .before .before .before .before .l .given .1);
+      text = p .text ∙ printed-level (c .before .before .before .before .before .before .before .before .before .before .before .before .before .before .args .wanted) (p .bytes) l;
     }
 
 pub repair-stream-spec : {M : Type 1} → statement M

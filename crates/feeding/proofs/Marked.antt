@@ -1,0 +1,59 @@
+-- What mark comes to on a buffer that is known to be a grid of the level. Assumes nothing.
+use mathlib.Core.Path.{_≡_, refl}
+use mathlib.Core.Bool.{true, false}
+use mathlib.Core.List.{List}
+use Prim.Native.Nat.{ℕ}
+use lib.IntN.{ℤ}
+use lib.ListN.{length}
+use borrow.Author.Tests.{le-ltb, eq-eqb, ne-eqb}
+use Rattle.lattice.specs.declared.level.Level.{Level}
+use Rattle.lattice.specs.declared.level.Level.the-variants.{Two, Three, Four, Five}
+use Rattle.lattice.specs.declared.level.LevelRead.the-variants.{Known}
+use Rattle.lattice.specs.Levels.{levelOf, numberOf, pointsOf}
+use Rattle.refusals.specs.Columns.{badLevel, levelAt}
+use Rattle.refusals.proofs.Levels.{read-known}
+use Rattle.marking.specs.Ranges.{allInRange, triangleOf}
+use Rattle.marking.specs.Met.{marked}
+use Rattle.marking.specs.Outcome.{done, refused}
+use Rattle.marking.specs.Mark.{markRows, markCall}
+use Rattle.marking.proofs.Ranges.{triangle-within}
+use Rattle.marking.proofs.Marks.{grid-after, marked-length}
+use Rattle.feeding.specs.Feed.{Ready}
+
+-- a level's number is that of a level
+named : (l : Level) → levelOf (numberOf l) ≡ Known l
+unfolding levelOf
+named Two = refl
+named Three = refl
+named Four = refl
+named Five = refl
+
+pub known : (l : Level) → (badLevel (numberOf l) ≡ false) × (levelAt (numberOf l) ≡ l)
+known l = read-known (numberOf l) l (named l)
+
+module _ (l : Level) (g : List ℕ) (r : Ready l g) (c : List ℤ) where
+  good : badLevel (numberOf l) ≡ false
+  good = known l .0
+
+  level-is : levelAt (numberOf l) ≡ l
+  level-is = known l .1
+
+  -- 3: not nine numbers
+  pub mark-short : (length c ≡ 9 → ⊥) → markCall (numberOf l) g c ≡ refused g 3
+  unfolding markRows markCall
+  mark-short h = rw (level-is, good, le-ltb (length g) (pointsOf l) (r .long), ne-eqb (length c) 9 h)
+
+  -- 4: a coordinate out of the level's range
+  pub mark-out : length c ≡ 9 → allInRange l c ≡ false → markCall (numberOf l) g c ≡ refused g 4
+  unfolding markRows markCall
+  mark-out h e = rw (level-is, good, le-ltb (length g) (pointsOf l) (r .long), eq-eqb (length c) 9 h, e)
+
+  -- else it is done
+  pub mark-in : length c ≡ 9 → allInRange l c ≡ true → markCall (numberOf l) g c ≡ done (marked l (triangleOf c) g)
+  unfolding markRows markCall
+  mark-in h e = rw (level-is, good, le-ltb (length g) (pointsOf l) (r .long), eq-eqb (length c) 9 h, e, r .grid)
+
+-- marking leaves a grid of the level
+pub ready-after : (l : Level) (g : List ℕ) (c : List ℤ) → Ready l g → length c ≡ 9 → allInRange l c ≡ true → Ready l (marked l (triangleOf c) g)
+ready-after l g c r h e =
+    record { long = rw (marked-length l (triangleOf c) g (r .long)) (r .long); grid = grid-after l (triangleOf c) (triangle-within l c h e) g }

@@ -1,0 +1,138 @@
+-- `feed` meets its contract. Assumes nothing.
+use mathlib.Core.Path.{_≡_, refl, ap, _∙_}
+use mathlib.Core.List.{List, [], _++_}
+use Prim.Native.Nat.{ℕ, _+_, _-_, _/_, _%_, _≤_, _<_}
+use native.Mathlib.Omega.{arith}
+use lib.ListN.{length, drop, drop-of-length-le}
+use Rattle.lattice.specs.Levels.{numberOf}
+use Rattle.feeding.specs.Taken.{taken}
+use Rattle.feeding.specs.Feed.{Ready, Whole}
+use Rattle.feeding.proofs.Taken.{block-full, block-short, block-refused, block-next}
+use Rattle.feeding.proofs.feed.Statement.{statement}
+use Rattle.feeding.proofs.feed.Tie as tie
+
+abbrev Inv-loop : tie.InvT-loop
+Inv-loop l grid₀ count block triangles₀ at₀ grid triangles at =
+    (at ≤ length block)
+    × (at % 36 ≡ 0)
+    × (triangles ≡ count + at / 36)
+    × (triangles ≤ 100000)
+    × (length grid ≡ length grid₀)
+    × Ready l grid
+    × ((rest : List ℕ) → Whole block rest
+    → taken (numberOf l) (100000 - count) (block ++ rest) count grid₀ ≡ taken (numberOf l) (100000 - triangles) (drop at block ++ rest) triangles grid)
+
+abbrev μ-loop : tie.MeasureT-loop
+μ-loop l grid₀ count block triangles₀ at₀ grid triangles at = length block - at
+
+loop-holds : tie.Need-loop-holds Inv-loop μ-loop
+loop-holds c = (omega arith, refl, omega arith, c .before .before .pre .0, refl, c .before .before .pre .1, λ rest w. refl)
+
+same-length : tie.Need-same-length Inv-loop μ-loop
+same-length c = c .before .before .loop .inv .4
+
+returns : tie.Need-returns Inv-loop μ-loop
+returns c =
+    let l = c .before .before .loop in
+    let a = c .before .before .before .before .before .args in
+    let e : l .triangles ≡ 100000 = omega (arith, l .inv .3, c .if1 .taken) in
+    record {
+      ready = l .inv .5;
+      counted = tt;
+      goes-on = λ rest w. l .inv .6 rest w ∙ block-full (a .l) (l .triangles) _ (a .block .now) rest (l .at) (c .before .loop-test .taken) e;
+    }
+
+sub-if2 : tie.Need-sub-if2 Inv-loop μ-loop
+sub-if2 c = omega arith
+
+same-length-2 : tie.Need-same-length-2 Inv-loop μ-loop
+same-length-2 c = c .before .before .before .loop .inv .4
+
+returns-2 : tie.Need-returns-2 Inv-loop μ-loop
+returns-2 c =
+    let l = c .before .before .before .loop in
+    let a = c .before .before .before .before .before .before .args in
+    let f : l .triangles < 100000 = omega (arith, l .inv .3, c .before .if1 .left) in
+    record {
+      ready = l .inv .5;
+      counted = tt;
+      goes-on = λ rest w. l .inv .6 rest w ∙ block-short (a .l) (l .triangles) _ (a .block .now) rest (l .at) (c .before .before .loop-test .taken) f (l .inv .5) w (l .inv .1) (c .if2 .taken);
+    }
+
+mark-at-requires : tie.Need-mark-at-requires Inv-loop μ-loop
+mark-at-requires c κs = (omega (arith, c .before .before .before .loop-test .taken, c .before .if2 .left), c .before .before .before .before .loop .inv .5)
+
+same-length-3 : tie.Need-same-length-3 Inv-loop μ-loop
+same-length-3 c = c .before .before .before .mark-at .kept .1 .0 ∙ c .before .before .before .before .before .before .before .before .loop .inv .4
+
+returns-3 : tie.Need-returns-3 Inv-loop μ-loop
+returns-3 c =
+    let l = c .before .before .before .before .before .before .before .before .loop in
+    let a = c .before .before .before .before .before .before .before .before .before .before .before .args in
+    let m = c .before .before .before .mark-at in
+    let f : l .triangles < 100000 = omega (arith, l .inv .3, c .before .before .before .before .before .before .if1 .left) in
+    record {
+      ready = m .ensures .ready;
+      counted = tt;
+      goes-on = λ rest w. l .inv .6 rest w ∙ block-refused (a .l) (l .triangles) _ (a .block .now) rest (l .at) (c .before .before .before .before .before .before .before .loop-test .taken) f (c .before .before .before .before .before .if2 .left) _ (m .ensures .is-mark) (c .if3 .taken);
+    }
+
+add-triangles : tie.Need-add-triangles Inv-loop μ-loop
+add-triangles c = omega (arith, c .before .before .before .before .before .before .before .before .loop .inv .3)
+
+add-at : tie.Need-add-at Inv-loop μ-loop
+add-at c = omega (arith, c .before .before .before .before .before .before .before .loop-test .taken, c .before .before .before .before .before .if2 .left)
+
+loop-less : tie.Need-loop-less Inv-loop μ-loop
+loop-less c = omega (arith, c .before .before .before .before .before .before .before .loop-test .taken, c .before .before .before .before .before .if2 .left)
+
+loop-again : tie.Need-loop-again Inv-loop μ-loop
+loop-again c =
+    let l = c .before .before .before .before .before .before .before .before .loop in
+    let a = c .before .before .before .before .before .before .before .before .before .before .before .args in
+    let m = c .before .before .before .mark-at in
+    let f : l .triangles < 100000 = omega (arith, l .inv .3, c .before .before .before .before .before .before .if1 .left) in (
+      omega (arith, c .before .before .before .before .before .before .before .loop-test .taken, c .before .before .before .before .before .if2 .left),
+      omega (arith, l .inv .1),
+      omega (arith, l .inv .1, l .inv .2),
+      omega arith,
+      m .kept .1 .0 ∙ l .inv .4,
+      m .ensures .ready,
+      λ rest w. l .inv .6 rest w ∙ block-next (a .l) (l .triangles) _ (a .block .now) rest (l .at) (c .before .before .before .before .before .before .before .loop-test .taken) f (c .before .before .before .before .before .if2 .left) _ (m .ensures .is-mark) (c .if3 .left),
+    )
+
+same-length-4 : tie.Need-same-length-4 Inv-loop μ-loop
+same-length-4 c = c .before .loop .inv .4
+
+returns-4 : tie.Need-returns-4 Inv-loop μ-loop
+returns-4 c =
+    let l = c .before .loop in
+    let a = c .before .before .before .before .args in
+    let e : drop (l .at) (a .block .now) ≡ [] = drop-of-length-le (a .block .now) (c .loop-test .left) in
+    record {
+      ready = l .inv .5;
+      counted = (l .inv .3, λ h. omega (arith, l .inv .2, c .loop-test .left));
+      goes-on = λ rest w. l .inv .6 rest w ∙ ap (λ (x : List ℕ). taken (numberOf (a .l)) (100000 - l .triangles) (x ++ rest) (l .triangles) (l .grid)) e;
+    }
+
+pub feed-spec : {M : Type 1} → statement M
+feed-spec =
+    tie.close
+    (tie.spec
+    Inv-loop
+    μ-loop
+    loop-holds
+    same-length
+    returns
+    sub-if2
+    same-length-2
+    returns-2
+    mark-at-requires
+    same-length-3
+    returns-3
+    add-triangles
+    add-at
+    loop-less
+    loop-again
+    same-length-4
+    returns-4)

@@ -1,0 +1,45 @@
+-- What is known while the triangles of a stream are marked block by block. Assumes nothing.
+use mathlib.Core.Path.{_≡_}
+use mathlib.Core.Bool.{true}
+use mathlib.Core.List.{List, _++_}
+use Prim.Native.Nat.{ℕ, _-_, _%_, _≤_, _<_}
+use lib.ListN.{length}
+use Rattle.rules.specs.Grid.{isGrid}
+use Rattle.lattice.specs.declared.level.Level.{Level}
+use Rattle.lattice.specs.Levels.{numberOf, cellsOf, pointsOf}
+use Rattle.marking.specs.Outcome.{Outcome}
+use Rattle.marking.specs.Mark.{markCall}
+use Rattle.text.specs.Words.{numbers}
+use Rattle.feeding.specs.declared.Fed.{Fed}
+use Rattle.feeding.specs.declared.Fed.the-variants.{Marked, Refused}
+use Rattle.feeding.specs.Taken.{Taken, refusedBy, taken, mostTriangles}
+
+-- the buffer is a grid of the level
+pub record Ready (l : Level) (g : List ℕ) : Type 0 where
+  pub long : pointsOf l ≤ length g
+  pub grid : isGrid (cellsOf l) g ≡ true
+
+-- the number and the grid are those of mark, for the triangle of the bytes s
+pub record Marking (l : Level) (s : List ℕ) (number : ℕ) (g g′ : List ℕ) : Type 0 where
+  pub is-mark : _≡_ {A = Outcome} (record { number = number; grid = g′ }) (markCall (numberOf l) g (numbers s))
+  pub ready : Ready l g′
+
+-- a block has whole triangles, unless it is the stream's last
+abbrev pub Whole : List ℕ → List ℕ → Type 0
+Whole s rest = 0 < length rest → length s % 36 ≡ 0
+
+-- what follows an answer
+abbrev pub after : Level → Fed → List ℕ → List ℕ → Taken
+after l (Marked t) rest g = taken (numberOf l) (mostTriangles - t) rest t g
+after l (Refused k) rest g = refusedBy k
+
+-- how many triangles have come after an answer, if none was refused: more than before, when there was a whole one
+abbrev pub Counted : Fed → ℕ → List ℕ → Type 0
+Counted (Marked u) t s = (u ≤ mostTriangles) × (36 ≤ length s → t < u)
+Counted (Refused k) t s = Unit {0}
+
+-- t triangles had come, and made the grid g, before the block s
+pub record Feeding (l : Level) (t : ℕ) (s g : List ℕ) (r : Fed) (g′ : List ℕ) : Type 0 where
+  pub ready : Ready l g′
+  pub counted : Counted r t s
+  pub goes-on : (rest : List ℕ) → Whole s rest → taken (numberOf l) (mostTriangles - t) (s ++ rest) t g ≡ after l r rest g′

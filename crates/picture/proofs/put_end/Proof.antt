@@ -1,0 +1,56 @@
+-- `put_end` meets its contract. Assumes nothing.
+use native.Mathlib.Omega.{arith}
+use borrow.Author.Tests.{lt-ltb, le-ltb}
+use Rattle.text.proofs.Texts.{put-none}
+use borrow.Author.Needs.{needs}
+use Rattle.picture.proofs.put_end.Statement.{statement}
+use Rattle.picture.proofs.put_end.Tie as tie
+
+returns : tie.Need-returns
+returns c =
+    let a = c .before .before .before .args in
+    (rw (lt-ltb (a .p .i) (a .n) (c .if1 .taken)) (put-none (a .out .now) (a .at)), omega arith)
+
+slice-aggregate-put-text : tie.Need-slice-aggregate-put-text
+slice-aggregate-put-text c = search needs
+
+put-text-requires : tie.Need-put-text-requires
+put-text-requires c κs = search needs
+
+same-length : tie.Need-same-length
+same-length c = search needs
+
+returns-2 : tie.Need-returns-2
+returns-2 c =
+    let a = c .before .before .before .before .before .before .before .before .before .before .args in
+    let t = c .before .before .put-text .ensures in
+    (rw (le-ltb (a .p .i) (a .n) (c .before .before .before .before .before .before .before .if1 .left), lt-ltb (a .p .j) (a .n) (c .before .before .before .before .before .if2 .taken)) t, omega (arith, t .place))
+
+slice-aggregate-put-text-2 : tie.Need-slice-aggregate-put-text-2
+slice-aggregate-put-text-2 c = search needs
+
+put-text-requires-2 : tie.Need-put-text-requires-2
+put-text-requires-2 c κs = search needs
+
+same-length-2 : tie.Need-same-length-2
+same-length-2 c = search needs
+
+returns-3 : tie.Need-returns-3
+returns-3 c =
+    let a = c .before .before .before .before .before .before .before .before .before .before .args in
+    let t = c .before .before .put-text2 .ensures in
+    (rw (le-ltb (a .p .i) (a .n) (c .before .before .before .before .before .before .before .if1 .left), le-ltb (a .p .j) (a .n) (c .before .before .before .before .before .if2 .left)) t, omega (arith, t .place))
+
+pub put-end-spec : {M : Type 1} → statement M
+put-end-spec =
+    tie.close
+    (tie.spec
+    returns
+    slice-aggregate-put-text
+    put-text-requires
+    same-length
+    returns-2
+    slice-aggregate-put-text-2
+    put-text-requires-2
+    same-length-2
+    returns-3)

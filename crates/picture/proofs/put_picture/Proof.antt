@@ -1,0 +1,107 @@
+-- `put_picture` meets its contract. Assumes nothing.
+use mathlib.Core.Path.{_≡_, refl, _∙_}
+use mathlib.Core.List.{List}
+use Prim.Native.Nat.{ℕ, _*_, _-_, _≤_, _<_}
+use native.Mathlib.Numerals.{add-one}
+use native.Mathlib.Omega.{arith}
+use lib.ListN.{length, length-set}
+use Rattle.rules.specs.Lists.{each}
+use Rattle.rules.specs.Lattice.{pointCount}
+use Rattle.rules.specs.Signs.{inside}
+use Rattle.lattice.proofs.Points.{pointsFrom, points-start, points-end, At, at-start, at-grid, at-next}
+use Rattle.text.specs.Text.{Put}
+use Rattle.picture.specs.Picture.{pointText, picture}
+use Rattle.text.proofs.Texts.{put-none}
+use Rattle.picture.proofs.Pictures.{picture-next}
+use Rattle.picture.proofs.put_picture.Statement.{statement}
+use Rattle.picture.proofs.put_picture.Tie as tie
+
+abbrev Inv-loop : tie.InvT-loop
+Inv-loop out₀ n signs count q₀ at₀ p₀ out q at p =
+    (count ≡ pointCount n)
+    × (p ≤ count)
+    × (at ≤ 3 * p)
+    × (length out ≡ length out₀)
+    × At n p q
+    × ((x : List ℕ) (r : ℕ) → Put out at (each (pointText n (inside n signs)) (pointsFrom n p)) x r
+    → Put out₀ 0 (picture n (inside n signs)) x r)
+
+abbrev μ-loop : tie.MeasureT-loop
+μ-loop out₀ n signs count q₀ at₀ p₀ out q at p = count - p
+
+point-count-requires : tie.Need-point-count-requires Inv-loop μ-loop
+point-count-requires c κs = c .before .before .pre .0
+
+loop-holds : tie.Need-loop-holds Inv-loop μ-loop
+unfolding picture
+loop-holds c =
+    (c .point-count .ensures .0, omega arith, omega arith, refl, at-start _, λ x r h. rw (points-start (c .before .before .before .args .n)) at h)
+
+shared-slice-read-character-of : tie.Need-shared-slice-read-character-of Inv-loop μ-loop
+shared-slice-read-character-of c = omega (arith, c .before .before .loop .inv .0, c .before .loop-test .taken, c .before .before .before .before .before .before .pre .1)
+
+character-of-requires : tie.Need-character-of-requires Inv-loop μ-loop
+character-of-requires c κs = tt
+
+slice-write-out : tie.Need-slice-write-out Inv-loop μ-loop
+slice-write-out c = omega (arith, c .before .before .before .loop .inv .0, c .before .before .before .loop .inv .2, c .before .before .before .loop .inv .3, c .before .before .loop-test .taken, c .before .before .before .before .before .before .before .pre .2)
+
+add-put-end : tie.Need-add-put-end Inv-loop μ-loop
+add-put-end c = omega (arith, c .before .before .before .before .loop .inv .0, c .before .before .before .before .loop .inv .2, c .before .before .before .before .loop .inv .3, c .before .before .before .loop-test .taken, c .before .before .before .before .before .before .before .before .pre .2)
+
+put-end-requires : tie.Need-put-end-requires Inv-loop μ-loop
+put-end-requires c κs = simp length-set (omega (arith, c .before .before .before .before .loop .inv .0, c .before .before .before .before .loop .inv .2, c .before .before .before .before .loop .inv .3, c .before .before .before .loop-test .taken, c .before .before .before .before .before .before .before .before .pre .2))
+
+next-point-requires : tie.Need-next-point-requires Inv-loop μ-loop
+next-point-requires c κs = (c .before .before .before .before .before .before .before .before .before .before .before .pre .0, at-grid _ _ _ (c .before .before .before .before .before .before .before .loop .inv .4) (omega (arith, c .before .before .before .before .before .before .before .loop .inv .0, c .before .before .before .before .before .before .loop-test .taken)))
+
+add-p : tie.Need-add-p Inv-loop μ-loop
+add-p c = omega (arith, c .before .before .before .before .before .before .before .loop-test .taken, c .before .before .before .before .before .before .before .before .before .point-count .ensures .1)
+
+loop-less : tie.Need-loop-less Inv-loop μ-loop
+loop-less c = omega (arith, c .before .before .before .before .before .before .before .loop-test .taken)
+
+loop-again : tie.Need-loop-again Inv-loop μ-loop
+loop-again c =
+    let l = c .before .before .before .before .before .before .before .before .loop in
+    let a = c .before .before .before .before .before .before .before .before .before .before .before .before .args in
+    let f = c .before .before .before .put-end in
+    let h : l .p < pointCount (a .n) = omega (arith, l .inv .0, c .before .before .before .before .before .before .before .loop-test .taken) in
+    let g : l .at < length (l .out) = omega (arith, l .inv .0, l .inv .2, l .inv .3, c .before .before .before .before .before .before .before .loop-test .taken, c .before .before .before .before .before .before .before .before .before .before .before .before .pre .2) in (
+      l .inv .0,
+      omega (arith, c .before .before .before .before .before .before .before .loop-test .taken),
+      omega (arith, l .inv .2, f .ensures .1),
+      f .kept .0 ∙ length-set (l .out) (l .at) (c .before .before .before .before .before .character-of .result) ∙ l .inv .3,
+      rw (c .next-point .ensures, add-one (l .p)) (at-next (a .n) (l .p) (l .q) (l .inv .4) h),
+      λ x r t. l .inv .5 x r (picture-next (a .n) (a .signs .now) (l .p) (l .q) (l .inv .4) h g (c .before .before .before .before .before .character-of .ensures) (f .ensures .0) t),
+    )
+
+same-length : tie.Need-same-length Inv-loop μ-loop
+same-length c = c .before .loop .inv .3
+
+returns : tie.Need-returns Inv-loop μ-loop
+returns c =
+    let l = c .before .loop in
+    let e : l .p ≡ pointCount (c .before .before .before .before .before .args .n) = omega (arith, l .inv .0, l .inv .1, c .loop-test .left) in
+    let w = l .inv .5 (l .out) (l .at) (rw (points-end (c .before .before .before .before .before .args .n) (l .p) (omega arith)) (put-none (l .out) (l .at))) in
+    (w, omega (arith, l .inv .2, l .inv .3, c .before .before .before .before .before .pre .2))
+
+pub put-picture-spec : {M : Type 1} → statement M
+put-picture-spec =
+    tie.close
+    (tie.spec
+    Inv-loop
+    μ-loop
+    point-count-requires
+    loop-holds
+    shared-slice-read-character-of
+    character-of-requires
+    slice-write-out
+    add-put-end
+    put-end-requires
+    next-point-requires
+    add-p
+    loop-less
+    loop-again
+    same-length
+    returns)

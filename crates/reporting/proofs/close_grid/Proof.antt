@@ -1,0 +1,39 @@
+-- `close_grid` meets its contract. Assumes nothing.
+use borrow.Author.Needs.{needs}
+use Rattle.lattice.proofs.LevelFacts.{cells-some, cells-most}
+use Rattle.reporting.proofs.Called.{patch-left, closing}
+use Rattle.reporting.proofs.close_grid.Statement.{statement}
+use Rattle.reporting.proofs.close_grid.Tie as tie
+
+cells-requires : tie.Need-cells-requires
+cells-requires c κs = search needs
+
+patch-grid-requires : tie.Need-patch-grid-requires
+patch-grid-requires c κs =
+    let s = c .before .before .before .before .before in
+    rw (c .before .before .cells .ensures) (cells-some (s .args .l), cells-most (s .args .l), s .pre .0 .long, s .pre .1, s .pre .0 .grid)
+
+sign-grid-requires : tie.Need-sign-grid-requires
+sign-grid-requires c κs =
+    let s = c .before .before .before .before .before .before .before .before .before .before .before .before in
+    let p = c .before .before .before .before .before .before .patch-grid in
+    let h = patch-left (s .args .l) _ _ (rw (c .before .before .before .before .before .before .before .before .before .cells .ensures) at (p .ensures)) in
+    rw (c .before .before .before .before .before .before .before .before .before .cells .ensures)
+    ((cells-most (s .args .l), rw (p .kept .1 .0) (s .pre .0 .long), rw (p .kept .1 .1 .0) (s .pre .1)), (h .0, h .1))
+
+same-length : tie.Need-same-length
+same-length c = search needs
+
+same-length-2 : tie.Need-same-length-2
+same-length-2 c = search needs
+
+returns : tie.Need-returns
+returns c =
+    let s = c .before .before .before .before .before .before .before .before .before .before .before .before .before .before .before in
+    let p = c .before .before .before .before .before .before .before .before .before .patch-grid in
+    let e = c .before .before .before .before .before .before .before .before .before .before .before .before .cells .ensures in
+    closing (s .args .l) _ _ (s .pre .0) (s .pre .1) (rw e at (p .ensures)) (rw (p .kept .1 .0) (s .pre .0 .long)) (rw (p .kept .1 .1 .0) (s .pre .1)) (rw e at (c .before .before .sign-grid .ensures))
+
+pub close-grid-spec : {M : Type 1} → statement M
+close-grid-spec =
+    tie.close (tie.spec cells-requires patch-grid-requires sign-grid-requires same-length same-length-2 returns)

@@ -1,0 +1,120 @@
+-- `report` meets its contract. Assumes nothing.
+use mathlib.Core.Path.{_≡_, ap, _∙_}
+use Prim.Native.Nat.{_≤_}
+use native.Mathlib.Omega.{arith}
+use lib.ListN.{length}
+use borrow.Author.Needs.{needs}
+use Rattle.lattice.specs.Levels.{pointsOf}
+use Rattle.lattice.proofs.LevelFacts.{cells-most}
+use Rattle.reporting.proofs.Lent.{bytes-long, list-long}
+use Rattle.reporting.proofs.Reports.{listed-room, refused-is, listing-is}
+use Rattle.reporting.proofs.report.Statement.{statement}
+use Rattle.reporting.proofs.report.Tie as tie
+
+-- the second buffer is long enough
+second-long : (c : tie.Start) → pointsOf (c .args .l) ≤ length (c .args .second .now)
+second-long c = rw (c .pre .2) (bytes-long (c .args .l))
+
+close-grid-requires : tie.Need-close-grid-requires
+close-grid-requires c κs = (c .before .before .before .before .before .before .pre .1, second-long (c .before .before .before .before .before .before))
+
+cells-requires : tie.Need-cells-requires
+cells-requires c κs = search needs
+
+list-quads-requires : tie.Need-list-quads-requires
+list-quads-requires c κs =
+    let s = c .before .before .before .before .before .before .before .before .before .before .before .before .before .before .before in
+    let k = c .before .before .before .before .before .before .before .before .close-grid in
+    rw (c .before .before .before .cells .ensures) (
+      cells-most (s .args .l),
+      record { g-long = k .ensures .ready .long; s-long = rw (k .kept .1 .1 .0) (second-long s); grid = k .ensures .ready .grid },
+    )
+
+enum-known-quads : tie.Need-enum-known-quads
+enum-known-quads c = search needs
+
+count-inside-requires : tie.Need-count-inside-requires
+count-inside-requires c κs = rw (c .before .before .before .before .before .before .before .before .before .before .before .before .before .before .before .close-grid .kept .1 .1 .0) (second-long (c .before .before .before .before .before .before .before .before .before .before .before .before .before .before .before .before .before .before .before .before .before .before))
+
+put-listing-requires : tie.Need-put-listing-requires
+put-listing-requires c κs =
+    let s = c .before .before .before .before .before .before .before .before .before .before .before .before .before .before .before .before .before .before .before .before .before .before .before .before .before in
+    let q = c .before .before .before .before .before .before .before .before .before .list-quads in
+    let r = listed-room _ _ _ _ _ _ (rw (c .before .before .before .before .before .quads .given .1) at (q .ensures)) in
+    let e : length (s .args .list .now) ≡ 32768 = ap length (s .pre .3) ∙ list-long in
+    (omega (arith, r, e, s .pre .4), omega (arith, r, q .kept .1 .1 .1 .0))
+
+number-requires : tie.Need-number-requires
+number-requires c κs = search needs
+
+enum-known-why : tie.Need-enum-known-why
+enum-known-why c = search needs
+
+put-refusal-requires : tie.Need-put-refusal-requires
+put-refusal-requires c κs = search needs
+
+same-length : tie.Need-same-length
+same-length c = search needs
+
+same-length-2 : tie.Need-same-length-2
+same-length-2 c = search needs
+
+same-length-3 : tie.Need-same-length-3
+same-length-3 c = search needs
+
+same-length-4 : tie.Need-same-length-4
+same-length-4 c = search needs
+
+returns : tie.Need-returns
+returns c =
+    let s = c .before .before .before .before .before .before .before .before .before .before .before .before .before .before .before .before .before .before .before .before .before .before .before .before .before .before .before .before in
+    let k = c .before .before .before .before .before .before .before .before .before .before .before .before .before .before .before .before .before .before .before .before .before .close-grid in
+    let p = c .before .before .put-listing .ensures in
+    let e = rw (c .before .before .before .before .before .before .before .before .quads .given .1, c .before .before .before .before .before .before .before .before .before .before .before .before .before .before .before .before .cells .ensures, s .pre .3) at (c .before .before .before .before .before .before .before .before .before .before .before .before .list-quads .ensures) in
+    let i = listing-is (s .args .l) _ (rw (s .pre .2) at (k .ensures)) (s .args .triangles) (rw (k .kept .1 .1 .0) (second-long s)) _ _ _ e (c .before .before .before .before .before .count-inside .ensures) in
+    (rw (s .pre .0, ← i) (rw (s .pre .0) at (p .0)), p .1)
+
+same-length-5 : tie.Need-same-length-5
+same-length-5 c = search needs
+
+same-length-6 : tie.Need-same-length-6
+same-length-6 c = search needs
+
+same-length-7 : tie.Need-same-length-7
+same-length-7 c = search needs
+
+same-length-8 : tie.Need-same-length-8
+same-length-8 c = search needs
+
+returns-2 : tie.Need-returns-2
+returns-2 c =
+    let s = c .before .before .before .before .before .before .before .before .before .before .before .before .before .before .before .before .before .before .before .before .before .before .before .before .before .before in
+    let k = c .before .before .before .before .before .before .before .before .before .before .before .before .before .before .before .before .before .before .before .close-grid in
+    let p = c .before .before .put-refusal .ensures in
+    let e = rw (c .before .before .before .before .before .before .why .given .1, c .before .before .before .before .before .before .before .before .before .before .before .before .before .before .cells .ensures, s .pre .3) at (c .before .before .before .before .before .before .before .before .before .before .list-quads .ensures) in
+    let i = refused-is (s .args .l) _ (rw (s .pre .2) at (k .ensures)) (s .args .triangles) (rw (k .kept .1 .1 .0) (second-long s)) _ (c .before .before .before .before .before .before .why .given .0 .0) e in
+    (rw (s .pre .0, ← i, ← c .before .before .before .number .ensures) (p .0), p .1)
+
+pub report-spec : {M : Type 1} → statement M
+report-spec =
+    tie.close
+    (tie.spec
+    close-grid-requires
+    cells-requires
+    list-quads-requires
+    enum-known-quads
+    count-inside-requires
+    put-listing-requires
+    enum-known-why
+    number-requires
+    put-refusal-requires
+    same-length
+    same-length-2
+    same-length-3
+    same-length-4
+    returns
+    same-length-5
+    same-length-6
+    same-length-7
+    same-length-8
+    returns-2)

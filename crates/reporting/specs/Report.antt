@@ -1,0 +1,57 @@
+-- Patch, sign and surface, one after the other once all triangles are marked, and what is printed of them. Assumes nothing.
+use mathlib.Core.List.{List}
+use Prim.Native.Nat.{ℕ, zero, suc}
+use lib.ListN.{replicate}
+use Rattle.rules.specs.Lists.{count}
+use Rattle.rules.specs.Lattice.{points}
+use Rattle.lattice.specs.Levels.{cellsOf}
+use Rattle.refusals.specs.Columns.{levelAt}
+use Rattle.patching.specs.Call.{Outcome as Patching, patchCall}
+use Rattle.signing.specs.Call.{Outcome as Signing, signCall}
+use Rattle.rules.specs.Signs.{inside}
+use Rattle.surfacing.specs.Call.{Outcome as Surfacing, surfaceCall}
+use Rattle.text.specs.declared.listing.Repaired.{Repaired}
+use Rattle.text.specs.Listing.{refusedLine, listing}
+use Rattle.picture.specs.Picture.{picture}
+
+-- what is lent: bytes for the points of any level, and a list of 32,768 numbers
+unfoldable pub lentBytes : List ℕ
+lentBytes = replicate 35937 0
+
+unfoldable pub lentList : List ℕ
+lentList = replicate 32768 0
+
+-- `refused N` alone for a call that is refused; else what comes next
+abbrev pub unless : ℕ → List ℕ → List ℕ
+unless zero next = next
+unless (suc k) next = refusedLine (suc k)
+
+-- patch, then sign, and then what comes next: the bytes that are lent to patch as work bytes are lent to sign for the signs
+unfoldable pub closed : ℕ → List ℕ → (Patching → Signing → List ℕ) → List ℕ
+closed level g next =
+    let p = patchCall level g lentBytes in
+    let b = signCall level (p .grid) (p .work) in
+    unless (p .number) (unless (b .number) (next p b))
+
+-- level and triangle count; rims, flips, inside points, quads
+abbrev pub countsOf : ℕ → ℕ → Patching → Signing → Surfacing → Repaired
+countsOf level t p b q =
+    let n = cellsOf (levelAt level) in
+    record {
+      level = level;
+      triangles = t;
+      rims = p .rims;
+      flips = p .flips;
+      inside = count (inside n (b .signs)) (points (suc n));
+      quads = q .quads;
+    }
+
+-- surface, and the listing
+unfoldable pub surfaced : ℕ → ℕ → Patching → Signing → List ℕ
+surfaced level t p b =
+    let q = surfaceCall level (p .grid) (b .signs) lentList in
+    unless (q .number) (listing (countsOf level t p b q) (q .list))
+
+-- the layers of points
+unfoldable pub layered : ℕ → Patching → Signing → List ℕ
+layered level p b = let n = cellsOf (levelAt level) in picture n (inside n (b .signs))

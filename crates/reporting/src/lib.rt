@@ -1,0 +1,71 @@
+// What is done with the marks once all triangles are in: patch and sign, then surface and the listing, or the layers of points.
+use lattice::level::Level;
+use patching::Counts;
+use patching::patch_grid;
+use picture::count_inside;
+use picture::put_picture;
+use signing::sign_grid;
+use surfacing::SurfaceAnswer;
+use surfacing::list_quads;
+use text::listing::Repaired;
+use text::listing::put_listing;
+use text::listing::put_refusal;
+ghost use mathlib.Core.Path.{_≡_};
+ghost use Prim.Native.Nat.{_≤_};
+ghost use lib.ListN.{length};
+ghost use Rattle.lattice.specs.Levels.{numberOf, pointsOf};
+ghost use Rattle.text.specs.Text.{Put};
+ghost use Rattle.feeding.specs.Feed.{Ready};
+ghost use Rattle.reporting.specs.Report.{lentBytes, lentList, closed, surfaced, layered};
+ghost use Rattle.reporting.specs.Close.{Closed};
+
+// Patches a grid and gives its points their signs. The second buffer serves as work bytes first, and holds the signs then.
+fn close_grid(l: Level, grid: &mut [u8], second: &mut [u8]) -> Counts
+    requires { ⌜ Ready l (now grid) × (pointsOf l ≤ length (now second)) ⌝ }
+    ensures { λ r. ⌜ Closed l (now (grid .entry)) (now (second .entry)) (r .rims) (r .flips) (now (grid .exit)) (now (second .exit)) ⌝ }
+{
+    let n = l.cells();
+    let counts = patch_grid(n, grid, second);
+    sign_grid(n, grid, second);
+    counts
+}
+
+// Closes a grid and lists its quads; puts the listing, or the refusal of a surface that the list has no room for, and answers
+// its length.
+pub fn report(
+    level: u32,
+    l: Level,
+    triangles: u32,
+    grid: &mut [u8],
+    second: &mut [u8],
+    list: &mut [u16],
+    out: &mut [u8],
+) -> usize
+    requires { ⌜ (level ≡ numberOf l) × Ready l (now grid) × (now second ≡ lentBytes) × (now list ≡ lentList) × (213098 ≤ length (now out)) ⌝ }
+    ensures { λ r. ⌜ Put (now (out .entry)) 0 (closed level (now (grid .entry)) (surfaced level triangles)) (now (out .exit)) r × (r ≤ length (now (out .exit))) ⌝ }
+{
+    let counts = close_grid(l, grid, second);
+    match list_quads(l.cells(), grid, second, list) {
+        SurfaceAnswer::Done { quads } => {
+            let done = Repaired {
+                level: level,
+                triangles: triangles,
+                rims: counts.rims,
+                flips: counts.flips,
+                inside: count_inside(l, second),
+                quads: quads,
+            };
+            put_listing(out, done, list)
+        }
+        SurfaceAnswer::Refused(why) => put_refusal(out, why.number()),
+    }
+}
+
+// Closes a grid and puts the picture of its layers; answers its length.
+pub fn show(l: Level, grid: &mut [u8], second: &mut [u8], out: &mut [u8]) -> usize
+    requires { ⌜ Ready l (now grid) × (now second ≡ lentBytes) × (107811 ≤ length (now out)) ⌝ }
+    ensures { λ r. ⌜ Put (now (out .entry)) 0 (closed (numberOf l) (now (grid .entry)) (layered (numberOf l))) (now (out .exit)) r × (r ≤ length (now (out .exit))) ⌝ }
+{
+    close_grid(l, grid, second);
+    put_picture(out, l.cells(), second)
+}

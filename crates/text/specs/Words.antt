@@ -1,0 +1,24 @@
+-- Numbers in the bytes of a stream: nine little-endian i32 a triangle. Assumes nothing.
+use mathlib.Core.Bool.{cond}
+use mathlib.Core.List.{List, map}
+use Prim.Native.Nat.{ℕ, _+_, _-_, _*_, _/_}
+use lib.Dec.{ltb}
+use lib.IntN.{ℤ, pos, negsuc}
+use lib.ListN.{length, take, getD}
+use Rattle.rules.specs.Lists.{upto}
+
+-- four bytes as one number, the lowest first
+abbrev pub wordAt : List ℕ → ℕ → ℕ
+wordAt s at = getD s at 0 + 256 * getD s (at + 1) 0 + 65536 * getD s (at + 2) 0 + 16777216 * getD s (at + 3) 0
+
+-- 32 bits as an i32, in two's complement
+unfoldable pub signedOf : ℕ → ℤ
+signedOf u = cond (ltb u 2147483648) (pos u) (negsuc (4294967295 - u))
+
+-- the k-th little-endian i32 of a record
+abbrev pub numberAt : List ℕ → ℕ → ℤ
+numberAt s k = signedOf (wordAt s (4 * k))
+
+-- a triangle's numbers: the whole ones among the next 36 bytes, which are nine unless the stream ends before
+unfoldable pub numbers : List ℕ → List ℤ
+numbers s = map (numberAt s) (upto 0 (length (take 36 s) / 4))
