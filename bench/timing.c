@@ -7,10 +7,12 @@
 #include <time.h>
 
 #include "../tests/calls.h"
+#include "../tests/random.h"
 #include "../tests/reference.h"
 #include "hostile.h"
 
 enum { LIST_ROOM = 4 * 3 * 31 * 31 * 32, MOST_TIMED = 1000, LEAST_ROUNDS = 5, MOST_ROUNDS = 400 };
+enum { STL_TRIANGLES = 20000, STL_BYTES = 84 + 50 * STL_TRIANGLES };
 
 static const double seconds_a_row = 0.4;
 
@@ -22,6 +24,11 @@ static uint16_t list[LIST_ROOM];
 static int32_t triangles[MOST_TIMED][9];
 static int triangle_count;
 static uint32_t counts[2];
+static uint8_t file[STL_BYTES];
+static int32_t numbers[9 * STL_TRIANGLES];
+
+/* Microseconds a call of either side, of the row that was printed last. */
+static double took_us[2];
 
 typedef void job(const struct calls *calls);
 
@@ -72,8 +79,13 @@ static void run_surface(const struct calls *calls)
     hold(calls->surface(level, grid, sizeof grid, other, sizeof other, list, LIST_ROOM, &counts[0]));
 }
 
-/* Prints one row: microseconds a call of either side, and the ratio. Answers the library's. */
-static double row(const char *name, const char *input, job *run, int calls_a_run)
+static void run_read(const struct calls *calls)
+{
+    hold(calls->read_stl(file, sizeof file, 0, numbers, 9 * STL_TRIANGLES, &counts[0], &counts[1]));
+}
+
+/* Prints one row: the level, where the call has one, microseconds a call of either side, and the ratio. */
+static void row(const char *name, const char *input, job *run, int calls_a_run)
 {
     struct calls sides[2] = {the_library, the_reference};
     double best[2] = {1e9, 1e9}, end = now() + seconds_a_row;
@@ -91,19 +103,22 @@ static double row(const char *name, const char *input, job *run, int calls_a_run
             if (took * runs < 1e-4 && run != run_patch) /* too short for the clock; patch has to begin anew each time */
                 runs *= 4;
         }
-    double library = 1e6 * best[0] / calls_a_run, reference = 1e6 * best[1] / calls_a_run;
-    printf("%-8s %-34s %5u %12.2f %12.2f %7.2f", name, input, level, library, reference, library / reference);
-    return library;
+    for (int side = 0; side < 2; side++)
+        took_us[side] = 1e6 * best[side] / calls_a_run;
+    char at[12] = "";
+    if (level)
+        snprintf(at, sizeof at, "%u", level);
+    printf("%-8s %-34s %5s %12.2f %12.2f %7.2f", name, input, at, took_us[0], took_us[1], took_us[0] / took_us[1]);
 }
 
 /* Open, then what patch, sign and surface do with the grid in `came`. */
 static void time_grid(const char *input)
 {
     uint64_t cells = reference_rim_cells(level, came);
-    double patch = row("patch", input, run_patch, 1);
+    row("patch", input, run_patch, 1);
     printf("   %u rims, %u flips", counts[0], counts[1]);
     if (cells)
-        printf(", %" PRIu64 " cells in their boxes, %.4f us a cell", cells, patch / (double)cells);
+        printf(", %" PRIu64 " cells in their boxes, %.4f us a cell", cells, took_us[0] / (double)cells);
     printf("\n");
     memcpy(came, grid, sizeof came);
     row("sign", input, run_sign, 1);
@@ -163,6 +178,49 @@ static void time_triangle(const char *input, const int32_t corners[9])
     time_mark(input);
 }
 
+/* A file whose coordinates a function of the number of each gives, as bits of a float. */
+static void time_read(const char *input, uint32_t (*bits)(uint32_t number))
+{
+    level = 0;
+    memset(file, 0, sizeof file);
+    for (uint32_t t = 0; t < STL_TRIANGLES; t++)
+        for (uint32_t c = 0; c < 9; c++)
+            for (int b = 0; b < 4; b++)
+                file[96 + 50 * t + 4 * c + (uint32_t)b] = (uint8_t)(bits(9 * t + c) >> 8 * b);
+    for (int b = 0; b < 4; b++)
+        file[80 + b] = (uint8_t)(STL_TRIANGLES >> 8 * b);
+    row("read_stl", input, run_read, 1);
+    printf("   %u triangles, %.0f MB/s, reference %.0f MB/s\n", counts[0], sizeof file / took_us[0], sizeof file / took_us[1]);
+}
+
+static uint32_t bits_of(float number)
+{
+    uint32_t bits;
+    memcpy(&bits, &number, sizeof bits);
+    return bits;
+}
+
+static uint32_t above_zero(uint32_t number)
+{
+    return bits_of(100 + (float)(number % 9973) / 16);
+}
+
+static uint32_t scattered(uint32_t number)
+{
+    struct random r = {number};
+    return (uint32_t)next(&r);
+}
+
+static uint32_t of_both_signs(uint32_t number)
+{
+    return bits_of((float)(scattered(number) % 2000001) / 1000 - 1000);
+}
+
+static uint32_t of_every_size(uint32_t number) /* up to 2^30 */
+{
+    return (scattered(number) & 0x80000000u) | scattered(number) % 0x4e800000u;
+}
+
 int main(int argc, char **argv)
 {
     static const int32_t whole[9] = {32768, 32768, 32768, 1015808, 1015808, 40000, 50000, 1015808, 1015808};
@@ -180,6 +238,9 @@ int main(int argc, char **argv)
     time_triangle("a triangle on a grid plane", plane);
     time_triangle("a needle from corner to corner", needle);
     time_triangle("a point on a grid point", point);
+    time_read("coordinates above zero", above_zero);
+    time_read("coordinates of both signs", of_both_signs);
+    time_read("coordinates of every size", of_every_size);
     for (int a = 1; a < argc; a++)
         time_stream(argv[a]);
     for (int h = 0; h < hostile_count; h++)

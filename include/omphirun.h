@@ -1,4 +1,4 @@
-/* The repair stage for a slicer: five calls on memory that the caller lends.
+/* The repair stage for a slicer: five calls, and one that reads binary STL, on memory that the caller lends.
 
    Link with libstage.a, which `rt staticlib stage` writes to target/staticlib/ (x86-64). examples/slicer.c shows the calls in
    their order: open, mark for each triangle, patch, sign, surface.
@@ -9,20 +9,26 @@
    stands only on an inner edge, one whose two crosswise coordinates lie in 1..n-1; a byte above 7 or a mark elsewhere makes the
    buffer no grid. Signs are one byte a point, 0 outside and 1 inside.
 
-   Every call returns OMPHIRUN_DONE, 0, or else the lowest number of this table that applies; each number is given exactly when its line
-   says, for any contents of the buffers. The names stand below.
+   Every call returns OMPHIRUN_DONE, 0, or else the lowest number of this table that applies; where a call names its numbers in another
+   order, the first of them. Each number is given exactly when its line says, for any contents of the buffers. The names stand below.
 
-     1  the level is not 2 to 5                                    all calls
-     2  a grid, work or sign buffer is shorter than P              all calls
+     1  the level is not 2 to 5                                    all calls with a level
+     2  a grid, work or sign buffer is shorter than P              all calls with a level
      3  the triangle is not nine numbers, fewer or more            mark
      4  a coordinate lies outside S to 2^20 - S                    mark
-     5  the buffer is no grid                                      all calls but open
+     5  the buffer is no grid                                      all of these but open
      6  some face of a cell has an odd number of marked edges      sign
      7  a sign above 1, point (0,0,0) inside, an edge whose ends
         differ in sign and that has no mark, or one with a mark
         whose ends do not differ                                   surface
      8  the list is shorter than four times the quads              surface
+        the list is shorter than nine times the triangles          read_stl
      9  more than 100,000 triangles                                the program repair alone
+    10  the file's length is not 84 + 50 * count                   read_stl
+    11  nor that, and the file begins with `solid`: the text form  read_stl
+    12  a coordinate is a NaN or infinite                          read_stl
+    13  a coordinate is beyond 2^30 in size                        read_stl
+    14  e is not -20 to 20                                         read_stl
 
    A refusal changes no buffer and sets every count to 0. Grid, work and sign buffers may be longer than P, and the list longer
    than it has to be: what lies behind is neither read nor changed.
@@ -30,7 +36,7 @@
    What the caller owes, and no call can check:
    - each pointer to a buffer is valid for as many elements as its length says, and aligned for them; lengths are in elements. A null
      pointer is fine where the length is 0: that is an empty buffer;
-   - each pointer to a count (rims, flips, quads) is valid: it is written in every case, so it is never null;
+   - each pointer to a count (rims, flips, quads, triangles, axis) is valid: it is written in every case, so it is never null;
    - no buffer or count that a call writes overlaps another one of that call. Two that it only reads may;
    - OMPHIRUN_STACK bytes of stack are left. The calls take no memory but that and what is lent, and keep no state.
    Every other misuse is a refusal. Each promise here is a theorem about the code behind it, under these conditions. That calls with
@@ -48,7 +54,7 @@ extern "C" {
 
 /* The version: the first number rises when a caller has to change, the second when there is something new. It stands here alone. */
 #define OMPHIRUN_MAJOR 1
-#define OMPHIRUN_MINOR 0
+#define OMPHIRUN_MINOR 1
 #define OMPHIRUN_PATCH 0
 
 /* What a call returns. */
@@ -62,7 +68,12 @@ enum omphirun_number {
     OMPHIRUN_ODD_FACE = 6,
     OMPHIRUN_SIGNS_MISFIT = 7,
     OMPHIRUN_SHORT_LIST = 8,
-    OMPHIRUN_MANY_TRIANGLES = 9
+    OMPHIRUN_MANY_TRIANGLES = 9,
+    OMPHIRUN_WRONG_LENGTH = 10,
+    OMPHIRUN_TEXT_FORM = 11,
+    OMPHIRUN_NOT_FINITE = 12,
+    OMPHIRUN_TOO_FAR = 13,
+    OMPHIRUN_BAD_SCALE = 14
 };
 
 /* Cells a side, points and a cell's side at a level from 2 to 5. */
@@ -107,6 +118,15 @@ uint32_t omphirun_sign(uint32_t level, const uint8_t *grid, size_t grid_len, uin
    Refusals: 1, 2, 5, 7, 8, with *quads 0. */
 uint32_t omphirun_surface(uint32_t level, const uint8_t *grid, size_t grid_len, const uint8_t *signs, size_t signs_len,
                           uint16_t *list, size_t list_len, uint32_t *quads);
+
+/* Read a binary STL file: 80 header bytes, a little-endian u32 count, then 50 bytes a triangle (normal, three vertices, all f32, and a
+   u16). Each coordinate times 2^e is rounded to the nearest whole number, halves away from zero; normals and the u16 are not looked at.
+   The triangles go to the front of the list, nine numbers each in file order, and those behind keep their contents; *triangles is their
+   number. Whether a triangle lies in a level's range is for mark to say. One pass over the vertices: at the first faulty one it is 12 when
+   any of its numbers is not finite, with the axis of the first such number in *axis, 0 to 2, and 13 otherwise; 2^30 itself is no fault.
+   Refusals, in this order: 14, 11, 10, 8, then 12 or 13, with *triangles 0; *axis is 0 but with 12. */
+uint32_t omphirun_read_stl(const uint8_t *file, size_t file_len, int32_t e, int32_t *list, size_t list_len, uint32_t *triangles,
+                           uint32_t *axis);
 
 #ifdef __cplusplus
 }

@@ -4,7 +4,8 @@
 #include "../include/omphirun.h"
 #include "reference.h"
 
-const struct calls the_library = {"library", omphirun_open, omphirun_mark, omphirun_patch, omphirun_sign, omphirun_surface};
+const struct calls the_library = {"library",    omphirun_open, omphirun_mark,    omphirun_patch,
+                                  omphirun_sign, omphirun_surface, omphirun_read_stl};
 
-const struct calls the_reference = {"reference",    reference_open, reference_mark,
-                                    reference_patch, reference_sign, reference_surface};
+const struct calls the_reference = {"reference",    reference_open,    reference_mark,    reference_patch,
+                                    reference_sign, reference_surface, reference_read_stl};

@@ -20,7 +20,7 @@ static uint64_t answered[MOST_CALLS][MOST_ANSWERS], at_level[6], many_rims, many
 static void count(const struct input *in, const struct outcome *out)
 {
     answered[place_of(in->call)][out->answer]++;
-    if (out->answer == 0 && known_level(in->level))
+    if (out->answer == 0 && takes(in->call, GRID))
         at_level[in->level]++;
     if (in->call == &call_patch) {
         many_rims += out->counts[0] > 1;

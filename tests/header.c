@@ -48,6 +48,10 @@ int main(void)
     grid[0] = 1;
     hold(omphirun_sign(2, grid, sizeof grid, other, sizeof other), OMPHIRUN_NO_GRID, "sign");
     grid[0] = 0;
+    hold(omphirun_read_stl(NULL, 0, 21, NULL, 0, &one, &two), OMPHIRUN_BAD_SCALE, "read_stl");
+    hold(omphirun_read_stl(NULL, 0, 20, NULL, 0, &one, &two), OMPHIRUN_WRONG_LENGTH, "read_stl");
+    hold(one + two, OMPHIRUN_DONE, "read_stl's counts");
+    hold(omphirun_read_stl(grid, 84, -20, NULL, 0, &one, &two), OMPHIRUN_DONE, "read_stl without triangles");
     grid[2 + 5 * (2 + 5 * 2)] = 1;
     hold(omphirun_sign(2, grid, sizeof grid, other, sizeof other), OMPHIRUN_ODD_FACE, "sign");
     return failures > 0;

@@ -12,9 +12,11 @@ const struct kind kinds[BUFFERS] = {
     [SIGNS] = {"sign", 1, POINT_ROOM, 1},
     [TRIANGLE] = {"triangle", sizeof(int32_t), TRIANGLE_ROOM, 0},
     [LIST] = {"list", sizeof(uint16_t), LIST_ROOM, 0},
+    [STL] = {"file", 1, STL_ROOM, 0},
+    [NUMBERS] = {"number", sizeof(int32_t), NUMBERS_ROOM, 0},
 };
 
-const struct call *const all_calls[] = {&call_open, &call_mark, &call_patch, &call_sign, &call_surface};
+const struct call *const all_calls[] = {&call_open, &call_mark, &call_patch, &call_sign, &call_surface, &call_read_stl};
 const size_t call_count = sizeof all_calls / sizeof *all_calls;
 
 size_t place_of(const struct call *call)

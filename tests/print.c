@@ -61,7 +61,7 @@ static void print_elements(const struct input *in, int b)
 
 void print_input(const struct input *in)
 {
-    printf("  %s, level %u\n", in->call->name, in->level);
+    printf("  %s, level %u, e %d\n", in->call->name, in->level, in->e);
     for (int b = 0; b < BUFFERS; b++)
         if (takes(in->call, b) && in->len[b] == 0 && in->null)
             printf("  %s, null\n", kinds[b].name);

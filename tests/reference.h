@@ -1,4 +1,4 @@
-/* A plain reference of document 01: the five calls as in include/omphirun.h, under names of its own, and the program's output. */
+/* A plain reference of documents 01 and 02: the calls as in include/omphirun.h, under names of its own, and the program's output. */
 #ifndef REFERENCE_H
 #define REFERENCE_H
 
@@ -13,6 +13,10 @@ uint32_t reference_patch(uint32_t level, uint8_t *grid, size_t grid_len, uint8_t
 uint32_t reference_sign(uint32_t level, const uint8_t *grid, size_t grid_len, uint8_t *signs, size_t signs_len);
 uint32_t reference_surface(uint32_t level, const uint8_t *grid, size_t grid_len, const uint8_t *signs, size_t signs_len,
                            uint16_t *list, size_t list_len, uint32_t *quads);
+
+/* Document 02, M-100. */
+uint32_t reference_read_stl(const uint8_t *file, size_t file_len, int32_t e, int32_t *list, size_t list_len, uint32_t *triangles,
+                            uint32_t *axis);
 
 /* Mark once more: it looks only at the edges that reach into the triangle's bounding box. */
 uint32_t reference_mark_near(uint32_t level, uint8_t *grid, size_t grid_len, const int32_t *triangle, size_t triangle_len);

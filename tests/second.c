@@ -4,6 +4,7 @@
 #define reference_patch omphirun_patch
 #define reference_sign omphirun_sign
 #define reference_surface omphirun_surface
+#define reference_read_stl omphirun_read_stl
 #define reference_mark_near second_mark_near
 #define reference_add_marks second_add_marks
 #define reference_rim_cells second_rim_cells
@@ -11,3 +12,4 @@
 #include "reference.c"
 #include "reference_mark.c"
 #include "reference_patch.c"
+#include "reference_stl.c"

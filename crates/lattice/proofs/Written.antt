@@ -10,7 +10,7 @@ use Rattle.rules.specs.Lists.{upto}
 use Rattle.rules.proofs.Lists.{upto-more}
 
 -- what is behind the list keeps its contents
-pub written : (s l : List ℕ) (k : ℕ) → length l ≡ k → k ≤ length s → sets s 0 l ≡ l ++ drop k s
+pub written : {A : Type 0} (s l : List A) (k : ℕ) → length l ≡ k → k ≤ length s → sets s 0 l ≡ l ++ drop k s
 written s l k e h = sets-eq l s 0 (omega arith) ∙ ap (λ (i : ℕ). l ++ drop i s) (zero-add (length l) ∙ e)
 
 -- one member of those from p on is written, and the others are left
@@ -22,6 +22,6 @@ pub write-end : (f : ℕ → ℕ) (s : List ℕ) (p c : ℕ) → c ≤ p → set
 write-end f s p c h = ap (λ (m : ℕ). sets s p (map f (upto p m))) (let e : c - p ≡ 0 = omega arith in e)
 
 -- two lists, one behind the other
-pub sets-append : (s : List ℕ) (i : ℕ) (l m : List ℕ) → sets (sets s i l) (i + length l) m ≡ sets s i (l ++ m)
+pub sets-append : {A : Type 0} (s : List A) (i : ℕ) (l m : List A) → sets (sets s i l) (i + length l) m ≡ sets s i (l ++ m)
 sets-append s i [] m = ap (λ (j : ℕ). sets s j m) (add-zero i)
 sets-append s i (x ∷ l) m = ap (λ (j : ℕ). sets (sets (set s i x) (suc i) l) j m) (let e : i + suc (length l) ≡ suc i + length l = omega arith in e) ∙ sets-append (set s i x) (suc i) l m

@@ -6,3 +6,4 @@ pub mod Again
 pub mod TurnedAway
 pub mod Examples
 pub mod Such
+pub mod Reading

@@ -19,7 +19,7 @@ use Rattle.surfacing.specs.declared.SurfaceAnswer.the-variants as Surface
 use Rattle.surfacing.specs.Call as Surfacing
 
 -- what can be read back from what is told is settled by it
-settled : {A O : Type 0} (tell : A → O) (read : O → A) → ((x : A) → read (tell x) ≡ x) →
+pub settled : {A O : Type 0} (tell : A → O) (read : O → A) → ((x : A) → read (tell x) ≡ x) →
     (o : O) (x y : A) → tell x ≡ o → tell y ≡ o → x ≡ y
 settled tell read back o x y e f = sym (back x) ∙ ap read (e ∙ sym f) ∙ back y
 

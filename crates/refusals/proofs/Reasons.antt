@@ -3,7 +3,7 @@ use mathlib.Core.Path.{_≡_, refl, sym, ap, _∙_}
 use mathlib.Core.Bool.{Bool, true, false, true≢false}
 use Prim.Native.Nat.{ℕ}
 use Rattle.refusals.specs.declared.Refusal.{Refusal}
-use Rattle.refusals.specs.declared.Refusal.the-variants.{BadLevel, ShortBuffer, NotNine, OutOfRange, NoGrid, OddFace, SignsMisfit, ShortList}
+use Rattle.refusals.specs.declared.Refusal.the-variants.{BadLevel, ShortBuffer, NotNine, OutOfRange, NoGrid, OddFace, SignsMisfit, ShortList, WrongLength, TextForm, TooFar, BadScale}
 use Rattle.refusals.specs.Reasons.{numberOf, readNumber}
 
 pub read-back : {A : Type 0} (done : A) (refused : Refusal → A) (r : Refusal) → readNumber (numberOf r) done refused ≡ refused r
@@ -15,6 +15,10 @@ read-back done refused NoGrid = refl
 read-back done refused OddFace = refl
 read-back done refused SignsMisfit = refl
 read-back done refused ShortList = refl
+read-back done refused WrongLength = refl
+read-back done refused TextForm = refl
+read-back done refused TooFar = refl
+read-back done refused BadScale = refl
 
 -- and none has number 0
 pub refusal-some : (r : Refusal) → numberOf r ≡ 0 → ⊥

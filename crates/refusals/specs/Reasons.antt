@@ -6,7 +6,7 @@ use lib.Dec.{eqb}
 use Rattle.refusals.specs.declared.Answer.{Answer}
 use Rattle.refusals.specs.declared.Answer.the-variants.{Done, Refused}
 use Rattle.refusals.specs.declared.Refusal.{Refusal}
-use Rattle.refusals.specs.declared.Refusal.the-variants.{BadLevel, ShortBuffer, NotNine, OutOfRange, NoGrid, OddFace, SignsMisfit, ShortList}
+use Rattle.refusals.specs.declared.Refusal.the-variants.{BadLevel, ShortBuffer, NotNine, OutOfRange, NoGrid, OddFace, SignsMisfit, ShortList, WrongLength, TextForm, TooFar, BadScale}
 
 abbrev pub numberOf : Refusal → ℕ
 numberOf BadLevel = 1
@@ -17,6 +17,10 @@ numberOf NoGrid = 5
 numberOf OddFace = 6
 numberOf SignsMisfit = 7
 numberOf ShortList = 8
+numberOf WrongLength = 10
+numberOf TextForm = 11
+numberOf TooFar = 13
+numberOf BadScale = 14
 
 -- and for each answer of a call without counts
 abbrev pub answerNumber : Answer → ℕ
@@ -25,7 +29,9 @@ answerNumber (Refused r) = numberOf r
 
 -- all of them
 abbrev pub refusals : List Refusal
-refusals = BadLevel ∷ ShortBuffer ∷ NotNine ∷ OutOfRange ∷ NoGrid ∷ OddFace ∷ SignsMisfit ∷ ShortList ∷ []
+refusals =
+    BadLevel ∷ ShortBuffer ∷ NotNine ∷ OutOfRange ∷ NoGrid ∷ OddFace ∷ SignsMisfit ∷ ShortList
+    ∷ WrongLength ∷ TextForm ∷ TooFar ∷ BadScale ∷ []
 
 -- the refusal of a number
 abbrev pub refusalIn : List Refusal → ℕ → Refusal

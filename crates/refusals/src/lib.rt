@@ -12,6 +12,10 @@ pub enum Refusal {
     OddFace,
     SignsMisfit,
     ShortList,
+    WrongLength,
+    TextForm,
+    TooFar,
+    BadScale,
 }
 
 // What a call without counts answers.
@@ -34,6 +38,10 @@ impl Refusal {
             Refusal::OddFace => 6,
             Refusal::SignsMisfit => 7,
             Refusal::ShortList => 8,
+            Refusal::WrongLength => 10,
+            Refusal::TextForm => 11,
+            Refusal::TooFar => 13,
+            Refusal::BadScale => 14,
         }
     }
 }

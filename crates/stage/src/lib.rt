@@ -1,6 +1,7 @@
-// The five calls as C functions, for the slicer to link: an answer is its number, and counts go behind references. Each promise is
+// The calls as C functions, for the slicer to link: an answer is its number, and counts go behind references. Each promise is
 // that of the call it hands on to, read the same way: number, counts and every buffer, for all inputs.
 use patching::PatchAnswer;
+use stl_reading::ReadAnswer;
 use surfacing::SurfaceAnswer;
 ghost use mathlib.Core.Path.{_≡_};
 ghost use Rattle.marking.specs.Outcome.{Outcome as MarkOutcome};
@@ -9,6 +10,7 @@ ghost use Rattle.marking.specs.Mark.{markCall};
 ghost use Rattle.patching.specs.Call.{Outcome as PatchOutcome, patchCall};
 ghost use Rattle.signing.specs.Call.{Outcome as SignOutcome, signCall};
 ghost use Rattle.surfacing.specs.Call.{Outcome as SurfaceOutcome, surfaceCall};
+ghost use Rattle.stl_reading.specs.Call.{Outcome as ReadOutcome, readCall};
 
 // Open (level, grid): the P bytes become 0.
 #[no_mangle]
@@ -75,5 +77,32 @@ pub extern "C" fn omphirun_surface(
             0
         }
         SurfaceAnswer::Refused(why) => why.number(),
+    }
+}
+
+// Read binary STL (file, e, list of i32): the triangles go to the front of the list, each coordinate times 2^e and rounded, and their
+// number is returned; the axis comes with 12.
+#[no_mangle]
+pub extern "C" fn omphirun_read_stl(
+    file: &[u8],
+    e: i32,
+    list: &mut [i32],
+    triangles: &mut u32,
+    axis: &mut u32,
+) -> u32
+    ensures { λ r. ⌜ _≡_ {A = ReadOutcome} (record { number = r; triangles = now (triangles .exit); axis = now (axis .exit); list = now (list .exit) }) (readCall e (now (file .entry)) (now (list .entry))) ⌝ }
+{
+    *triangles = 0;
+    *axis = 0;
+    match stl_reading::read_stl(file, e, list) {
+        ReadAnswer::Done { triangles: n } => {
+            *triangles = n;
+            0
+        }
+        ReadAnswer::NotFinite { axis: a } => {
+            *axis = a;
+            12
+        }
+        ReadAnswer::Refused(why) => why.number(),
     }
 }
