@@ -10,7 +10,8 @@ use lib.ListN.{length, getD, set, take, drop, length-append, List·getD-append}
 use lib.Seq.{length-take-le, take-all, getD-drop, take-suc-set}
 use Rattle.rules.specs.Lists.{All, upto}
 use Rattle.rules.proofs.Lists.{all-below}
-use Rattle.text.specs.Words.{wordAt, signedOf, numberAt, numbers}
+use Rattle.octets.specs.Octets.{wordAt}
+use Rattle.text.specs.Words.{signedOf, numberAt, numbers}
 
 module _ {A : Type 0} (f : ℕ → A) where
   one-more : (i k : ℕ) → map f (upto i (suc k)) ≡ map f (upto i k) ++ (f (i + k) ∷ [])

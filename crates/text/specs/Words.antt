@@ -1,15 +1,12 @@
 -- Numbers in the bytes of a stream: nine little-endian i32 a triangle. Assumes nothing.
 use mathlib.Core.Bool.{cond}
 use mathlib.Core.List.{List, map}
-use Prim.Native.Nat.{ℕ, _+_, _-_, _*_, _/_}
+use Prim.Native.Nat.{ℕ, _-_, _*_, _/_}
 use lib.Dec.{ltb}
 use lib.IntN.{ℤ, pos, negsuc}
-use lib.ListN.{length, take, getD}
+use lib.ListN.{length, take}
 use Rattle.rules.specs.Lists.{upto}
-
--- four bytes as one number, the lowest first
-abbrev pub wordAt : List ℕ → ℕ → ℕ
-wordAt s at = getD s at 0 + 256 * getD s (at + 1) 0 + 65536 * getD s (at + 2) 0 + 16777216 * getD s (at + 3) 0
+use Rattle.octets.specs.Octets.{wordAt}
 
 -- 32 bits as an i32, in two's complement
 unfoldable pub signedOf : ℕ → ℤ

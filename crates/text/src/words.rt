@@ -1,15 +1,10 @@
 // Numbers in the bytes of a stream.
+use octets::word_at;
 ghost use mathlib.Core.Path.{_≡_};
-ghost use Prim.Native.Nat.{_≤_, _<_, _+_};
+ghost use Prim.Native.Nat.{_≤_, _+_};
 ghost use lib.ListN.{length, drop};
-ghost use Rattle.text.specs.Words.{wordAt, signedOf, numbers};
-
-// A byte as a wider number.
-pub fn wide(x: u8) -> u32
-    ensures { λ r. ⌜ (r ≡ x) × (r < 256) ⌝ }
-{
-    x as u32
-}
+ghost use Rattle.octets.specs.Octets.{wordAt};
+ghost use Rattle.text.specs.Words.{signedOf, numbers};
 
 // Reads 32 bits as a number in two's complement.
 fn signed(u: u32) -> i32
@@ -19,14 +14,6 @@ fn signed(u: u32) -> i32
         return u as i32;
     }
     -1 - ((4294967295 - u) as i32)
-}
-
-// Reads the number whose four bytes, the lowest first, begin at a place.
-fn word_at(s: &[u8], at: usize) -> u32
-    requires { ⌜ at + 4 ≤ length (now s) ⌝ }
-    ensures { λ r. ⌜ r ≡ wordAt (now (s .entry)) at ⌝ }
-{
-    wide(s[at]) + 256 * wide(s[at + 1]) + 65536 * wide(s[at + 2]) + 16777216 * wide(s[at + 3])
 }
 
 // Reads the little-endian i32 that begins at a place.
