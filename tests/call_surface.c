@@ -1,6 +1,7 @@
 /* Surface, for the harness: grids with their signs, signs that are wrong in one place or everywhere, lists of about the right length. */
 #include "inputs.h"
 #include "reference.h"
+#include "turning.h"
 
 /* Replaces the sign 1 by a number that is no sign: everywhere, or at one point, or at some. */
 static void tell_inside_otherwise(struct random *r, uint8_t *signs, size_t points)
@@ -73,6 +74,17 @@ static uint32_t run(const struct calls *calls, const struct input *lent, uint64_
     return answer;
 }
 
+/* Every surface that is listed turns one way. */
+static const char *also(const struct input *in)
+{
+    static uint16_t list[LIST_ROOM];
+    uint32_t quads;
+    memcpy(list, in->buffer[LIST], bytes_of(in, LIST));
+    if (the_library.surface(in->level, in->buffer[GRID], in->len[GRID], in->buffer[SIGNS], in->len[SIGNS], list, in->len[LIST], &quads))
+        return NULL;
+    return turns_wrongly(in->level, list, quads);
+}
+
 const struct call call_surface = {.name = "surface", .share = 200, .buffers = 1u << GRID | 1u << SIGNS | 1u << LIST,
                                   .answers = 1u << 0 | 1u << 1 | 1u << 2 | 1u << 5 | 1u << 7 | 1u << 8, .counts = {"quads"},
-                                  .make = make, .run = run};
+                                  .make = make, .run = run, .also = also};

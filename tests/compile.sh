@@ -9,7 +9,7 @@ names() { # PATTERN
 }
 
 reference=$(names 'reference*.c' | grep -v reference_main)
-inputs="inputs triangles grids $(names 'call_*.c')"
+inputs="inputs triangles grids turning $(names 'call_*.c')"
 harness="compare calls sides shrink print examples $inputs $reference"
 
 # A C compiler for x86-64: the machine's own, or Debian's cross compiler, whose programs are linked whole.

@@ -4,6 +4,8 @@
 #include <stdio.h>
 #include <string.h>
 
+#include "turning.h"
+
 enum { POINTS = 125, MOST_QUADS = 125 * 3 };
 
 /* Marks and points are written by their coordinates: x(1,2,2) is x122, point (2,2,2) is 222. */
@@ -78,6 +80,28 @@ static void run_example(const struct calls *calls, const struct example *e)
         hold(!memcmp(list, listing, sizeof listing), e->name, "the six quads");
 }
 
+/* The quad the other way round, its first corner as it was. */
+static void reverse(uint16_t quad[4])
+{
+    uint16_t second = quad[1];
+    quad[1] = quad[3];
+    quad[3] = second;
+}
+
+/* M-113 of the six quads: they turn one way, also where one begins at another corner; reversed on one axis, or with one left out, they do not. */
+static void run_turning(const char *name)
+{
+    uint16_t list[24];
+    memcpy(list, listing, sizeof list);
+    hold(turns_wrongly(2, list, 6) == NULL, name, "the six quads turn one way");
+    memcpy(list, (const uint16_t[4]){25, 26, 22, 21}, 4 * sizeof *list);
+    hold(turns_wrongly(2, list, 6) == NULL, name, "and begun at another corner");
+    reverse(list + 8);
+    reverse(list + 12);
+    hold(turns_wrongly(2, list, 6) != NULL, name, "and not with the quads of the x edges reversed");
+    hold(turns_wrongly(2, listing, 5) != NULL, name, "and not with one left out");
+}
+
 static void run_triangle(const struct calls *calls, const char *name, const int32_t triangle[9], uint32_t answer, const char *marks)
 {
     uint8_t grid[POINTS], expected[POINTS];
@@ -140,5 +164,6 @@ int failed_examples(const struct calls *calls)
         run_example(calls, &examples[e]);
     run_triangles(calls);
     run_refusals(calls);
+    run_turning("M-113");
     return failures;
 }

@@ -5,11 +5,11 @@ use Prim.Native.Nat.{suc, ℕ, _+_, _<_}
 use native.Mathlib.Nat.{zero-add}
 use native.Mathlib.Omega.{arith}
 use lib.Dec.{eqb, ltb}
-use Rattle.rules.specs.Lists.{parity, keep, upto, parityTo, count}
+use Rattle.rules.specs.Lists.{parity, keep, upto, parityTo, count, sumOf}
 use Rattle.rules.specs.Lattice.{samePoint, points, samePlace, placesAt, places, Set, isIn, setOf, Axis, X, Y, Z, Point, Place}
 use Rattle.rules.specs.Grid.{value}
 use Rattle.rules.proofs.Bits.{⊕-false, &&-false, &&-left, ands, leb-yes}
-use Rattle.rules.proofs.Sums.{parity-keep, parity-map, parity-each, parityTo-cong, parity-upto, parityTo-one}
+use Rattle.rules.proofs.Sums.{parity-keep, parity-map, parity-each, parityTo-cong, parity-upto, parityTo-one, sum-each, sum-map, sum-one}
 
 parity-below : (n : ℕ) (f : ℕ → Bool) → parity f (upto 0 n) ≡ parityTo n f
 parity-below n f = parity-upto 0 n f ∙ parityTo-cong n (λ j. f (0 + j)) f (λ j. ap f (zero-add j))
@@ -40,6 +40,39 @@ three-places : (F : Set) (a : Axis) (p q : Point) →
 three-places F X p q = rw (&&-false (F Y q), &&-false (F Z q)) (⊕-false (F X q && samePoint q p))
 three-places F Y p q = rw (&&-false (F X q), &&-false (F Z q)) (⊕-false (F Y q && samePoint q p))
 three-places F Z p q = rw (&&-false (F X q), &&-false (F Y q)) (⊕-false (F Z q && samePoint q p))
+
+-- of a sum over the listed points, the one that counts
+sum-points : (k : ℕ) (f : Point → ℕ) (p : Point) → p .i < k → p .j < k → p .k < k → sumOf (λ q. value (samePoint q p) (f q)) (points k) ≡ f p
+sum-points k f p x y z =
+    sum-each _ _ (upto 0 k)
+    ∙ alike (λ c. sum-each _ _ (upto 0 k)
+    ∙ alike (λ b. sum-map _ (λ a. record { i = a; j = b; k = c }) (upto 0 k)
+    ∙ alike (λ a. value-and (eqb a (p .i)) (eqb b (p .j)) (eqb c (p .k)) (f (record { i = a; j = b; k = c })))
+    ∙ sum-one (λ a. value (eqb b (p .j)) (value (eqb c (p .k)) (f (record { i = a; j = b; k = c })))) (p .i) 0 k (omega arith) (omega arith))
+    ∙ sum-one (λ b. value (eqb c (p .k)) (f (record { i = p .i; j = b; k = c }))) (p .j) 0 k (omega arith) (omega arith))
+    ∙ sum-one (λ c. f (record { i = p .i; j = p .j; k = c })) (p .k) 0 k (omega arith) (omega arith)
+  where
+    alike : {v w : ℕ → ℕ} → ((i : ℕ) → v i ≡ w i) → sumOf v (upto 0 k) ≡ sumOf w (upto 0 k)
+    alike h = ap (λ (u : ℕ → ℕ). sumOf u (upto 0 k)) (fun-ext h)
+
+    value-and : (a b c : Bool) (w : ℕ) → value (a && (b && c)) w ≡ value a (value b (value c w))
+    value-and true true c w = refl
+    value-and true false c w = refl
+    value-and false b c w = refl
+
+-- and over the listed places
+pub sum-places : (k : ℕ) (f : Place → ℕ) (e : Place) → e .at .i < k → e .at .j < k → e .at .k < k →
+    sumOf (λ g. value (samePlace g e) (f g)) (places k) ≡ f e
+sum-places k f e x y z =
+    sum-each _ placesAt (points k)
+    ∙ ap (λ (w : Point → ℕ). sumOf w (points k)) (fun-ext (λ q. at (e .axis) q))
+    ∙ sum-points k (λ q. f (record { axis = e .axis; at = q })) (e .at) x y z
+  where
+    at : (a : Axis) (q : Point) → sumOf (λ g. value (samePlace g (record { axis = a; at = e .at })) (f g)) (placesAt q)
+        ≡ value (samePoint q (e .at)) (f (record { axis = a; at = q }))
+    at X q = omega arith
+    at Y q = omega arith
+    at Z q = omega arith
 
 -- how many of the three pass
 pub count-places : (t : Place → Bool) (p : Point) →

@@ -1,7 +1,7 @@
 -- What holds of each member of a list, what is said of a mapped list, and tests of a range of numbers. Assumes nothing.
 use mathlib.Core.Bool.{Bool, cond, false, false≢true, not, true, _&&_, _||_}
 use mathlib.Core.List.{List, [], map, _++_, _∷_, append-assoc}
-use mathlib.Core.Logic.{_↔_}
+use mathlib.Core.Logic.{_↔_, _⊎_, inl, inr}
 use mathlib.Core.Path.{ap, ap₂, refl, subst, sym, _∙_, _≡_}
 use Prim.Native.Nat.{suc, zero, ℕ, _+_, _-_, _<_, _≤_}
 use native.Mathlib.Decide.{ℕ-discrete}
@@ -95,6 +95,28 @@ module _ {A : Type 0} where
       go : (c : Bool) → w x ≡ c → c && allOf w l ≡ false → (allOf w l ≡ false → (y : A) × P y × (w y ≡ false)) → (y : A) × P y × (w y ≡ false)
       go true f g k = k g
       go false f g k = (x, h .0, f)
+
+  -- none passes, or one does
+  pub some-passes : (w : A → Bool) (P : A → Type 0) (l : List A) → All P l → (count w l ≡ 0) ⊎ ((x : A) × P x × (w x ≡ true))
+  some-passes w P [] h = inl refl
+  some-passes w P (x ∷ l) h = go (w x) refl (some-passes w P l (h .1))
+    where
+      go : (c : Bool) → w x ≡ c → (count w l ≡ 0) ⊎ ((y : A) × P y × (w y ≡ true)) → (cond c (suc (count w l)) (count w l) ≡ 0) ⊎ ((y : A) × P y × (w y ≡ true))
+      go true e r = inr (x, h .0, e)
+      go false e r = r
+
+  -- a member that passes is counted
+  pub counted : (l : List A) → All (λ x. (w : A → Bool) → w x ≡ true → 1 ≤ count w l) l
+  counted [] = tt
+  counted (x ∷ l) = (λ w e. first w (w x) e, all-weaken _ _ (λ y h w e. more w (w x) (h w e)) l (counted l))
+    where
+      first : (w : A → Bool) (c : Bool) → c ≡ true → 1 ≤ cond c (suc (count w l)) (count w l)
+      first w true e = omega arith
+      first w false e = absurd (false≢true e)
+
+      more : (w : A → Bool) (c : Bool) → 1 ≤ count w l → 1 ≤ cond c (suc (count w l)) (count w l)
+      more w true e = omega arith
+      more w false e = e
 
   pub count-none : (w : A → Bool) → ((x : A) → w x ≡ false) → (l : List A) → count w l ≡ 0
   count-none w h [] = refl

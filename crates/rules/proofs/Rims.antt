@@ -34,7 +34,7 @@ or-xor true true h = absurd (h refl refl)
 or-xor true false h = refl
 or-xor false y h = refl
 
-no-loop : (a : Axis) (p : Point) → p ≡ up a p → ⊥
+pub no-loop : (a : Axis) (p : Point) → p ≡ up a p → ⊥
 no-loop X p e = let h : p .i ≡ suc (p .i) = ap (coord X) e in omega arith
 no-loop Y p e = let h : p .j ≡ suc (p .j) = ap (coord Y) e in omega arith
 no-loop Z p e = let h : p .k ≡ suc (p .k) = ap (coord Z) e in omega arith

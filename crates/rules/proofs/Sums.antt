@@ -8,6 +8,7 @@ use native.Mathlib.Nat.{add-suc, add-zero, suc-add}
 use native.Mathlib.Omega.{arith}
 use lib.Dec.{eqb, leb, ltb}
 use Rattle.rules.specs.Lists.{_⊕_, parity, count, keep, each, upto, parityTo, sumOf}
+use Rattle.rules.specs.Grid.{value}
 use Rattle.rules.proofs.Bits.{⊕-false, ⊕-self, ⊕-assoc, xors, leb-yes, leb-no, eqb-yes, eqb-no}
 
 -- ---- over lists
@@ -54,6 +55,31 @@ module _ {A : Type 0} where
       go true e = omega arith
       go false e = e
 
+  pub count-sum : (w : A → Bool) (l : List A) → count w l ≡ sumOf (λ x. value (w x) 1) l
+  count-sum w [] = refl
+  count-sum w (x ∷ l) = go (w x) (count-sum w l)
+    where
+      go : (c : Bool) → count w l ≡ sumOf (λ y. value (w y) 1) l → cond c (suc (count w l)) (count w l) ≡ value c 1 + sumOf (λ y. value (w y) 1) l
+      go true e = omega arith
+      go false e = omega arith
+
+  pub sum-append : (f : A → ℕ) (l m : List A) → sumOf f (l ++ m) ≡ sumOf f l + sumOf f m
+  sum-append f [] m = omega arith
+  sum-append f (x ∷ l) m = let e = sum-append f l m in omega arith
+
+  pub sum-plus : (f g : A → ℕ) (l : List A) → sumOf (λ x. f x + g x) l ≡ sumOf f l + sumOf g l
+  sum-plus f g [] = refl
+  sum-plus f g (x ∷ l) = let e = sum-plus f g l in omega arith
+
+  pub sum-keep : (f : A → ℕ) (w : A → Bool) (l : List A) → sumOf f (keep w l) ≡ sumOf (λ x. value (w x) (f x)) l
+  sum-keep f w [] = refl
+  sum-keep f w (x ∷ l) = go (w x) (sum-keep f w l)
+    where
+      go : (c : Bool) → sumOf f (keep w l) ≡ sumOf (λ y. value (w y) (f y)) l →
+          sumOf f (cond c (x ∷ keep w l) (keep w l)) ≡ value c (f x) + sumOf (λ y. value (w y) (f y)) l
+      go true e = omega arith
+      go false e = omega arith
+
 module _ {A B : Type 0} where
   pub parity-map : (f : B → Bool) (g : A → B) (l : List A) → parity f (map g l) ≡ parity (λ x. f (g x)) l
   parity-map f g [] = refl
@@ -72,10 +98,28 @@ module _ {A B : Type 0} where
   count-each w g [] = refl
   count-each w g (x ∷ l) = count-append w (g x) (each g l) ∙ ap (λ (k : ℕ). count w (g x) + k) (count-each w g l)
 
+  pub sum-each : (f : B → ℕ) (g : A → List B) (l : List A) → sumOf f (each g l) ≡ sumOf (λ x. sumOf f (g x)) l
+  sum-each f g [] = refl
+  sum-each f g (x ∷ l) = sum-append f (g x) (each g l) ∙ ap (λ (k : ℕ). sumOf f (g x) + k) (sum-each f g l)
+
 -- the last number apart
 pub sum-last : (f : ℕ → ℕ) (i k : ℕ) → sumOf f (upto i (suc k)) ≡ sumOf f (upto i k) + f (i + k)
 sum-last f i zero = let e : f (i + 0) ≡ f i = ap f (omega arith) in omega arith
 sum-last f i (suc k) = let e : f (suc i + k) ≡ f (i + suc k) = ap f (omega arith) in let h = sum-last f (suc i) k in omega arith
+
+-- a sum in which only one number counts
+sum-none : (f : ℕ → ℕ) (c i k : ℕ) → c < i → sumOf (λ x. value (eqb x c) (f x)) (upto i k) ≡ 0
+sum-none f c i zero h = refl
+sum-none f c i (suc k) h = rw (eqb-no i c (λ q. omega arith)) (let e = sum-none f c (suc i) k (omega arith) in omega arith)
+
+pub sum-one : (f : ℕ → ℕ) (c i k : ℕ) → i ≤ c → c < i + k → sumOf (λ x. value (eqb x c) (f x)) (upto i k) ≡ f c
+sum-one f c i zero a b = absurd (omega arith)
+sum-one f c i (suc k) a b = go (ℕ-discrete i c) (sum-one f c (suc i) k)
+  where
+    go : Dec (i ≡ c) → (suc i ≤ c → c < suc i + k → sumOf (λ x. value (eqb x c) (f x)) (upto (suc i) k) ≡ f c) →
+        value (eqb i c) (f i) + sumOf (λ x. value (eqb x c) (f x)) (upto (suc i) k) ≡ f c
+    go (yes e) r = rw (eqb-yes i c e) (let g = ap f e in let m = sum-none f c (suc i) k (omega arith) in omega arith)
+    go (no q) r = rw (eqb-no i c q) (let e = r (omega arith) (omega arith) in omega arith)
 
 -- ---- parities over ranges
 pub parityTo-plus : (k : ℕ) (f g : ℕ → Bool) → parityTo k (λ i. f i ⊕ g i) ≡ parityTo k f ⊕ parityTo k g

@@ -49,6 +49,11 @@ down-other X p = refl
 down-other Y p = refl
 down-other Z p = refl
 
+pub down-last : (b : Axis) (p : Point) → coord (next b) (down b p) ≡ coord (next b) p
+down-last X p = refl
+down-last Y p = refl
+down-last Z p = refl
+
 -- the numbers of the cells around the edge along a at p
 pub record Around (n : ℕ) (a : Axis) (p : Point) (along across third : ℕ) : Type 0 where
   pub across-fits : across ≤ third

@@ -20,16 +20,19 @@ use Rattle.signing.specs.SignBytes.{Signed}
 use Rattle.surfacing.specs.Fit.{signBytesFit}
 use Rattle.surfacing.specs.Listing.{quadCount}
 use Rattle.surfacing.specs.Call.{Outcome, refused, surfaceDone, surfaceRows, surfaceCall}
+use Rattle.surfacing.specs.Sides.{OneWay}
 use Rattle.surfacing.proofs.Quads.{quads-length}
 use Rattle.surfacing.proofs.Exist.{quads-exist}
 use Rattle.surfacing.proofs.Misfit.{fit-signed}
+use Rattle.surfacing.proofs.OneWay.{done-one-way}
 
 -- at n cells a side: the signs sign the grid's marks; the quads are as many as the marked edges; the list begins with their cells, all
--- of which exist, and is behind them as it was
+-- of which exist, turns one way, and is behind them as it was
 pub record Listed (n : ℕ) (g s l : List ℕ) (o : Outcome) : Type 0 where
   pub signed : Signed n (marks n g) s
   pub counted : o .quads ≡ count (isIn (marks n g)) (places (suc n))
   pub written : take (4 * o .quads) (o .list) ≡ quads n (marks n g) (inside n s)
+  pub turning : OneWay n (take (4 * o .quads) (o .list))
   pub exist : All (λ k. k < n * n * n) (take (4 * o .quads) (o .list))
   pub behind : drop (4 * o .quads) (o .list) ≡ drop (4 * o .quads) l
 
@@ -45,6 +48,7 @@ done-listed n g s l fit =
       signed = fit-signed n E s fit;
       counted = refl;
       written = w;
+      turning = done-one-way n g (inside n s) l (fit-signed n E s fit .consistent);
       exist = subst (All (λ c. c < n * n * n)) (sym w) (quads-exist n g (inside n s));
       behind = drop-at (quads n E (inside n s)) (drop (4 * k) l) (4 * k) m;
     }

@@ -6,4 +6,9 @@ pub mod Quads
 pub mod Turn
 pub mod Exist
 pub mod Misfit
+pub mod Fours
+pub mod Crossed
+pub mod Round
+pub mod OneWay
+pub mod Starts
 pub mod Done

@@ -14,7 +14,7 @@ use Rattle.rules.specs.Grid.{marks}
 use Rattle.rules.specs.Quads.{next, quadCells}
 use Rattle.rules.proofs.Numbers.{marks-inner}
 use Rattle.surfacing.specs.Turn.{sumAround, forward, backward, counterclockwise}
-use Rattle.surfacing.proofs.Around.{Inside, inner→, down-other}
+use Rattle.surfacing.proofs.Around.{Inside, inner→, down-other, down-last}
 use Rattle.lattice.proofs.PointSteps.{pred-pos}
 
 -- the coordinates of the cells below, on the two axes across the edge
@@ -22,11 +22,6 @@ down-own : (b : Axis) (p : Point) → coord b (down b p) ≡ pred (coord b p)
 down-own X p = refl
 down-own Y p = refl
 down-own Z p = refl
-
-down-last : (b : Axis) (p : Point) → coord (next b) (down b p) ≡ coord (next b) p
-down-last X p = refl
-down-last Y p = refl
-down-last Z p = refl
 
 -- a square of side 2 at (2u + 1, 2v + 1): its sum forward is its sum backward and twice its area
 numbers : (u v : ℕ) →
