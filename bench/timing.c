@@ -60,8 +60,9 @@ static void run_open(const struct calls *calls)
 
 static void run_mark(const struct calls *calls)
 {
+    uint32_t place, axis;
     for (int t = 0; t < triangle_count; t++)
-        hold(calls->mark(level, grid, sizeof grid, triangles[t], 9));
+        hold(calls->mark(level, grid, sizeof grid, triangles[t], 9, &place, &axis));
 }
 
 static void run_patch(const struct calls *calls)

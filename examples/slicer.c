@@ -40,12 +40,18 @@ int main(int words, char **word)
     /* The triangles go into the grid one by one; none has to be kept. */
     uint8_t record[36];
     size_t got;
+    unsigned triangles = 0;
     done("open", omphirun_open((uint32_t)level, grid, sizeof grid));
     while ((got = fread(record, 1, sizeof record, model)) > 0) {
         int32_t triangle[9];
         for (size_t c = 0; c < got / 4; c++)
             triangle[c] = number_of(record + 4 * c);
-        done("mark", omphirun_mark((uint32_t)level, grid, sizeof grid, triangle, got / 4));
+        uint32_t place, axis, number = omphirun_mark((uint32_t)level, grid, sizeof grid, triangle, got / 4, &place, &axis);
+        triangles++;
+        if (number == OMPHIRUN_BELOW_RANGE || number == OMPHIRUN_ABOVE_RANGE)
+            printf("triangle %u: %c of corner %c is %d, %s the range\n", triangles, "xyz"[axis], "ABC"[place / 3], (int)triangle[place],
+                   number == OMPHIRUN_BELOW_RANGE ? "below" : "above");
+        done("mark", number);
     }
     fclose(model);
 

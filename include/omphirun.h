@@ -15,7 +15,10 @@
      1  the level is not 2 to 5                                    all calls with a level
      2  a grid, work or sign buffer is shorter than P              all calls with a level
      3  the triangle is not nine numbers, fewer or more            mark
-     4  a coordinate lies outside S to 2^20 - S                    mark
+     4  a coordinate lies outside S to 2^20 - S, and the first
+        that does lies below it                                    mark
+    24  a coordinate lies outside S to 2^20 - S, and the first
+        that does lies above it                                    mark
      5  the buffer is no grid                                      all of these but open
      6  some face of a cell has an odd number of marked edges      sign
      7  a sign above 1, point (0,0,0) inside, an edge whose ends
@@ -36,7 +39,7 @@
    What the caller owes, and no call can check:
    - each pointer to a buffer is valid for as many elements as its length says, and aligned for them; lengths are in elements. A null
      pointer is fine where the length is 0: that is an empty buffer;
-   - each pointer to a count (rims, flips, quads, triangles, axis) is valid: it is written in every case, so it is never null;
+   - each pointer to a count (place, axis, rims, flips, quads, triangles) is valid: it is written in every case, so it is never null;
    - no buffer or count that a call writes overlaps another one of that call. Two that it only reads may;
    - OMPHIRUN_STACK bytes of stack are left. The calls take no memory but that and what is lent, and keep no state.
    Every other misuse is a refusal. Each promise here is a theorem about the code behind it, under these conditions. That calls with
@@ -53,8 +56,8 @@ extern "C" {
 #endif
 
 /* The version: the first number rises when a caller has to change, the second when there is something new. It stands here alone. */
-#define OMPHIRUN_MAJOR 1
-#define OMPHIRUN_MINOR 1
+#define OMPHIRUN_MAJOR 2
+#define OMPHIRUN_MINOR 0
 #define OMPHIRUN_PATCH 0
 
 /* What a call returns. */
@@ -63,7 +66,7 @@ enum omphirun_number {
     OMPHIRUN_BAD_LEVEL = 1,
     OMPHIRUN_SHORT_BUFFER = 2,
     OMPHIRUN_NOT_NINE = 3,
-    OMPHIRUN_OUT_OF_RANGE = 4,
+    OMPHIRUN_BELOW_RANGE = 4,
     OMPHIRUN_NO_GRID = 5,
     OMPHIRUN_ODD_FACE = 6,
     OMPHIRUN_SIGNS_MISFIT = 7,
@@ -73,7 +76,8 @@ enum omphirun_number {
     OMPHIRUN_TEXT_FORM = 11,
     OMPHIRUN_NOT_FINITE = 12,
     OMPHIRUN_TOO_FAR = 13,
-    OMPHIRUN_BAD_SCALE = 14
+    OMPHIRUN_BAD_SCALE = 14,
+    OMPHIRUN_ABOVE_RANGE = 24
 };
 
 /* Cells a side, points and a cell's side at a level from 2 to 5. */
@@ -96,8 +100,11 @@ uint32_t omphirun_open(uint32_t level, uint8_t *grid, size_t grid_len);
    is removed, and no other byte changes. An edge is met when none of thirteen axes separates it from the triangle; touching is
    meeting. Triangles of no area are allowed. The order of triangles makes no difference, nor does marking one twice. Each call looks at
    all P bytes first, since it takes any buffer and 5 has to be told: for a small triangle that is most of its time.
-   Refusals: 1, 2, 3, 4, 5. */
-uint32_t omphirun_mark(uint32_t level, uint8_t *grid, size_t grid_len, const int32_t *triangle, size_t triangle_len);
+   When it is refused by 4 or 24, *place is the place of the first coordinate that is out, 0 to 8 in the order of the nine, and *axis its
+   axis, 0 to 2; both are 0 in every other case.
+   Refusals, in this order: 1, 2, 3, 4 or 24, 5. */
+uint32_t omphirun_mark(uint32_t level, uint8_t *grid, size_t grid_len, const int32_t *triangle, size_t triangle_len, uint32_t *place,
+                       uint32_t *axis);
 
 /* Patch. Marks are added and taken away until every face of every cell has an even number of marked edges. The first P work bytes
    are 0 afterwards, whatever they held. *rims is the number of rims, which are the faces with an odd number of marks, taken

@@ -11,15 +11,20 @@ static void make(struct random *r, const struct measures *m, struct input *in)
     fill(r, triangle + 18, (TRIANGLE_ROOM - 18) * sizeof *triangle);
     in->len[TRIANGLE] = chance(r, 95) ? 9 : below(r, TRIANGLE_ROOM);
     if (chance(r, 8))
-        spoil_triangle(r, m, triangle);
+        for (int bad = between(r, 1, 3); bad > 0; bad--)
+            spoil_triangle(r, m, triangle);
     if (chance(r, 6))
         spoil_grid(r, m, in->buffer[GRID]);
 }
 
 static uint32_t run(const struct calls *calls, const struct input *lent, uint64_t *counts)
 {
-    (void)counts;
-    return calls->mark(lent->level, lent->buffer[GRID], lent->len[GRID], (int32_t *)lent->buffer[TRIANGLE], lent->len[TRIANGLE]);
+    uint32_t place = untouched, axis = untouched;
+    uint32_t answer = calls->mark(lent->level, lent->buffer[GRID], lent->len[GRID], (int32_t *)lent->buffer[TRIANGLE], lent->len[TRIANGLE],
+                                  &place, &axis);
+    counts[0] = place;
+    counts[1] = axis;
+    return answer;
 }
 
 /* The program's reference and the benchmark rest on the mark that looks near the triangle alone: it must be the same. */
@@ -28,17 +33,18 @@ static const char *also(const struct input *in)
     static uint8_t everywhere[POINT_ROOM], near[POINT_ROOM];
     const int32_t *triangle = (int32_t *)in->buffer[TRIANGLE];
     size_t len = in->len[GRID];
+    uint32_t place, axis;
     if (in->level == 5) /* the plain scan takes its time there */
         return NULL;
     memcpy(everywhere, in->buffer[GRID], len);
     memcpy(near, in->buffer[GRID], len);
-    if (reference_mark(in->level, everywhere, len, triangle, in->len[TRIANGLE]) ==
-            reference_mark_near(in->level, near, len, triangle, in->len[TRIANGLE]) &&
+    if (reference_mark(in->level, everywhere, len, triangle, in->len[TRIANGLE], &place, &axis) ==
+            reference_mark_near(in->level, near, len, triangle, in->len[TRIANGLE], &place, &axis) &&
         !memcmp(everywhere, near, len))
         return NULL;
     return "the reference's two marks differ";
 }
 
 const struct call call_mark = {.name = "mark", .share = 350, .buffers = 1u << GRID | 1u << TRIANGLE,
-                               .answers = 1u << 0 | 1u << 1 | 1u << 2 | 1u << 3 | 1u << 4 | 1u << 5,
+                               .answers = 1u << 0 | 1u << 1 | 1u << 2 | 1u << 3 | 1u << 4 | 1u << 24 | 1u << 5, .counts = {"place", "axis"},
                                .make = make, .run = run, .also = also};

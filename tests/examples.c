@@ -105,9 +105,10 @@ static void run_turning(const char *name)
 static void run_triangle(const struct calls *calls, const char *name, const int32_t triangle[9], uint32_t answer, const char *marks)
 {
     uint8_t grid[POINTS], expected[POINTS];
+    uint32_t place, axis;
     read_names(marks, expected);
     hold(calls->open(2, grid, POINTS) == 0, name, "open is done");
-    hold(calls->mark(2, grid, POINTS, triangle, 9) == answer, name, "the answer");
+    hold(calls->mark(2, grid, POINTS, triangle, 9, &place, &axis) == answer, name, "the answer");
     hold(!memcmp(grid, expected, POINTS), name, "the marks");
 }
 
@@ -117,17 +118,19 @@ static void run_triangles(const struct calls *calls)
     static const struct {
         int32_t at;
         uint32_t answer;
-    } ends[] = {{262144, 0}, {262143, 4}, {786432, 0}, {786433, 4}};
+    } ends[] = {{262144, 0}, {262143, 4}, {786432, 0}, {786433, 24}};
     int32_t point[9];
     run_triangle(calls, "example 8", square, 0, "x122");
     for (int c = 0; c < 9; c++)
         point[c] = 524288;
     run_triangle(calls, "example 9", point, 0, six);
     for (int e = 0; e < 4; e++)
-        for (int c = 0; c < 9; c++) {
+        for (uint32_t c = 0; c < 9; c++) {
             uint8_t grid[POINTS] = {0};
+            uint32_t place, axis, bad = ends[e].answer > 0;
             point[c] = ends[e].at;
-            hold(calls->mark(2, grid, POINTS, point, 9) == ends[e].answer, "example 10", "the ends of the range");
+            hold(calls->mark(2, grid, POINTS, point, 9, &place, &axis) == ends[e].answer, "example 10", "the ends of the range");
+            hold(place == bad * c && axis == bad * (c % 3), "example 10", "place and axis of the coordinate that is out");
             point[c] = 524288;
         }
 }
@@ -136,14 +139,18 @@ static void run_refusals(const struct calls *calls)
 {
     uint8_t grid[POINTS], signs[POINTS], left[POINTS];
     uint16_t list[23], kept[23];
-    uint32_t quads;
+    uint32_t place, axis, quads;
     int32_t triangle[9] = {0, 524288, 524288, 524288, 524288, 524288, 524288, 524288, 524288};
     hold(calls->open(1, grid, 0) == 1, "example 11", "level 1 with an empty buffer");
     memset(grid, 0, POINTS);
     grid[62] = 8;
-    hold(calls->mark(2, grid, POINTS, triangle, 9) == 4, "example 11", "byte 8 with a coordinate of 0");
+    hold(calls->mark(2, grid, POINTS, triangle, 9, &place, &axis) == 4, "example 11", "byte 8 with a coordinate of 0");
     triangle[0] = 524288;
-    hold(calls->mark(2, grid, POINTS, triangle, 9) == 5, "example 11", "byte 8 with the coordinate mended");
+    hold(calls->mark(2, grid, POINTS, triangle, 9, &place, &axis) == 5, "example 11", "byte 8 with the coordinate mended");
+    triangle[4] = 786433;
+    triangle[7] = 262143;
+    hold(calls->mark(2, grid, POINTS, triangle, 9, &place, &axis) == 24 && place == 4 && axis == 1, "several out of range",
+         "the first decides");
     read_names(examples[2].marks, grid);
     memset(signs, 9, POINTS);
     memset(left, 9, POINTS);

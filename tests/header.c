@@ -24,18 +24,32 @@ static void hold(uint32_t answer, enum omphirun_number expected, const char *cal
     failures++;
 }
 
+/* The place that mark tells, with its axis. */
+static void hold_place(uint32_t place, uint32_t axis, uint32_t expected)
+{
+    if (place == expected && axis == expected % 3)
+        return;
+    printf("tests/header: mark tells place %u, axis %u and not place %u\n", (unsigned)place, (unsigned)axis, (unsigned)expected);
+    failures++;
+}
+
 int main(void)
 {
     uint8_t grid[OMPHIRUN_POINTS(2)], other[OMPHIRUN_POINTS(2)];
     uint32_t one = 9, two = 9;
-    const int32_t far[9] = {0, 0, 0, 0, 0, 0, 0, 0, 0};
+    const int32_t low[9] = {524288, 0}, high[9] = {524288, 524288, 524288, 524288, 524288, 1048576};
     memset(grid, 0, sizeof grid);
     memset(other, 0, sizeof other);
     hold(omphirun_open(1, NULL, 0), OMPHIRUN_BAD_LEVEL, "open");
     hold(omphirun_open(2, NULL, 0), OMPHIRUN_SHORT_BUFFER, "open");
-    hold(omphirun_mark(2, NULL, 0, NULL, 0), OMPHIRUN_SHORT_BUFFER, "mark");
-    hold(omphirun_mark(2, grid, sizeof grid, NULL, 0), OMPHIRUN_NOT_NINE, "mark");
-    hold(omphirun_mark(2, grid, sizeof grid, far, 9), OMPHIRUN_OUT_OF_RANGE, "mark");
+    hold(omphirun_mark(2, NULL, 0, NULL, 0, &one, &two), OMPHIRUN_SHORT_BUFFER, "mark");
+    hold(omphirun_mark(2, grid, sizeof grid, NULL, 0, &one, &two), OMPHIRUN_NOT_NINE, "mark");
+    hold_place(one, two, 0);
+    hold(omphirun_mark(2, grid, sizeof grid, low, 9, &one, &two), OMPHIRUN_BELOW_RANGE, "mark");
+    hold_place(one, two, 1);
+    hold(omphirun_mark(2, grid, sizeof grid, high, 9, &one, &two), OMPHIRUN_ABOVE_RANGE, "mark");
+    hold_place(one, two, 5);
+    one = two = 9;
     hold(omphirun_patch(2, NULL, 0, NULL, 0, &one, &two), OMPHIRUN_SHORT_BUFFER, "patch");
     hold(one + two, OMPHIRUN_DONE, "patch's counts");
     hold(omphirun_patch(2, grid, sizeof grid, NULL, 0, &one, &two), OMPHIRUN_SHORT_BUFFER, "patch");

@@ -7,7 +7,8 @@
 #include <stdio.h>
 
 uint32_t reference_open(uint32_t level, uint8_t *grid, size_t grid_len);
-uint32_t reference_mark(uint32_t level, uint8_t *grid, size_t grid_len, const int32_t *triangle, size_t triangle_len);
+uint32_t reference_mark(uint32_t level, uint8_t *grid, size_t grid_len, const int32_t *triangle, size_t triangle_len, uint32_t *place,
+                        uint32_t *axis);
 uint32_t reference_patch(uint32_t level, uint8_t *grid, size_t grid_len, uint8_t *work, size_t work_len, uint32_t *rims,
                          uint32_t *flips);
 uint32_t reference_sign(uint32_t level, const uint8_t *grid, size_t grid_len, uint8_t *signs, size_t signs_len);
@@ -19,7 +20,8 @@ uint32_t reference_read_stl(const uint8_t *file, size_t file_len, int32_t e, int
                             uint32_t *axis);
 
 /* Mark once more: it looks only at the edges that reach into the triangle's bounding box. */
-uint32_t reference_mark_near(uint32_t level, uint8_t *grid, size_t grid_len, const int32_t *triangle, size_t triangle_len);
+uint32_t reference_mark_near(uint32_t level, uint8_t *grid, size_t grid_len, const int32_t *triangle, size_t triangle_len, uint32_t *place,
+                             uint32_t *axis);
 
 /* The number of cells in the boxes of all rims of a grid, for the benchmark. */
 uint64_t reference_rim_cells(uint32_t level, const uint8_t *grid);

@@ -24,6 +24,12 @@ static inline struct measures measures_of(uint32_t level)
     return (struct measures){n, 1 << (20 - level), (n + 1) * (n + 1) * (n + 1), {1, n + 1, (n + 1) * (n + 1)}};
 }
 
+/* The number that a coordinate is refused by: 4 below the level's range, 24 above it; 0 in it. */
+static inline uint32_t out_of_range(const struct measures *m, int32_t v)
+{
+    return v < m->s ? 4 : v > (1 << 20) - m->s ? 24 : 0;
+}
+
 /* The two axes that are not the given one, in their order. */
 static inline int earlier(int axis)
 {

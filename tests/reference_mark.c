@@ -1,4 +1,4 @@
-/* Mark, from document 01, "Which edges a triangle meets". */
+/* Mark, from document 01, "Which edges a triangle meets", and document 02, M-101. */
 #include "reference.h"
 #include "reference_grid.h"
 
@@ -120,8 +120,9 @@ void reference_add_marks(const struct measures *m, uint8_t *grid, const int32_t 
 }
 
 static uint32_t mark(uint32_t level, uint8_t *grid, size_t grid_len, const int32_t *triangle, size_t triangle_len,
-                     void (*add_marks)(const struct measures *, uint8_t *, const int32_t *))
+                     uint32_t *place, uint32_t *axis, void (*add_marks)(const struct measures *, uint8_t *, const int32_t *))
 {
+    *place = *axis = 0;
     if (!known_level(level))
         return 1;
     struct measures m = measures_of(level);
@@ -129,21 +130,28 @@ static uint32_t mark(uint32_t level, uint8_t *grid, size_t grid_len, const int32
         return 2;
     if (triangle_len != 9)
         return 3;
-    for (int c = 0; c < 9; c++)
-        if (triangle[c] < m.s || triangle[c] > (1 << 20) - m.s)
-            return 4;
+    for (uint32_t c = 0; c < 9; c++) {
+        uint32_t number = out_of_range(&m, triangle[c]);
+        if (number) {
+            *place = c;
+            *axis = c % 3;
+            return number;
+        }
+    }
     if (!is_grid(&m, grid))
         return 5;
     add_marks(&m, grid, triangle);
     return 0;
 }
 
-uint32_t reference_mark(uint32_t level, uint8_t *grid, size_t grid_len, const int32_t *triangle, size_t triangle_len)
+uint32_t reference_mark(uint32_t level, uint8_t *grid, size_t grid_len, const int32_t *triangle, size_t triangle_len, uint32_t *place,
+                        uint32_t *axis)
 {
-    return mark(level, grid, grid_len, triangle, triangle_len, add_marks_everywhere);
+    return mark(level, grid, grid_len, triangle, triangle_len, place, axis, add_marks_everywhere);
 }
 
-uint32_t reference_mark_near(uint32_t level, uint8_t *grid, size_t grid_len, const int32_t *triangle, size_t triangle_len)
+uint32_t reference_mark_near(uint32_t level, uint8_t *grid, size_t grid_len, const int32_t *triangle, size_t triangle_len, uint32_t *place,
+                             uint32_t *axis)
 {
-    return mark(level, grid, grid_len, triangle, triangle_len, reference_add_marks);
+    return mark(level, grid, grid_len, triangle, triangle_len, place, axis, reference_add_marks);
 }

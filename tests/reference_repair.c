@@ -14,14 +14,15 @@ static uint32_t read_triangles(const struct measures *m, const uint8_t *at, size
 {
     for (*triangles = 0; left > 0; ++*triangles, at += TRIANGLE_BYTES, left -= TRIANGLE_BYTES) {
         int32_t triangle[9];
+        uint32_t number;
         if (*triangles == MOST_TRIANGLES)
             return 9;
         if (left < TRIANGLE_BYTES)
             return 3;
         for (int c = 0; c < 9; c++) {
             triangle[c] = little_endian(at + 4 * c);
-            if (triangle[c] < m->s || triangle[c] > (1 << 20) - m->s)
-                return 4;
+            if ((number = out_of_range(m, triangle[c])))
+                return number;
         }
         reference_add_marks(m, grid, triangle);
     }

@@ -106,10 +106,24 @@ def many_quads():
 
 
 def refusals():
-    streams = {1: b"", 3: b"\2" + POINT[:35], 4: b"\2" + triangle(0, *[MIDDLE] * 8), 8: many_quads(), 9: b"\2" + POINT * (MOST_TRIANGLES + 1)}
+    streams = {1: b"", 3: b"\2" + POINT[:35], 4: b"\2" + triangle(0, *[MIDDLE] * 8), 24: b"\2" + triangle(*[MIDDLE] * 8, 786433),
+               8: many_quads(), 9: b"\2" + POINT * (MOST_TRIANGLES + 1)}
     for number, stream in streams.items():
         status, out, said = run(["--quads", "-"], input=stream)
         hold((status, said) == (1, "") and re.match(rf"^standard input: refused {number}: .+\n$", out), f"refused by {number}: {status} {out!r}")
+
+
+def bad_coordinates():
+    """Which coordinate is out, and on which side: the first of the first triangle that has one, whatever follows."""
+    for number, side, level, bad in ((4, "below", 2, 262143), (24, "above", 2, 786433), (4, "below", 5, -(1 << 31)), (24, "above", 5, (1 << 31) - 1)):
+        for place in range(9):
+            numbers = [MIDDLE] * place + [bad] + [0] * (8 - place)
+            stream = bytes([level]) + POINT * place + triangle(*numbers) + triangle(*[0] * 9) + b"unfinished"
+            status, out, said = run(["-"], input=stream)
+            least = 1 << (20 - level)
+            words = (f"standard input: refused {number}: a coordinate lies {side} the level's range: {'xyz'[place % 3]} of corner {'ABC'[place // 3]} "
+                     f"of triangle {place + 1} is {bad}, the range is {least} to {(1 << 20) - least}\n")
+            hold((status, out, said) == (1, words, ""), f"place {place}: {out!r}")
 
 
 def without_end():
@@ -208,7 +222,7 @@ def hold_all(tests):
 
 if __name__ == "__main__":
     import script_build
-    failures = hold_all((reports, options, refusals, without_end, what_goes_wrong, early_reader, symlinks, interrupts))
+    failures = hold_all((reports, options, refusals, bad_coordinates, without_end, what_goes_wrong, early_reader, symlinks, interrupts))
     failures += hold_all(script_build.TESTS)
     print(f"tests/script: ./repair in {runs + script_build.runs()} runs, {failures} failures")
     sys.exit(1 if failures else 0)

@@ -1,5 +1,5 @@
 -- What mark comes to on a buffer that is known to be a grid of the level. Assumes nothing.
-use mathlib.Core.Path.{_≡_, refl}
+use mathlib.Core.Path.{_≡_, refl, sym}
 use mathlib.Core.Bool.{true, false}
 use mathlib.Core.List.{List}
 use Prim.Native.Nat.{ℕ}
@@ -13,10 +13,11 @@ use Rattle.lattice.specs.Levels.{levelOf, numberOf, pointsOf}
 use Rattle.refusals.specs.Columns.{badLevel, levelAt}
 use Rattle.refusals.proofs.Levels.{read-known}
 use Rattle.marking.specs.Ranges.{allInRange, triangleOf}
+use Rattle.marking.specs.OutOfRange.{firstOut, badOne, outNumber}
 use Rattle.marking.specs.Met.{marked}
-use Rattle.marking.specs.Outcome.{done, refused}
-use Rattle.marking.specs.Mark.{markRows, markCall}
+use Rattle.marking.specs.Mark.{done, refusedAt, refused, markRows, markCall}
 use Rattle.marking.proofs.Ranges.{triangle-within}
+use Rattle.marking.proofs.OutOfRange.{out-told}
 use Rattle.marking.proofs.Marks.{grid-after, marked-length}
 use Rattle.feeding.specs.Feed.{Ready}
 
@@ -39,14 +40,14 @@ module _ (l : Level) (g : List ℕ) (r : Ready l g) (c : List ℤ) where
   level-is = known l .1
 
   -- 3: not nine numbers
-  pub mark-short : (length c ≡ 9 → ⊥) → markCall (numberOf l) g c ≡ refused g 3
+  pub mark-short : (length c ≡ 9 → ⊥) → markCall (numberOf l) g c ≡ refused l c g 3
   unfolding markRows markCall
   mark-short h = rw (level-is, good, le-ltb (length g) (pointsOf l) (r .long), ne-eqb (length c) 9 h)
 
-  -- 4: a coordinate out of the level's range
-  pub mark-out : length c ≡ 9 → allInRange l c ≡ false → markCall (numberOf l) g c ≡ refused g 4
+  -- 4 or 24: a coordinate out of the level's range
+  pub mark-out : length c ≡ 9 → allInRange l c ≡ false → markCall (numberOf l) g c ≡ refusedAt (outNumber l (badOne l c)) (firstOut l c) g
   unfolding markRows markCall
-  mark-out h e = rw (level-is, good, le-ltb (length g) (pointsOf l) (r .long), eq-eqb (length c) 9 h, e)
+  mark-out h e = rw (level-is, good, le-ltb (length g) (pointsOf l) (r .long), eq-eqb (length c) 9 h) (sym (out-told l c g _ e))
 
   -- else it is done
   pub mark-in : length c ≡ 9 → allInRange l c ≡ true → markCall (numberOf l) g c ≡ done (marked l (triangleOf c) g)

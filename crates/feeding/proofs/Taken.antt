@@ -9,8 +9,7 @@ use lib.Seq.{drop-append-le, drop-drop}
 use borrow.Author.Tests.{eq-eqb, ne-eqb}
 use Rattle.lattice.specs.declared.level.Level.{Level}
 use Rattle.lattice.specs.Levels.{numberOf}
-use Rattle.marking.specs.Outcome.{Outcome}
-use Rattle.marking.specs.Mark.{markCall}
+use Rattle.marking.specs.Mark.{Outcome, markCall}
 use Rattle.text.specs.Words.{numbers}
 use Rattle.text.proofs.Numbers.{numbers-ahead, numbers-short}
 use Rattle.feeding.specs.Taken.{marked, refusedBy, taken, mostTriangles}

@@ -7,7 +7,6 @@ use lib.ListN.{length}
 use Rattle.rules.specs.Grid.{isGrid}
 use Rattle.lattice.specs.declared.level.Level.{Level}
 use Rattle.lattice.specs.Levels.{numberOf, cellsOf, pointsOf}
-use Rattle.marking.specs.Outcome.{Outcome}
 use Rattle.marking.specs.Mark.{markCall}
 use Rattle.text.specs.Words.{numbers}
 use Rattle.feeding.specs.declared.Fed.{Fed}
@@ -21,7 +20,8 @@ pub record Ready (l : Level) (g : List ℕ) : Type 0 where
 
 -- the number and the grid are those of mark, for the triangle of the bytes s
 pub record Marking (l : Level) (s : List ℕ) (number : ℕ) (g g′ : List ℕ) : Type 0 where
-  pub is-mark : _≡_ {A = Outcome} (record { number = number; grid = g′ }) (markCall (numberOf l) g (numbers s))
+  pub number-is : number ≡ markCall (numberOf l) g (numbers s) .number
+  pub grid-is : g′ ≡ markCall (numberOf l) g (numbers s) .grid
   pub ready : Ready l g′
 
 -- a block has whole triangles, unless it is the stream's last

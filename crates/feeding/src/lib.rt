@@ -1,6 +1,7 @@
 // The triangles of a stream, marked as they are read. None is kept, and nothing is checked twice: the grid is known to be one.
 use lattice::level::Level;
-use marking::range::all_in_range;
+use marking::out_of_range;
+use marking::range::first_out;
 use marking::range::triangle_of;
 use marking::scan::mark_grid;
 use text::words::numbers_at;
@@ -20,14 +21,16 @@ pub enum Fed {
     Refused { number: u32 },
 }
 
-// Marks the triangle whose bytes begin at a place, and answers 0; answers 4 if a coordinate is out of the level's range.
+// Marks the triangle whose bytes begin at a place, and answers 0; where a coordinate is out of the level's range, answers the number that
+// mark refuses it by.
 fn mark_at(l: Level, grid: &mut [u8], block: &[u8], at: usize) -> u32
     requires { ⌜ (at + 36 ≤ length (now block)) × Ready l (now grid) ⌝ }
     ensures { λ r. ⌜ Marking l (drop at (now (block .entry))) r (now (grid .entry)) (now (grid .exit)) ⌝ }
 {
     let c = numbers_at(block, at);
-    if !all_in_range(l, &c) {
-        return 4;
+    let place = first_out(l, &c);
+    if place < 9 {
+        return out_of_range(l, place, c[place]).number();
     }
     mark_grid(l, grid, triangle_of(&c));
     0

@@ -9,13 +9,19 @@ use lib.Pow.{pow-add, pow-mono, pow-pos}
 use Rattle.lattice.specs.declared.level.Level.{Level}
 use Rattle.lattice.specs.declared.level.Level.the-variants.{Two, Three, Four, Five}
 use Rattle.rules.specs.Lattice.{pointCount}
-use Rattle.lattice.specs.Levels.{numberOf, cellsOf, sideOf}
+use Rattle.lattice.specs.Levels.{numberOf, cellsOf, sideOf, lowestOf, highestOf}
 
 number-most : (l : Level) → numberOf l ≤ 5
 number-most Two = lit≤ tt
 number-most Three = lit≤ tt
 number-most Four = lit≤ tt
 number-most Five = lit≤ tt
+
+number-least : (l : Level) → 2 ≤ numberOf l
+number-least Two = lit≤ tt
+number-least Three = lit≤ tt
+number-least Four = lit≤ tt
+number-least Five = lit≤ tt
 
 pub cells-most : (l : Level) → cellsOf l ≤ 32
 cells-most l = pow-mono (number-most l)
@@ -43,6 +49,13 @@ place-most l {i} h = subst (λ (k : ℕ). i * sideOf l ≤ k) (side-whole l) (mu
 
 pub side-most : (l : Level) → sideOf l ≤ 2 ^ 20
 side-most l = let h : 20 - numberOf l ≤ 20 = omega arith in pow-mono h
+
+-- a cell's side is at most a quarter of the lattice's, so the range is not empty
+pub side-quarter : (l : Level) → sideOf l ≤ 2 ^ 18
+side-quarter l = let n = number-least l in let h : 20 - numberOf l ≤ 18 = omega arith in pow-mono h
+
+pub range-some : (l : Level) → lowestOf l ≤ highestOf l
+range-some l = let m = side-quarter l in omega arith
 
 -- the count of points as code multiplies it out
 pub count-is : (n : ℕ) → (n + 1) * (n + 1) * (n + 1) ≡ pointCount n

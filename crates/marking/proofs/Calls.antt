@@ -15,18 +15,23 @@ use Rattle.rules.specs.Grid.{marks, isGrid}
 use Rattle.lattice.specs.declared.level.Level.{Level}
 use Rattle.lattice.specs.Levels.{numberOf, cellsOf, pointsOf}
 use Rattle.lattice.proofs.Ahead.{open-grid, open-marks}
-use Rattle.refusals.specs.Rows.{Row, firstOf, noneOf}
+use Rattle.refusals.specs.Rows.{Row, answered, noneOf}
 use Rattle.refusals.specs.Columns.{levelAt}
-use Rattle.refusals.proofs.Answered.{none-clear, clear-none, answered-part, answered-number, answered-done}
+use Rattle.refusals.proofs.Answered.{none-clear, clear-none, answered-on, answered-part, answered-done}
 use Rattle.refusals.proofs.Levels.{good-number}
 use Rattle.refusals.proofs.Short.{none-short}
-use Rattle.marking.specs.Ranges.{allInRange, triangleOf, TriangleWithin}
+use Rattle.marking.specs.Ranges.{triangleOf, TriangleWithin}
 use Rattle.marking.specs.Met.{marked}
-use Rattle.marking.specs.Outcome.{Outcome, done, refused}
+use Rattle.marking.specs.Outcome as Opening
 use Rattle.marking.specs.Open.{opened, openRows, openCall}
-use Rattle.marking.specs.Mark.{markRows, markCall}
+use Rattle.marking.specs.Mark.{Outcome, done, refused, markRows, markCall}
 use Rattle.marking.proofs.Ranges.{triangle-within}
+use Rattle.marking.proofs.OutOfRange.{none-told}
 use Rattle.marking.proofs.Marks.{Unseparated, grid-after, marked-exactly, marked-twice, marked-swapped, marked-length}
+
+-- an outcome's number, place and axis
+abbrev pub answerOf : Outcome → Outcome
+answerOf o = record { number = o .number; place = o .place; axis = o .axis; grid = [] }
 
 -- what is taken is long enough, a grid of a known level, and in range
 record Taken (k : ℕ) (g : List ℕ) (c : List ℤ) : Type 0 where
@@ -53,18 +58,18 @@ module _ (k : ℕ) (g : List ℕ) (c : List ℤ) where
       record {
         known = good-number k (h .0);
         long = none-short (pointsOf l) (g ∷ []) (h .1 .0) .0;
-        grid = not-false (isGrid (cellsOf l) g) (h .1 .1 .1 .1 .0);
-        within = triangle-within l c nine (not-false (allInRange l c) (h .1 .1 .1 .0));
+        grid = not-false (isGrid (cellsOf l) g) (h .1 .1 .1 .1 .1 .0);
+        within = triangle-within l c nine (none-told l c (h .1 .1 .1 .0) (h .1 .1 .1 .1 .0));
       }
 
-  -- the number and the grid afterwards
-  number-is : markCall k g c .number ≡ firstOf (markRows k g c)
+  -- the answer and the grid afterwards
+  answer-is : answerOf (markCall k g c) ≡ answered (markRows k g c) (refused (levelAt k) c []) (done [])
   unfolding markCall
-  number-is = answered-number (λ o. o .number) (refused g) (done after) (λ i. refl) refl (markRows k g c)
+  answer-is = answered-on answerOf (refused (levelAt k) c g) (done after) (markRows k g c)
 
   grid-is : markCall k g c .grid ≡ cond takes after g
   unfolding markCall
-  grid-is = answered-part (λ o. o .grid) (refused g) (done after) g (λ i. refl) (markRows k g c)
+  grid-is = answered-part (λ o. o .grid) (refused (levelAt k) c g) (done after) g (λ i. refl) (markRows k g c)
 
   -- is as long as before, and a grid exactly when it was
   grid-kept : (length (markCall k g c .grid) ≡ length g) × (isGrid (cellsOf (levelAt k)) (markCall k g c .grid) ≡ isGrid (cellsOf (levelAt k)) g)
@@ -86,9 +91,10 @@ module _ (k : ℕ) (g : List ℕ) (c d : List ℤ) where
   unfolding markRows
   rows-still = rw (grid-kept k g c .0, grid-kept k g c .1)
 
-  -- marking in any order gives each call the same number
-  pub same-number : markCall k next d .number ≡ markCall k g d .number
-  same-number = number-is k next d ∙ ap firstOf rows-still ∙ sym (number-is k g d)
+  -- marking in any order gives each call the same number, place and axis
+  pub same-answer : answerOf (markCall k next d) ≡ answerOf (markCall k g d)
+  same-answer =
+      answer-is k next d ∙ ap (λ (r : List Row). answered r (refused (levelAt k) d []) (done [])) rows-still ∙ sym (answer-is k g d)
 
   after-both : markCall k next d .grid ≡ cond (takes k g d) (after k (cond (takes k g c) (after k g c) g) d) (cond (takes k g c) (after k g c) g)
   after-both =
@@ -108,7 +114,7 @@ any-order k g c d = after-both k g c d ∙ go (takes k g c) (takes k g d) refl r
 
 -- marking twice gives the same as once
 pub mark-twice : (k : ℕ) (g : List ℕ) (c : List ℤ) → markCall k (markCall k g c .grid) c ≡ markCall k g c
-mark-twice k g c = λ i. record { number = same-number k g c c i; grid = same i }
+mark-twice k g c = λ i. let a = same-answer k g c c i in record { number = a .number; place = a .place; axis = a .axis; grid = same i }
   where
     go : (x : Bool) → takes k g c ≡ x → cond x (after k (cond x (after k g c) g) c) (cond x (after k g c) g) ≡ cond x (after k g c) g
     go true e = marked-twice (levelAt k) (triangleOf c) (taken k g c e .within) g
@@ -134,8 +140,8 @@ unfolding openCall openRows opened
 open-done k g e =
     let n = cellsOf (levelAt k) in
     let rest = drop (pointsOf (levelAt k)) g in
-    let r = answered-done (λ o. o .number) (refused g) (done (opened (levelAt k) g)) (λ i. refl) refl (openRows k g) refl e in
-    let f = ap (λ (o : Outcome). o .grid) (r .1) in
+    let r = answered-done (λ o. o .number) (Opening.refused g) (Opening.done (opened (levelAt k) g)) (λ i. refl) refl (openRows k g) refl e in
+    let f = ap (λ (o : Opening.Outcome). o .grid) (r .1) in
     record { level = levelAt k; known = good-number k (r .0 .0); grid = rw f (open-grid n rest); none = rw f (open-marks n rest) }
 
 -- what a done mark leaves
@@ -152,7 +158,7 @@ pub mark-done : (k : ℕ) (g : List ℕ) (c : List ℤ) → markCall k g c .numb
 unfolding markCall markRows
 mark-done k g c e =
     let l = levelAt k in
-    let r = answered-done (λ o. o .number) (refused g) (done (after k g c)) (λ i. refl) refl (markRows k g c) refl e in
+    let r = answered-done (λ o. o .number) (refused l c g) (done (after k g c)) (λ i. refl) refl (markRows k g c) refl e in
     let h = taken k g c (clear-none (markRows k g c) (r .0)) in
     let f = ap (λ (o : Outcome). o .grid) (r .1) in
     record { level = l; known = h .known; grid = rw f (grid-after l (triangleOf c) (h .within) g); exactly = rw f (marked-exactly l (triangleOf c) (h .within) g) }

@@ -6,4 +6,6 @@ pub mod Adding
 pub mod Scanning
 pub mod Written
 pub mod Marks
+pub mod OutOfRange
 pub mod Calls
+pub mod BadCoordinate

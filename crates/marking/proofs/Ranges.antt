@@ -1,15 +1,13 @@
 -- What the vertex range says of a triangle: where its vertices lie on the lattice, and which cells it can touch. Assumes nothing.
-use mathlib.Core.Path.{_≡_, sym, ap, subst, _∙_}
-use mathlib.Core.Bool.{Bool, true, false, _&&_}
+use mathlib.Core.Path.{_≡_, sym, subst}
+use mathlib.Core.Bool.{Bool, true}
 use mathlib.Core.List.{List, [], _∷_}
 use Prim.Native.Nat.{ℕ, zero, suc, _+_, _-_, _*_, _/_, _^_, _≤_, _<_, zero-le}
 use native.Mathlib.Nat.{not-suc-le-zero, le-of-suc-le-suc, lt-of-lt-of-le, mod-lt, div-add-mod', div-lt-iff-lt-mul}
-use native.Mathlib.Numerals.{add-one}
 use native.Mathlib.Omega.{arith}
 use lib.Dec.{lit<}
 use lib.IntN.{ℤ, pos}
-use lib.ListN.{length, getD, drop}
-use lib.Seq.{drop-cons}
+use lib.ListN.{length, getD}
 use lib.Signed.{leZ, _≤ℤ_}
 use Rattle.rules.specs.Lists.{allOf}
 use Rattle.rules.specs.declared.Axis.{Axis}
@@ -48,17 +46,6 @@ all-at : {A : Type 0} (f : A → Bool) (l : List A) (d : A) (k : ℕ) → allOf 
 all-at f [] d k e h = absurd (not-suc-le-zero h)
 all-at f (x ∷ l) d zero e h = and-left (f x) (allOf f l) e
 all-at f (x ∷ l) d (suc k) e h = all-at f l d k (and-right (f x) (allOf f l) e) (le-of-suc-le-suc h)
-
--- a test of each member of a list, one after the other
-module _ {A : Type 0} (f : A → Bool) (l : List A) (d : A) (k : ℕ) (h : k < length l) where
-  all-from : allOf f (drop k l) ≡ f (getD l k d) && allOf f (drop (k + 1) l)
-  all-from = rw add-one (ap (allOf f) (drop-cons l k d h))
-
-  pub all-fails : f (getD l k d) ≡ false → allOf f (drop k l) ≡ false
-  all-fails e = all-from ∙ ap (λ (b : Bool). b && allOf f (drop (k + 1) l)) e
-
-  pub all-goes-on : f (getD l k d) ≡ true → allOf f (drop k l) ≡ allOf f (drop (k + 1) l)
-  all-goes-on e = all-from ∙ ap (λ (b : Bool). b && allOf f (drop (k + 1) l)) e
 
 pub triangle-within : (l : Level) (c : List ℤ) → length c ≡ 9 → allInRange l c ≡ true → TriangleWithin l (triangleOf c)
 unfolding allInRange triangleOf vertexAt

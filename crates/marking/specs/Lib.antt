@@ -1,4 +1,5 @@
 pub mod Ranges
+pub mod OutOfRange
 pub mod Met
 pub mod Outcome
 pub mod Open

@@ -1,4 +1,4 @@
--- What a call answers and leaves in the grid buffer. Assumes nothing.
+-- What open answers and leaves in the grid buffer. Assumes nothing.
 use mathlib.Core.List.{List}
 use Prim.Native.Nat.{ℕ}
 use Rattle.refusals.specs.declared.Answer.{Answer}

@@ -1,7 +1,7 @@
 -- How open and mark are judged: calls written out, each with its number. Where a row is meant, every row behind it applies too, so
 -- that rows in another order give another number. That every call is given its number is one claim
 -- (proofs/Accepted.antt), proved by computing. Assumes nothing.
-use mathlib.Core.List.{List, [], _∷_}
+use mathlib.Core.List.{List, [], _∷_, _++_}
 use Prim.Native.Nat.{ℕ}
 use lib.IntN.{ℤ, pos}
 use lib.ListN.{replicate}
@@ -16,6 +16,10 @@ good k = replicate k (pos 524288)
 -- v, and k numbers in range behind it
 abbrev first : ℕ → ℕ → List ℤ
 first v k = pos v ∷ good k
+
+-- nine numbers, with v at place 5, the z of B, and w at place 7
+abbrev two : ℕ → ℕ → List ℤ
+two v w = good 5 ++ (first v 1 ++ first w 1)
 
 -- 125 bytes with a byte 8: no grid
 abbrev noGrid : List ℕ
@@ -49,5 +53,17 @@ cases =
     ∷ markCall 2 (zeros 125) (first 262144 8) .number is 0
     ∷ markCall 2 (zeros 125) (first 262143 8) .number is 4
     ∷ markCall 2 (zeros 125) (first 786432 8) .number is 0
-    ∷ markCall 2 (zeros 125) (first 786433 8) .number is 4
+    ∷ markCall 2 (zeros 125) (first 786433 8) .number is 24
+    -- the first bad coordinate decides between 4 and 24, both before 5; its place and its axis are told
+    ∷ markCall 2 noGrid (two 786433 0) .number is 24
+    ∷ markCall 2 noGrid (two 786433 0) .place is 5
+    ∷ markCall 2 noGrid (two 786433 0) .axis is 2
+    ∷ markCall 2 noGrid (two 0 786433) .number is 4
+    ∷ markCall 2 noGrid (two 0 786433) .place is 5
+    ∷ markCall 2 noGrid (two 0 786433) .axis is 2
+    -- both are 0 in other answers: done, and refused by 5
+    ∷ markCall 2 (zeros 125) (good 9) .place is 0
+    ∷ markCall 2 (zeros 125) (good 9) .axis is 0
+    ∷ markCall 2 noGrid (good 9) .place is 0
+    ∷ markCall 2 noGrid (good 9) .axis is 0
     ∷ []

@@ -2,7 +2,8 @@
 pub mod range;
 pub mod scan;
 
-use crate::range::all_in_range;
+use crate::range::first_out;
+use crate::range::is_below;
 use crate::range::triangle_of;
 use crate::scan::mark_grid;
 use lattice::clear;
@@ -12,9 +13,12 @@ use lattice::scan::is_grid;
 use refusals::Answer;
 use refusals::Refusal;
 ghost use mathlib.Core.Path.{_≡_};
+ghost use mathlib.Core.List.{List, []};
+ghost use Prim.Native.Nat.{ℕ, _<_};
 ghost use Rattle.marking.specs.Outcome.{told};
 ghost use Rattle.marking.specs.Open.{openCall};
-ghost use Rattle.marking.specs.Mark.{markCall};
+ghost use Rattle.marking.specs.OutOfRange.{outNumber};
+ghost use Rattle.marking.specs.Mark.{refusedAt, told as markTold, markCall};
 
 // The call open: makes an empty grid of the level in the buffer's first P bytes.
 pub fn open(level: u32, grid: &mut [u8]) -> Answer
@@ -31,26 +35,63 @@ pub fn open(level: u32, grid: &mut [u8]) -> Answer
     Answer::Done
 }
 
+// What mark answers. Of the coordinates out of the level's range the first is told: its place in the order of the nine, its axis,
+// and whether it lies below the range or above.
+pub enum MarkAnswer {
+    Done,
+    Refused(Refusal),
+    Below { place: u32, axis: u32 },
+    Above { place: u32, axis: u32 },
+}
+
+impl MarkAnswer {
+    // This paper's number: 0 when done.
+    pub fn number(self) -> u32
+        ensures { λ r. ⌜ r ≡ (markTold self []) .number ⌝ }
+    {
+        match self {
+            MarkAnswer::Done => 0,
+            MarkAnswer::Refused(why) => why.number(),
+            MarkAnswer::Below { place: _, axis: _ } => 4,
+            MarkAnswer::Above { place: _, axis: _ } => 24,
+        }
+    }
+}
+
+// Answers how a coordinate out of the level's range is refused.
+pub fn out_of_range(l: Level, place: usize, v: i32) -> MarkAnswer
+    requires { ⌜ place < 9 ⌝ }
+    ensures { λ r. ⌜ ((g : List ℕ) → markTold r g ≡ refusedAt (outNumber l v) place g) ⌝ }
+{
+    let p = place as u32;
+    let a = p % 3;
+    if is_below(l, v) {
+        return MarkAnswer::Below { place: p, axis: a };
+    }
+    MarkAnswer::Above { place: p, axis: a }
+}
+
 // The call mark: adds the marks of the edges that a triangle of nine numbers meets. It looks at every byte of the grid, to
 // see that it is one; `scan::mark_grid` is for callers that know it.
-pub fn mark(level: u32, grid: &mut [u8], triangle: &[i32]) -> Answer
-    ensures { λ r. ⌜ told r (now (grid .exit)) ≡ markCall level (now (grid .entry)) (now (triangle .entry)) ⌝ }
+pub fn mark(level: u32, grid: &mut [u8], triangle: &[i32]) -> MarkAnswer
+    ensures { λ r. ⌜ markTold r (now (grid .exit)) ≡ markCall level (now (grid .entry)) (now (triangle .entry)) ⌝ }
 {
     let LevelRead::Known(l) = Level::read(level) else {
-        return Answer::Refused(Refusal::BadLevel);
+        return MarkAnswer::Refused(Refusal::BadLevel);
     };
     if grid.len() < l.points() {
-        return Answer::Refused(Refusal::ShortBuffer);
+        return MarkAnswer::Refused(Refusal::ShortBuffer);
     }
     if triangle.len() != 9 {
-        return Answer::Refused(Refusal::NotNine);
+        return MarkAnswer::Refused(Refusal::NotNine);
     }
-    if !all_in_range(l, triangle) {
-        return Answer::Refused(Refusal::OutOfRange);
+    let place = first_out(l, triangle);
+    if place < 9 {
+        return out_of_range(l, place, triangle[place]);
     }
     if !is_grid(l.cells(), grid) {
-        return Answer::Refused(Refusal::NoGrid);
+        return MarkAnswer::Refused(Refusal::NoGrid);
     }
     mark_grid(l, grid, triangle_of(triangle));
-    Answer::Done
+    MarkAnswer::Done
 }

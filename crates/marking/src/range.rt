@@ -7,7 +7,8 @@ ghost use Prim.Native.Nat.{_+_, _≤_, _<_};
 ghost use lib.IntN.{pos};
 ghost use lib.ListN.{length};
 ghost use lib.Signed.{leZ, _≤ℤ_};
-ghost use Rattle.marking.specs.Ranges.{inRange, latticeOf, allInRange, vertexAt, triangleOf};
+ghost use Rattle.marking.specs.Ranges.{inRange, latticeOf, vertexAt, triangleOf};
+ghost use Rattle.marking.specs.OutOfRange.{below, firstOut};
 
 // Answers a number of 32 bits in 64.
 fn wide(v: i32) -> i64
@@ -39,29 +40,35 @@ fn at_most(a: i64, b: i64) -> bool
     a <= b
 }
 
+// Answers whether a coordinate lies below the level's range.
+pub fn is_below(l: Level, v: i32) -> bool
+    ensures { λ r. ⌜ r ≡ below l v ⌝ }
+{
+    !at_most(signed(l.side()), wide(v))
+}
+
 // Answers whether a coordinate is in the level's range.
 fn in_range(l: Level, v: i32) -> bool
     ensures { λ r. ⌜ r ≡ inRange l v ⌝ }
 {
-    let v = wide(v);
-    if !at_most(signed(l.side()), v) {
+    if is_below(l, v) {
         return false;
     }
-    at_most(v, signed(l.highest()))
+    at_most(wide(v), signed(l.highest()))
 }
 
-// Answers whether every coordinate is in the level's range.
-pub fn all_in_range(l: Level, c: &[i32]) -> bool
-    ensures { λ r. ⌜ r ≡ allInRange l (now (c .entry)) ⌝ }
+// Answers the place of the first coordinate that is out of the level's range; where none is, the place behind the last.
+pub fn first_out(l: Level, c: &[i32]) -> usize
+    ensures { λ r. ⌜ r ≡ firstOut l (now (c .entry)) ⌝ }
 {
     let mut k: usize = 0;
     while k < c.len() {
         if !in_range(l, c[k]) {
-            return false;
+            return k;
         }
         k += 1;
     }
-    true
+    k
 }
 
 // Answers where a vertex's coordinate lies on the lattice.

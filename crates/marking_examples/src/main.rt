@@ -1,6 +1,7 @@
 // Runs open and mark at level 2: examples 8 to 11 of the rules, triangles of no area, numbers at the ends of the range and of
 // i32, lists of other lengths, and inputs to which several numbers apply. It prints the number and the edges marked; `kept`
 // says that nothing of the buffer changed, `rest` that the bytes behind the last point are as they were.
+use marking::MarkAnswer;
 use marking::mark;
 use marking::open;
 use showing::all_hold;
@@ -88,22 +89,35 @@ fn put_number(numbers: &mut [i32], k: usize, v: i32) {
     }
 }
 
-// The number that is given when one of the nine numbers is v.
-fn number_with(k: usize, v: i32) -> u32 {
+// Says the place and the axis of a bad coordinate.
+fn say_place(place: u32, axis: u32) {
+    say_count(b"/", place);
+    say_count(b"/", axis);
+}
+
+// Says the number that is given when one of the nine numbers is v, and the place and the axis if it is bad.
+fn say_with(k: usize, v: i32) {
     let mut grid = [0u8; POINTS];
     let mut numbers = [524_288; 9];
     put_number(&mut numbers, k, v);
-    mark(2, &mut grid, &numbers).number()
+    let answer = mark(2, &mut grid, &numbers);
+    say_count(b" ", answer.number());
+    if let MarkAnswer::Below { place: p, axis: a } = answer {
+        say_place(p, a);
+    }
+    if let MarkAnswer::Above { place: p, axis: a } = answer {
+        say_place(p, a);
+    }
 }
 
-// Says the number that is given when the first, .., the ninth number is v.
+// Says what is given when the first, .., the ninth number is v.
 fn show_nine(name: &[u8], v: i32) {
     say(b"mark, ");
     say(name);
     say(b" at each of nine places:");
     let mut k: usize = 0;
     while k < 9 {
-        say_count(b" ", number_with(k, v));
+        say_with(k, v);
         k += 1;
     }
     say(b"\n");
@@ -153,6 +167,7 @@ fn show_byte_eight() {
             524_288,
         ],
     );
+    show_put(b"a byte of 8, a coordinate above", 2, 62, 8, &[786_433; 9]);
     show_put(b"a byte of 8, mended", 2, 62, 8, &[524_288; 9]);
 }
 

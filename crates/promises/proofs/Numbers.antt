@@ -11,8 +11,9 @@ use Rattle.refusals.proofs.Lowest.{lowest-exactly}
 use Rattle.refusals.proofs.Answered.{answered-number, answered-refused}
 use Rattle.marking.specs.Ranges.{triangleOf}
 use Rattle.marking.specs.Met.{marked}
-use Rattle.marking.specs.Outcome as Marking
+use Rattle.marking.specs.Outcome as Opening
 use Rattle.marking.specs.Open.{opened, openRows, openCall}
+use Rattle.marking.specs.Mark as Marking
 use Rattle.marking.specs.Mark.{markRows, markCall}
 use Rattle.patching.specs.Call as Patching
 use Rattle.patching.specs.Call.{patchDone, patchRows, patchCall}
@@ -26,28 +27,36 @@ use Rattle.promises.specs.Stage.{promised, numberBy, Untouched, Conditio
 -- the number is that of the first row that applies
 first-given : (L : ℕ) (c : Call) → numberBy promised L c ≡ firstOf (table L c)
 unfolding openCall markCall patchCall patchDone signCall surfaceCall surfaceDone
-first-given L (Open g) = answered-number (λ o. o .number) (Marking.refused g) _ (λ i. refl) refl (openRows L g)
-first-given L (Mark g t) = answered-number (λ o. o .number) (Marking.refused g) _ (λ i. refl) refl (markRows L g t)
+first-given L (Open g) = answered-number (λ o. o .number) (Opening.refused g) _ (λ i. refl) refl (openRows L g)
+first-given L (Mark g t) = answered-number (λ o. o .number) (Marking.refused (levelAt L) t g) _ (λ i. refl) refl (markRows L g t)
 first-given L (Patch g w) = answered-number (λ o. o .number) (Patching.refused g w) _ (λ i. refl) refl (patchRows L g w)
 first-given L (Sign g b) = answered-number (λ o. o .number) (Signing.refused b) _ (λ i. refl) refl (signRows L g b)
 first-given L (Surface g b q) = answered-number (λ o. o .number) (Surfacing.refused q) _ (λ i. refl) refl (surfaceRows L g b q)
 
--- the numbers of each of the five calls' rows rise
-pub rows-rise : (L : ℕ) (c : Call) → rising 0 (table L c) ≡ true
+-- the numbers of the rows rise for each call but mark, where 24 stands at 4's place
+abbrev pub NotMark : Call → Type 0
+NotMark (Open g) = Unit {0}
+NotMark (Mark g t) = ⊥
+NotMark (Patch g w) = Unit {0}
+NotMark (Sign g b) = Unit {0}
+NotMark (Surface g b q) = Unit {0}
+
+pub rows-rise : (L : ℕ) (c : Call) → NotMark c → rising 0 (table L c) ≡ true
 unfolding openRows markRows patchRows signRows surfaceRows
-rows-rise L (Open g) = refl
-rows-rise L (Mark g t) = refl
-rows-rise L (Patch g w) = refl
-rows-rise L (Sign g b) = refl
-rows-rise L (Surface g b q) = refl
+rows-rise L (Open g) m = refl
+rows-rise L (Mark g t) m = absurd m
+rows-rise L (Patch g w) m = refl
+rows-rise L (Sign g b) m = refl
+rows-rise L (Surface g b q) m = refl
 
 -- any other number than 0 is a refusal, which keeps every buffer and returns counts of 0
 pub refusals-keep : (L : ℕ) (c : Call) → numberBy promised L c ≢ 0 → Untouched promised L c
 unfolding openCall markCall patchCall patchDone signCall surfaceCall surfaceDone
 refusals-keep L (Open g) n =
-    ap (λ (o : Marking.Outcome). o .grid) (answered-refused (λ o. o .number) (Marking.refused g) _ (λ i. refl) refl (openRows L g) n)
+    ap (λ (o : Opening.Outcome). o .grid) (answered-refused (λ o. o .number) (Opening.refused g) _ (λ i. refl) refl (openRows L g) n)
 refusals-keep L (Mark g t) n =
-    ap (λ (o : Marking.Outcome). o .grid) (answered-refused (λ o. o .number) (Marking.refused g) _ (λ i. refl) refl (markRows L g t) n)
+    let e = answered-refused (λ o. o .number) (Marking.refused (levelAt L) t g) _ (λ i. refl) refl (markRows L g t) n in
+    ap (λ (o : Marking.Outcome). o .grid) e
 refusals-keep L (Patch g w) n =
     let e = answered-refused (λ o. o .number) (Patching.refused g w) _ (λ i. refl) refl (patchRows L g w) n in (
       ap (λ (o : Patching.Outcome). o .rims) e,

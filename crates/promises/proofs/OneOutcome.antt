@@ -1,13 +1,20 @@
 -- Each call's promise allows one outcome only: one answer with its counts, and one content of every buffer. Assumes nothing.
 use mathlib.Core.Path.{_≡_, refl, sym, ap, _∙_}
+use mathlib.Core.Bool.{cond}
 use mathlib.Core.List.{List}
 use Prim.Native.Nat.{ℕ}
+use lib.Dec.{eqb}
 use lib.IntN.{ℤ}
 use Rattle.refusals.specs.declared.Answer.{Answer}
 use Rattle.refusals.specs.declared.Answer.the-variants.{Done, Refused}
 use Rattle.refusals.specs.Reasons.{answerNumber, readNumber}
 use Rattle.refusals.proofs.Reasons.{read-back}
-use Rattle.marking.specs.Outcome as Marking
+use Rattle.refusals.specs.declared.Refusal.the-variants.{BadLevel, ShortBuffer, NotNine, NoGrid, OddFace, SignsMisfit, ShortList}
+use Rattle.refusals.specs.declared.Refusal.the-variants.{WrongLength, TextForm, TooFar, BadScale}
+use Rattle.marking.specs.declared.MarkAnswer.{MarkAnswer}
+use Rattle.marking.specs.declared.MarkAnswer.the-variants as Mark
+use Rattle.marking.specs.Outcome as Opening
+use Rattle.marking.specs.Mark as Marking
 use Rattle.marking.specs.Open.{openCall}
 use Rattle.marking.specs.Mark.{markCall}
 use Rattle.patching.specs.declared.PatchAnswer.{PatchAnswer}
@@ -28,19 +35,42 @@ answer-back : (r : Answer) → readNumber (answerNumber r) Done Refused ≡ r
 answer-back Done = refl
 answer-back (Refused r) = read-back Done Refused r
 
--- ---- open and mark: the answer and the grid
-marking-one : (o : Marking.Outcome) (x y : Answer × List ℕ) → Marking.told (x .0) (x .1) ≡ o → Marking.told (y .0) (y .1) ≡ o → x ≡ y
-marking-one =
-    settled (λ x. Marking.told (x .0) (x .1)) (λ o. (readNumber (o .number) Done Refused, o .grid))
-    (λ x. ap (λ (a : Answer). (a, x .1)) (answer-back (x .0)))
-
+-- ---- open: the answer and the grid
 pub open-one : (L : ℕ) (g : List ℕ) (x y : Answer × List ℕ) →
-    Marking.told (x .0) (x .1) ≡ openCall L g → Marking.told (y .0) (y .1) ≡ openCall L g → x ≡ y
-open-one L g = marking-one (openCall L g)
+    Opening.told (x .0) (x .1) ≡ openCall L g → Opening.told (y .0) (y .1) ≡ openCall L g → x ≡ y
+open-one L g =
+    settled (λ x. Opening.told (x .0) (x .1)) (λ o. (readNumber (o .number) Done Refused, o .grid))
+    (λ x. ap (λ (a : Answer). (a, x .1)) (answer-back (x .0))) (openCall L g)
 
-pub mark-one : (L : ℕ) (g : List ℕ) (t : List ℤ) (x y : Answer × List ℕ) →
-    Marking.told (x .0) (x .1) ≡ markCall L g t → Marking.told (y .0) (y .1) ≡ markCall L g t → x ≡ y
-mark-one L g t = marking-one (markCall L g t)
+-- ---- mark: the answer with its place and axis, and the grid
+abbrev pub markTold : MarkAnswer × List ℕ → Marking.Outcome
+markTold x = Marking.told (x .0) (x .1)
+
+markRead : Marking.Outcome → MarkAnswer × List ℕ
+markRead o =
+    let k = o .number in
+    (cond (eqb k 4) (Mark.Below (o .place) (o .axis)) (cond (eqb k 24) (Mark.Above (o .place) (o .axis)) (readNumber k Mark.Done Mark.Refused)), o .grid)
+
+mark-back : (r : MarkAnswer) (g : List ℕ) → markRead (Marking.told r g) ≡ (r, g)
+unfolding markRead
+mark-back Mark.Done g = refl
+mark-back (Mark.Refused BadLevel) g = refl
+mark-back (Mark.Refused ShortBuffer) g = refl
+mark-back (Mark.Refused NotNine) g = refl
+mark-back (Mark.Refused NoGrid) g = refl
+mark-back (Mark.Refused OddFace) g = refl
+mark-back (Mark.Refused SignsMisfit) g = refl
+mark-back (Mark.Refused ShortList) g = refl
+mark-back (Mark.Refused WrongLength) g = refl
+mark-back (Mark.Refused TextForm) g = refl
+mark-back (Mark.Refused TooFar) g = refl
+mark-back (Mark.Refused BadScale) g = refl
+mark-back (Mark.Below p a) g = refl
+mark-back (Mark.Above p a) g = refl
+
+pub mark-one : (L : ℕ) (g : List ℕ) (t : List ℤ) (x y : MarkAnswer × List ℕ) →
+    markTold x ≡ markCall L g t → markTold y ≡ markCall L g t → x ≡ y
+mark-one L g t = settled markTold markRead (λ z. mark-back (z .0) (z .1)) (markCall L g t)
 
 -- ---- patch: the answer, the grid and the work buffer
 abbrev pub patchTold : PatchAnswer × List ℕ × List ℕ → Patching.Outcome

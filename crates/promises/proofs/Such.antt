@@ -16,8 +16,9 @@ use Rattle.rules.proofs.Bits.{eqb-yes, eqb→}
 use Rattle.lattice.specs.Levels.{levelOf}
 use Rattle.refusals.specs.Columns.{badLevel, levelAt}
 use Rattle.marking.specs.Open.{openRows, openCall}
+use Rattle.marking.specs.Outcome as Opening
+use Rattle.marking.specs.Mark as Marking
 use Rattle.marking.specs.Mark.{markCall}
-use Rattle.marking.specs.Outcome as Marking
 use Rattle.patching.specs.Call as Patching
 use Rattle.patching.specs.Call.{patchCall, patchRows, patchDone}
 use Rattle.signing.specs.Call as Signing
@@ -115,8 +116,8 @@ number-kept number refused named o = go (eqb (number o) 0)
 
 same-number : (L : ℕ) (c : Call) → numberBy wiping L c ≡ numberBy promised L c
 unfolding wiping
-same-number L (Open g) = number-kept (λ o. o .number) (Marking.refused (wiped g)) (λ k. refl) (openCall L g)
-same-number L (Mark g t) = number-kept (λ o. o .number) (Marking.refused (wiped g)) (λ k. refl) (markCall L g t)
+same-number L (Open g) = number-kept (λ o. o .number) (Opening.refused (wiped g)) (λ k. refl) (openCall L g)
+same-number L (Mark g t) = number-kept (λ o. o .number) (Marking.refused (levelAt L) t (wiped g)) (λ k. refl) (markCall L g t)
 same-number L (Patch g w) = number-kept (λ o. o .number) (Patching.refused (wiped g) (wiped w)) (λ k. refl) (patchCall L g w)
 same-number L (Sign g b) = number-kept (λ o. o .number) (Signing.refused (wiped b)) (λ k. refl) (signCall L g b)
 same-number L (Surface g b q) = number-kept (λ o. o .number) (Surfacing.refused (wiped q)) (λ k. refl) (surfaceCall L g b q)

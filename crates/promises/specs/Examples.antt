@@ -15,7 +15,7 @@ use Rattle.rules.specs.Grid as Grid
 use Rattle.rules.specs.Rims as Rims
 use Rattle.rules.specs.Signs as Signs
 use Rattle.rules.specs.Examples as Drawn
-use Rattle.marking.specs.Outcome as Marking
+use Rattle.marking.specs.Mark as Marking
 use Rattle.marking.specs.Open.{openCall}
 use Rattle.marking.specs.Mark.{markCall}
 use Rattle.patching.specs.Call as Patching

@@ -17,9 +17,9 @@ use Rattle.rules.specs.Rims.{boxOf, rims}
 use Rattle.rules.specs.Patch.{patched, flipCount}
 use Rattle.rules.specs.Condition.{Route}
 use Rattle.rules.specs.Signs.{inside}
-use Rattle.marking.specs.Outcome.{Outcome as Marking}
+use Rattle.marking.specs.Outcome.{Outcome as Opening}
 use Rattle.marking.specs.Open.{openCall}
-use Rattle.marking.specs.Mark.{markCall}
+use Rattle.marking.specs.Mark.{Outcome as Marking, markCall}
 use Rattle.patching.specs.Call.{Outcome as Patching, patchCall}
 use Rattle.signing.specs.Call.{Outcome as Signing, signCall}
 use Rattle.surfacing.specs.Call.{Outcome as Surfacing, surfaceCall}
@@ -28,7 +28,7 @@ use Rattle.promises.specs.Table.{cells, pointsAt, Call, Open, Mark, Patc
 
 -- a stage: the outcome of each of the five calls, whatever level and buffers it is lent
 pub record Stage : Type 0 where
-  pub opens : ℕ → List ℕ → Marking
+  pub opens : ℕ → List ℕ → Opening
   pub marks : ℕ → List ℕ → List ℤ → Marking
   pub patches : ℕ → List ℕ → List ℕ → Patching
   pub signs : ℕ → List ℕ → List ℕ → Signing

@@ -14,8 +14,9 @@ use Rattle.rules.specs.Lattice.{Edge, Face, Set, isIn, setOf, symdiff, places}
 use Rattle.rules.specs.Grid.{marks, bytes}
 use Rattle.rules.specs.Rims.{rims}
 use Rattle.rules.specs.Patch.{patchRim, patched, flipCount}
-use Rattle.marking.specs.Outcome as Marking
+use Rattle.marking.specs.Outcome as Opening
 use Rattle.marking.specs.Open.{openCall}
+use Rattle.marking.specs.Mark as Marking
 use Rattle.marking.specs.Mark.{markCall}
 use Rattle.patching.specs.Call as Patching
 use Rattle.patching.specs.Call.{patchCall}
@@ -23,6 +24,7 @@ use Rattle.signing.specs.Call as Signing
 use Rattle.signing.specs.Call.{signCall}
 use Rattle.surfacing.specs.Call as Surfacing
 use Rattle.surfacing.specs.Call.{surfaceCall}
+use Rattle.refusals.specs.Columns.{levelAt}
 use Rattle.promises.specs.Table.{cells, pointsAt, Call, Open, Mark, Patch, Sign, Surface}
 use Rattle.promises.specs.Stage.{Stage, numberBy, Untouched, Done, marksAfter}
 
@@ -86,8 +88,8 @@ pub record Misflips (s : Stage) : Type 0 where
 -- one that refuses everything, each call by some number
 unfoldable pub refusing : (ℕ → Call → ℕ) → Stage
 refusing f = record {
-  opens = λ L g. Marking.refused g (f L (Open g));
-  marks = λ L g t. Marking.refused g (f L (Mark g t));
+  opens = λ L g. Opening.refused g (f L (Open g));
+  marks = λ L g t. Marking.refused (levelAt L) t g (f L (Mark g t));
   patches = λ L g w. Patching.refused g w (f L (Patch g w));
   signs = λ L g b. Signing.refused b (f L (Sign g b));
   surfaces = λ L g b q. Surfacing.refused q (f L (Surface g b q));
@@ -145,8 +147,8 @@ module _ {O : Type 0} where
 -- one that gives the right numbers, and wipes its buffers where it refuses
 unfoldable pub wiping : Stage
 wiping = record {
-  opens = λ L g. refusedAs (λ o. o .number) (Marking.refused (wiped g)) (openCall L g);
-  marks = λ L g t. refusedAs (λ o. o .number) (Marking.refused (wiped g)) (markCall L g t);
+  opens = λ L g. refusedAs (λ o. o .number) (Opening.refused (wiped g)) (openCall L g);
+  marks = λ L g t. refusedAs (λ o. o .number) (Marking.refused (levelAt L) t (wiped g)) (markCall L g t);
   patches = λ L g w. refusedAs (λ o. o .number) (Patching.refused (wiped g) (wiped w)) (patchCall L g w);
   signs = λ L g b. refusedAs (λ o. o .number) (Signing.refused (wiped b)) (signCall L g b);
   surfaces = λ L g b q. refusedAs (λ o. o .number) (Surfacing.refused (wiped q)) (surfaceCall L g b q);

@@ -30,6 +30,18 @@ answered-both P refused done r d (x ∷ l) = go (x .so) (answered-both P refused
     go true h = r (x .number)
     go false h = h
 
+-- what is read of the outcome, row by row
+pub answered-on : {O A : Type 0} (part : O → A) (refused : ℕ → O) (done : O) (rows : List Row) →
+    part (answered rows refused done) ≡ answered rows (λ k. part (refused k)) (part done)
+answered-on part refused done [] = refl
+answered-on part refused done (r ∷ l) = go (r .so) (answered-on part refused done l)
+  where
+    go : (b : Bool) → part (answered l refused done) ≡ answered l (λ k. part (refused k)) (part done) →
+        part (cond b (refused (r .number)) (answered l refused done))
+        ≡ cond b (part (refused (r .number))) (answered l (λ k. part (refused k)) (part done))
+    go true h = refl
+    go false h = h
+
 module _ {O A : Type 0} (part : O → A) (refused : ℕ → O) (done : O) (kept : A) (same : (k : ℕ) → part (refused k) ≡ kept) where
   -- a part of the outcome that every refusal keeps: changed where none applies
   pub answered-part : (rows : List Row) → part (answered rows refused done) ≡ cond (noneOf rows) (part done) kept

@@ -3,14 +3,13 @@ use mathlib.Core.Path.{_≡_, refl, sym, ap, _∙_}
 use mathlib.Core.Bool.{Bool, true, false, true≢false}
 use Prim.Native.Nat.{ℕ}
 use Rattle.refusals.specs.declared.Refusal.{Refusal}
-use Rattle.refusals.specs.declared.Refusal.the-variants.{BadLevel, ShortBuffer, NotNine, OutOfRange, NoGrid, OddFace, SignsMisfit, ShortList, WrongLength, TextForm, TooFar, BadScale}
+use Rattle.refusals.specs.declared.Refusal.the-variants.{BadLevel, ShortBuffer, NotNine, NoGrid, OddFace, SignsMisfit, ShortList, WrongLength, TextForm, TooFar, BadScale}
 use Rattle.refusals.specs.Reasons.{numberOf, readNumber}
 
 pub read-back : {A : Type 0} (done : A) (refused : Refusal → A) (r : Refusal) → readNumber (numberOf r) done refused ≡ refused r
 read-back done refused BadLevel = refl
 read-back done refused ShortBuffer = refl
 read-back done refused NotNine = refl
-read-back done refused OutOfRange = refl
 read-back done refused NoGrid = refl
 read-back done refused OddFace = refl
 read-back done refused SignsMisfit = refl

@@ -6,13 +6,12 @@ use lib.Dec.{eqb}
 use Rattle.refusals.specs.declared.Answer.{Answer}
 use Rattle.refusals.specs.declared.Answer.the-variants.{Done, Refused}
 use Rattle.refusals.specs.declared.Refusal.{Refusal}
-use Rattle.refusals.specs.declared.Refusal.the-variants.{BadLevel, ShortBuffer, NotNine, OutOfRange, NoGrid, OddFace, SignsMisfit, ShortList, WrongLength, TextForm, TooFar, BadScale}
+use Rattle.refusals.specs.declared.Refusal.the-variants.{BadLevel, ShortBuffer, NotNine, NoGrid, OddFace, SignsMisfit, ShortList, WrongLength, TextForm, TooFar, BadScale}
 
 abbrev pub numberOf : Refusal → ℕ
 numberOf BadLevel = 1
 numberOf ShortBuffer = 2
 numberOf NotNine = 3
-numberOf OutOfRange = 4
 numberOf NoGrid = 5
 numberOf OddFace = 6
 numberOf SignsMisfit = 7
@@ -30,7 +29,7 @@ answerNumber (Refused r) = numberOf r
 -- all of them
 abbrev pub refusals : List Refusal
 refusals =
-    BadLevel ∷ ShortBuffer ∷ NotNine ∷ OutOfRange ∷ NoGrid ∷ OddFace ∷ SignsMisfit ∷ ShortList
+    BadLevel ∷ ShortBuffer ∷ NotNine ∷ NoGrid ∷ OddFace ∷ SignsMisfit ∷ ShortList
     ∷ WrongLength ∷ TextForm ∷ TooFar ∷ BadScale ∷ []
 
 -- the refusal of a number

@@ -1,12 +1,13 @@
 // The calls as C functions, for the slicer to link: an answer is its number, and counts go behind references. Each promise is
 // that of the call it hands on to, read the same way: number, counts and every buffer, for all inputs.
+use marking::MarkAnswer;
 use patching::PatchAnswer;
 use stl_reading::ReadAnswer;
 use surfacing::SurfaceAnswer;
 ghost use mathlib.Core.Path.{_≡_};
-ghost use Rattle.marking.specs.Outcome.{Outcome as MarkOutcome};
+ghost use Rattle.marking.specs.Outcome.{Outcome as OpenOutcome};
 ghost use Rattle.marking.specs.Open.{openCall};
-ghost use Rattle.marking.specs.Mark.{markCall};
+ghost use Rattle.marking.specs.Mark.{Outcome as MarkOutcome, markCall};
 ghost use Rattle.patching.specs.Call.{Outcome as PatchOutcome, patchCall};
 ghost use Rattle.signing.specs.Call.{Outcome as SignOutcome, signCall};
 ghost use Rattle.surfacing.specs.Call.{Outcome as SurfaceOutcome, surfaceCall};
@@ -15,17 +16,39 @@ ghost use Rattle.stl_reading.specs.Call.{Outcome as ReadOutcome, readCall};
 // Open (level, grid): the P bytes become 0.
 #[no_mangle]
 pub extern "C" fn omphirun_open(level: u32, grid: &mut [u8]) -> u32
-    ensures { λ r. ⌜ _≡_ {A = MarkOutcome} (record { number = r; grid = now (grid .exit) }) (openCall level (now (grid .entry))) ⌝ }
+    ensures { λ r. ⌜ _≡_ {A = OpenOutcome} (record { number = r; grid = now (grid .exit) }) (openCall level (now (grid .entry))) ⌝ }
 {
     marking::open(level, grid).number()
 }
 
-// Mark (level, grid, triangle as nine i32): the marks of edges met are added; none is removed.
+// Mark (level, grid, triangle as nine i32): the marks of edges met are added; none is removed. Of the first bad coordinate the place,
+// 0 to 8, and the axis, 0 to 2, are returned; both are 0 in other answers.
 #[no_mangle]
-pub extern "C" fn omphirun_mark(level: u32, grid: &mut [u8], triangle: &[i32]) -> u32
-    ensures { λ r. ⌜ _≡_ {A = MarkOutcome} (record { number = r; grid = now (grid .exit) }) (markCall level (now (grid .entry)) (now (triangle .entry))) ⌝ }
+pub extern "C" fn omphirun_mark(
+    level: u32,
+    grid: &mut [u8],
+    triangle: &[i32],
+    place: &mut u32,
+    axis: &mut u32,
+) -> u32
+    ensures { λ r. ⌜ _≡_ {A = MarkOutcome} (record { number = r; place = now (place .exit); axis = now (axis .exit); grid = now (grid .exit) }) (markCall level (now (grid .entry)) (now (triangle .entry))) ⌝ }
 {
-    marking::mark(level, grid, triangle).number()
+    *place = 0;
+    *axis = 0;
+    match marking::mark(level, grid, triangle) {
+        MarkAnswer::Done => 0,
+        MarkAnswer::Refused(why) => why.number(),
+        MarkAnswer::Below { place: p, axis: a } => {
+            *place = p;
+            *axis = a;
+            4
+        }
+        MarkAnswer::Above { place: p, axis: a } => {
+            *place = p;
+            *axis = a;
+            24
+        }
+    }
 }
 
 // Patch (level, grid, work buffer): the grid is patched, and the number of rims and of flips is returned.

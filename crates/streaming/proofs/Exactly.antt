@@ -22,8 +22,10 @@ use Rattle.refusals.proofs.Answered.{answered-number}
 use Rattle.refusals.proofs.First.{first-exactly}
 use Rattle.refusals.proofs.Levels.{good-number}
 use Rattle.marking.specs.Ranges.{allInRange, triangleOf}
+use Rattle.marking.specs.OutOfRange.{badOne, firstBelow, firstAbove, outNumber}
 use Rattle.marking.specs.Met.{marked as markedBy}
 use Rattle.marking.specs.Open.{openRows, openCall}
+use Rattle.marking.proofs.OutOfRange.{out-some, out-rows}
 use Rattle.patching.specs.Call.{patchDone}
 use Rattle.signing.proofs.Rows.{signs-length}
 use Rattle.surfacing.specs.Call.{Outcome as Surfacing, shortList, refused, surfaceDone, listed, surfaceCall}
@@ -93,9 +95,10 @@ module _ (l : Level) where
     unfolding surfaced
     says-closed = rw (closed-is l g done (surfaced (numberOf l) t), sym number-is) (says-unless (surfaceCall (numberOf l) h s lentList .number) _ _)
 
-  -- ---- the triangles: rows 9, 3 and 4
+  -- ---- the triangles: rows 9, 3, 4 and 24
   pub rows-some : (more : ℕ) (s g : List ℕ) → (length s ≡ 0 → ⊥) → triangleRows l (suc more) s g
-      ≡ 3 when ltb (length s) 36 ∷ 4 when not (allInRange l (numbers s)) ∷ triangleRows l more (drop 36 s) (markedBy l (triangleOf (numbers s)) g)
+      ≡ 3 when ltb (length s) 36 ∷ 4 when firstBelow l (numbers s) ∷ 24 when firstAbove l (numbers s)
+      ∷ triangleRows l more (drop 36 s) (markedBy l (triangleOf (numbers s)) g)
   unfolding triangleRows
   rows-some more s g h = rw (ne-eqb (length s) 0 h)
 
@@ -111,8 +114,11 @@ module _ (l : Level) where
 
     in-range : 36 ≤ length s → (b : Bool) → allInRange l (numbers s) ≡ b → Told (suc more) s t g
     in-range k false e =
-        rw (rows-some more s g not-none, le-ltb (length s) 36 k, e, taken-refused (numberOf l) t g s some more _ (sym (mark-out l g r (numbers s) (numbers-nine s k) e)) (λ z. omega arith))
-        (says-refusal 4 (λ z. omega arith))
+        let some-number = out-some l (badOne l (numbers s)) in
+        let behind = firstOf (triangleRows l more (drop 36 s) (markedBy l (triangleOf (numbers s)) g)) in
+        rw (rows-some more s g not-none, le-ltb (length s) 36 k, sym (out-rows l (λ j. j) behind (numbers s) e))
+        (rw (taken-refused (numberOf l) t g s some more _ (sym (mark-out l g r (numbers s) (numbers-nine s k) e)) some-number)
+        (says-refusal (outNumber l (badOne l (numbers s))) some-number))
     in-range k true e =
         rw (rows-some more s g not-none, le-ltb (length s) 36 k, e, taken-one (numberOf l) t g s some more _ (sym (mark-in l g r (numbers s) (numbers-nine s k) e)) refl)
         (rest (markedBy l (triangleOf (numbers s)) g) (ready-after l g (numbers s) r (numbers-nine s k) e))

@@ -17,8 +17,10 @@ use Rattle.refusals.specs.Rows.{_when_, firstOf}
 use Rattle.refusals.specs.Columns.{badLevel, levelAt}
 use Rattle.refusals.proofs.First.{first-exactly}
 use Rattle.marking.specs.Ranges.{allInRange, triangleOf}
+use Rattle.marking.specs.OutOfRange.{firstBelow, firstAbove}
 use Rattle.marking.specs.Met.{marked}
 use Rattle.marking.specs.Open.{opened}
+use Rattle.marking.proofs.OutOfRange.{none-told}
 use Rattle.surfacing.specs.Call.{shortList}
 use Rattle.text.specs.Listing.{refusedLine}
 use Rattle.text.specs.Words.{numbers}
@@ -50,17 +52,18 @@ module _ (l : Level) where
     abbrev rest : ℕ
     rest = firstOf (triangleRows l more (drop 36 s) (marked l (triangleOf (numbers s)) g))
 
-    there-next : (rest ≡ 9 → Behind more (drop 36 s)) → (b d : Bool) → ltb (length s) 36 ≡ b → allInRange l (numbers s) ≡ d
-        → cond b 3 (cond (not d) 4 rest) ≡ 9 → Behind (suc more) s
-    there-next f true d e i k = absurd (omega arith)
-    there-next f false false e i k = absurd (omega arith)
-    there-next f false true e i k =
+    there-next : (rest ≡ 9 → Behind more (drop 36 s)) → (b x y : Bool) → ltb (length s) 36 ≡ b → firstBelow l (numbers s) ≡ x
+        → firstAbove l (numbers s) ≡ y → cond b 3 (cond x 4 (cond y 24 rest)) ≡ 9 → Behind (suc more) s
+    there-next f true x y e i j k = absurd (omega arith)
+    there-next f false true y e i j k = absurd (omega arith)
+    there-next f false false true e i j k = absurd (omega arith)
+    there-next f false false false e i j k =
         let m = f k in
         let h = ltb-false (length s) 36 e in
         (omega (arith, m .0, length-drop 36 s), each)
       where
         each : (t : ℕ) → t < suc more → allInRange l (numbers (drop (36 * t) s)) ≡ true
-        each zero h = i
+        each zero h = none-told l (numbers s) i j
         each (suc t) h = rw (further s t) (f k .1 t (omega arith))
 
   nine→ : (more : ℕ) (s g : List ℕ) → firstOf (triangleRows l more s g) ≡ 9 → Behind more s
@@ -75,7 +78,7 @@ module _ (l : Level) where
       go : (b : Bool) → eqb (length s) 0 ≡ b → (rest more s g ≡ 9 → Behind more (drop 36 s)) → Behind (suc more) s
       go true f r = absurd (never g (rw f at e))
       go false f r =
-          there-next more s g r (ltb (length s) 36) (allInRange l (numbers s)) refl refl
+          there-next more s g r (ltb (length s) 36) (firstBelow l (numbers s)) (firstAbove l (numbers s)) refl refl refl
           (rw (rows-some l more s g (eqb-false (length s) 0 f)) at e)
 
   nine← : (more : ℕ) (s g : List ℕ) → Behind more s → firstOf (triangleRows l more s g) ≡ 9

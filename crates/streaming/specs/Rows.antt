@@ -12,6 +12,7 @@ use Rattle.lattice.specs.Levels.{cellsOf}
 use Rattle.refusals.specs.Rows.{Row, _when_}
 use Rattle.refusals.specs.Columns.{badLevel, levelAt}
 use Rattle.marking.specs.Ranges.{allInRange, triangleOf}
+use Rattle.marking.specs.OutOfRange.{firstBelow, firstAbove}
 use Rattle.marking.specs.Met.{marked}
 use Rattle.marking.specs.Open.{opened}
 use Rattle.surfacing.specs.Call.{shortList}
@@ -23,13 +24,14 @@ use Rattle.reporting.specs.Report.{lentBytes, lentList}
 abbrev pub surfaceRows : Level → List ℕ → List Row
 surfaceRows l g = 8 when shortList (cellsOf l) (patched (cellsOf l) (marks (cellsOf l) g)) lentList ∷ []
 
--- any byte after the last triangle that may come is 9, an unfinished triangle 3, a coordinate out of the level's range 4; each
+-- any byte after the last triangle that may come is 9, an unfinished triangle 3, a coordinate out of the level's range 4 or 24; each
 -- triangle before them is marked
 unfoldable pub triangleRows : Level → ℕ → List ℕ → List ℕ → List Row
 triangleRows l zero s g = 9 when not (eqb (length s) 0) ∷ surfaceRows l g
 triangleRows l (suc more) s g =
     let rest = triangleRows l more (drop 36 s) (marked l (triangleOf (numbers s)) g) in
-    cond (eqb (length s) 0) (surfaceRows l g) (3 when ltb (length s) 36 ∷ 4 when not (allInRange l (numbers s)) ∷ rest)
+    cond (eqb (length s) 0) (surfaceRows l g)
+    (3 when ltb (length s) 36 ∷ 4 when firstBelow l (numbers s) ∷ 24 when firstAbove l (numbers s) ∷ rest)
 
 -- a missing level byte is 1, and so is a bad one
 unfoldable pub streamRows : List ℕ → List Row

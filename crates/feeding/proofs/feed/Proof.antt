@@ -1,11 +1,11 @@
 -- `feed` meets its contract. Assumes nothing.
-use mathlib.Core.Path.{_≡_, refl, ap, _∙_}
+use mathlib.Core.Path.{_≡_, refl, sym, ap, _∙_}
 use mathlib.Core.List.{List, [], _++_}
 use Prim.Native.Nat.{ℕ, _+_, _-_, _/_, _%_, _≤_, _<_}
 use native.Mathlib.Omega.{arith}
 use lib.ListN.{length, drop, drop-of-length-le}
 use Rattle.lattice.specs.Levels.{numberOf}
-use Rattle.feeding.specs.Taken.{taken}
+use Rattle.feeding.specs.Taken.{refusedBy, taken}
 use Rattle.feeding.specs.Feed.{Ready, Whole}
 use Rattle.feeding.proofs.Taken.{block-full, block-short, block-refused, block-next}
 use Rattle.feeding.proofs.feed.Statement.{statement}
@@ -74,7 +74,7 @@ returns-3 c =
     record {
       ready = m .ensures .ready;
       counted = tt;
-      goes-on = λ rest w. l .inv .6 rest w ∙ block-refused (a .l) (l .triangles) _ (a .block .now) rest (l .at) (c .before .before .before .before .before .before .before .loop-test .taken) f (c .before .before .before .before .before .if2 .left) _ (m .ensures .is-mark) (c .if3 .taken);
+      goes-on = λ rest w. l .inv .6 rest w ∙ block-refused (a .l) (l .triangles) _ (a .block .now) rest (l .at) (c .before .before .before .before .before .before .before .loop-test .taken) f (c .before .before .before .before .before .if2 .left) _ refl (λ z. c .if3 .taken (m .ensures .number-is ∙ z)) ∙ ap refusedBy (sym (m .ensures .number-is));
     }
 
 add-triangles : tie.Need-add-triangles Inv-loop μ-loop
@@ -98,7 +98,7 @@ loop-again c =
       omega arith,
       m .kept .1 .0 ∙ l .inv .4,
       m .ensures .ready,
-      λ rest w. l .inv .6 rest w ∙ block-next (a .l) (l .triangles) _ (a .block .now) rest (l .at) (c .before .before .before .before .before .before .before .loop-test .taken) f (c .before .before .before .before .before .if2 .left) _ (m .ensures .is-mark) (c .if3 .left),
+      λ rest w. l .inv .6 rest w ∙ block-next (a .l) (l .triangles) _ (a .block .now) rest (l .at) (c .before .before .before .before .before .before .before .loop-test .taken) f (c .before .before .before .before .before .if2 .left) _ refl (sym (m .ensures .number-is) ∙ c .if3 .left) ∙ ap (λ (g : List ℕ). taken (numberOf (a .l)) (100000 - (l .triangles + 1)) (drop (l .at + 36) (a .block .now) ++ rest) (l .triangles + 1) g) (sym (m .ensures .grid-is)),
     )
 
 same-length-4 : tie.Need-same-length-4 Inv-loop μ-loop

@@ -1,33 +1,27 @@
 -- `mark_at` meets its contract. Assumes nothing.
-use mathlib.Core.Path.{_≡_, sym, ap, _∙_}
-use mathlib.Core.Bool.{Bool, true, false, not}
-use mathlib.Core.List.{List}
-use Prim.Native.Nat.{ℕ}
+use mathlib.Core.Path.{_≡_, refl, sym, ap, _∙_}
+use mathlib.Core.Bool.{true, false}
+use mathlib.Core.List.{List, []}
+use Prim.Native.Nat.{ℕ, _≤_, _<_}
 use native.Mathlib.Omega.{arith}
-use lib.IntN.{ℤ}
-use lib.ListN.{length, drop, length-drop}
+use lib.IntN.{ℤ, pos}
+use lib.ListN.{length, getD, drop, length-drop}
 use borrow.Author.Needs.{needs}
-use borrow.Author.Tests.{not-true, not-false}
+use mir.Syntax.{w32}
 use Rattle.lattice.specs.declared.level.Level.{Level}
 use Rattle.triangles.specs.declared.Triangle.{Triangle}
-use Rattle.marking.specs.Outcome.{done}
 use Rattle.marking.specs.Ranges.{allInRange, triangleOf, TriangleWithin}
+use Rattle.marking.specs.OutOfRange.{firstOut, badOne, outNumber}
 use Rattle.marking.specs.Met.{marked}
+use Rattle.marking.specs.Mark.{Outcome}
+use Rattle.marking.proofs.Signed.{Plain}
 use Rattle.marking.proofs.Ranges.{triangle-within}
+use Rattle.marking.proofs.OutOfRange.{some-out, none-out}
 use Rattle.text.specs.Words.{numbers}
 use Rattle.text.proofs.Numbers.{numbers-nine}
 use Rattle.feeding.proofs.Marked.{mark-out, mark-in, ready-after}
 use Rattle.feeding.proofs.mark_at.Statement.{statement}
 use Rattle.feeding.proofs.mark_at.Tie as tie
-
-numbers-at-requires : tie.Need-numbers-at-requires
-numbers-at-requires c κs = search needs
-
-slice-aggregate-all-in-range : tie.Need-slice-aggregate-all-in-range
-slice-aggregate-all-in-range c = search needs
-
-all-in-range-requires : tie.Need-all-in-range-requires
-all-in-range-requires c κs = search needs
 
 -- the bytes of the triangle, and its nine numbers
 abbrev bytesAt : tie.Start → List ℕ
@@ -36,24 +30,66 @@ bytesAt c = drop (c .args .at) (c .args .block .now)
 nine : (c : tie.Start) → length (numbers (bytesAt c)) ≡ 9
 nine c = numbers-nine (bytesAt c) (omega (arith, length-drop (c .args .at) (c .args .block .now), c .pre .0))
 
+-- numbers as they were read, and the place that was looked for
+module _ (l : Level) (s : List ℕ) (c : List ℤ) (k : ℕ) (n : length (numbers s) ≡ 9) (e : c ≡ numbers s) (f : k ≡ firstOut l c) where
+  place-is : k ≡ firstOut l (numbers s)
+  place-is = f ∙ ap (firstOut l) e
+
+  -- one is out, and the number that it is refused by
+  out : k < 9 → allInRange l (numbers s) ≡ false
+  out h = some-out l (numbers s) (omega (arith, n, place-is))
+
+  out-is : outNumber l (getD c k (pos 0)) ≡ outNumber l (badOne l (numbers s))
+  out-is = λ i. outNumber l (getD (e i) (place-is i) (pos 0))
+
+  -- none is out, and their triangle
+  record Passed (t : Triangle) : Type 0 where
+    fits : allInRange l (numbers s) ≡ true
+    is : t ≡ triangleOf (numbers s)
+    lies : TriangleWithin l t
+
+  passed : (t : Triangle) → 9 ≤ k → t ≡ triangleOf c → Passed t
+  passed t h g =
+      let b = none-out l (numbers s) (omega (arith, n, place-is)) in
+      let q = g ∙ ap triangleOf e in
+      record { fits = b; is = q; lies = rw q (triangle-within l (numbers s) n b) }
+
+numbers-at-requires : tie.Need-numbers-at-requires
+numbers-at-requires c κs = search needs
+
+slice-aggregate-first-out : tie.Need-slice-aggregate-first-out
+slice-aggregate-first-out c = search needs
+
+first-out-requires : tie.Need-first-out-requires
+first-out-requires c κs = search needs
+
+mul-out-of-range : tie.Need-mul-out-of-range
+mul-out-of-range c = search needs
+
+array-copy-out-out-of-range : tie.Need-array-copy-out-out-of-range
+array-copy-out-out-of-range c = search needs
+
+out-of-range-requires : tie.Need-out-of-range-requires
+out-of-range-requires c κs = search needs
+
+number-requires : tie.Need-number-requires
+number-requires c κs = search needs
+
 returns : tie.Need-returns
 returns c =
-    let s = c .before .before .before .before .before .before in
-    let a = c .before .all-in-range in
-    let e = sym (ap (allInRange (s .args .l)) (c .before .before .before .numbers-at .ensures)) ∙ sym (a .ensures) ∙ not-true (a .result) (c .if1 .taken) in
-    record { is-mark = sym (mark-out (s .args .l) _ (s .pre .1) _ (nine s) e); ready = s .pre .1 }
-
--- numbers that passed the test, and their triangle
-record Passed (l : Level) (s : List ℕ) (t : Triangle) : Type 0 where
-  fits : allInRange l (numbers s) ≡ true
-  is : t ≡ triangleOf (numbers s)
-  lies : TriangleWithin l t
-
-passed : (l : Level) (s : List ℕ) (c : List ℤ) (t : Triangle) (r : Bool) → length (numbers s) ≡ 9 → c ≡ numbers s → r ≡ allInRange l c → not r ≡ false
-    → t ≡ triangleOf c → Passed l s t
-passed l s c t r k e f n g =
-    let b = sym (ap (allInRange l) e) ∙ sym f ∙ not-false r n in
-    record { fits = b; is = g ∙ ap triangleOf e; lies = rw (g ∙ ap triangleOf e) (triangle-within l (numbers s) k b) }
+    let s = c .before .before .before .before .before .before .before .before .before in
+    let n = c .before .before .before .before .before .before .numbers-at in
+    let p = c .before .before .before .before .first-out in
+    let v : Plain w32 (getD (n .result) (p .result) (pos 0)) = search needs in
+    let o = out (s .args .l) (bytesAt s) (n .result) (p .result) (nine s) (n .ensures) (p .ensures) (c .before .before .before .if1 .taken) in
+    let r = out-is (s .args .l) (bytesAt s) (n .result) (p .result) (nine s) (n .ensures) (p .ensures) in
+    let k = ap (λ (x : Outcome). x .number) (rw v at (c .before .out-of-range .ensures [])) in
+    let m = sym (mark-out (s .args .l) _ (s .pre .1) _ (nine s) o) in
+    record {
+      number-is = c .number .ensures ∙ k ∙ r ∙ ap (λ (x : Outcome). x .number) m;
+      grid-is = ap (λ (x : Outcome). x .grid) m;
+      ready = s .pre .1;
+    }
 
 slice-aggregate-triangle-of : tie.Need-slice-aggregate-triangle-of
 slice-aggregate-triangle-of c = search needs
@@ -64,7 +100,7 @@ triangle-of-requires c κs = search needs
 mark-grid-requires : tie.Need-mark-grid-requires
 mark-grid-requires c κs =
     let s = c .before .before .before .before .before .before .before .before .before in
-    let p = passed (s .args .l) (bytesAt s) _ _ _ (nine s) (c .before .before .before .before .before .before .numbers-at .ensures) (c .before .before .before .before .all-in-range .ensures) (c .before .before .before .if1 .left) (c .triangle-of .ensures) in
+    let p = passed (s .args .l) (bytesAt s) _ _ (nine s) (c .before .before .before .before .before .before .numbers-at .ensures) (c .before .before .before .before .first-out .ensures) _ (c .before .before .before .if1 .left) (c .triangle-of .ensures) in
     (p .lies, (s .pre .1 .long, s .pre .1 .grid))
 
 same-length : tie.Need-same-length
@@ -74,10 +110,12 @@ returns-2 : tie.Need-returns-2
 returns-2 c =
     let s = c .before .before .before .before .before .before .before .before .before .before .before .before in
     let m = c .before .before .mark-grid in
-    let p = passed (s .args .l) (bytesAt s) _ _ _ (nine s) (c .before .before .before .before .before .before .before .before .before .numbers-at .ensures) (c .before .before .before .before .before .before .before .all-in-range .ensures) (c .before .before .before .before .before .before .if1 .left) (c .before .before .before .triangle-of .ensures) in
+    let p = passed (s .args .l) (bytesAt s) _ _ (nine s) (c .before .before .before .before .before .before .before .before .before .numbers-at .ensures) (c .before .before .before .before .before .before .before .first-out .ensures) _ (c .before .before .before .before .before .before .if1 .left) (c .before .before .before .triangle-of .ensures) in
     let is = m .ensures ∙ ap (λ (t : Triangle). marked (s .args .l) t (s .args .grid .now)) (p .is) in
+    let o = sym (mark-in (s .args .l) _ (s .pre .1) _ (nine s) (p .fits)) in
     record {
-      is-mark = ap done is ∙ sym (mark-in (s .args .l) _ (s .pre .1) _ (nine s) (p .fits));
+      number-is = ap (λ (x : Outcome). x .number) o;
+      grid-is = is ∙ ap (λ (x : Outcome). x .grid) o;
       ready = rw is (ready-after (s .args .l) _ _ (s .pre .1) (nine s) (p .fits));
     }
 
@@ -86,8 +124,12 @@ mark-at-spec =
     tie.close
     (tie.spec
     numbers-at-requires
-    slice-aggregate-all-in-range
-    all-in-range-requires
+    slice-aggregate-first-out
+    first-out-requires
+    mul-out-of-range
+    array-copy-out-out-of-range
+    out-of-range-requires
+    number-requires
     returns
     slice-aggregate-triangle-of
     triangle-of-requires

@@ -1,20 +1,25 @@
 -- `mark` meets its contract. Assumes nothing.
 use mathlib.Core.Path.{_≡_, sym, ap, _∙_}
 use mathlib.Core.Bool.{true, false}
-use Prim.Native.Nat.{_≤_, _<_}
+use Prim.Native.Nat.{ℕ, _≤_, _<_}
+use native.Mathlib.Omega.{arith}
 use borrow.Author.Tests.{lt-ltb, le-ltb, eq-eqb, ne-eqb}
 use borrow.Author.Needs.{needs}
-use lib.ListN.{length}
+use lib.IntN.{pos}
+use lib.ListN.{length, getD}
+use mir.Syntax.{w32}
 use Rattle.rules.specs.Grid.{isGrid}
 use Rattle.lattice.specs.Levels.{cellsOf, pointsOf}
 use Rattle.lattice.proofs.LevelFacts.{cells-most}
 use Rattle.lattice.proofs.Tests.{fails, holds}
 use Rattle.refusals.specs.Columns.{badLevel, levelAt}
 use Rattle.refusals.proofs.Levels.{read-unknown, read-known}
-use Rattle.marking.specs.Outcome.{done}
 use Rattle.marking.specs.Ranges.{allInRange}
-use Rattle.marking.specs.Mark.{markRows, markCall}
+use Rattle.marking.specs.OutOfRange.{firstOut, outNumber}
+use Rattle.marking.specs.Mark.{done, refusedAt, markRows, markCall}
 use Rattle.marking.proofs.Ranges.{triangle-within}
+use Rattle.marking.proofs.OutOfRange.{some-out, none-out, out-told}
+use Rattle.marking.proofs.Signed.{Plain}
 use Rattle.marking.proofs.mark.Statement.{statement}
 use Rattle.marking.proofs.mark.Tie as tie
 
@@ -28,7 +33,7 @@ long : (c : tie.Else1) → pointsOf (c .before .before .before .l .given .0 .0) 
 long c = rw (c .before .points .ensures) at (c .if1 .left)
 
 ranged : (c : tie.Else3) → allInRange (c .before .before .before .before .before .before .l .given .0 .0) (c .before .before .before .before .before .before .before .before .before .before .args .triangle .now) ≡ true
-ranged c = holds (c .before .all-in-range .ensures) (c .if3 .left)
+ranged c = none-out (c .before .before .before .before .before .before .l .given .0 .0) (c .before .before .before .before .before .before .before .before .before .before .args .triangle .now) (omega (arith, c .before .first-out .ensures))
 
 a-grid : (c : tie.Else4) → isGrid (cellsOf (c .before .before .before .before .before .before .before .before .before .before .l .given .0 .0)) (c .before .before .before .before .before .before .before .before .before .before .before .before .before .before .args .grid .now) ≡ true
 a-grid c = holds (rw (c .before .before .before .cells .ensures) at (c .before .is-grid .ensures)) (c .if4 .left)
@@ -59,14 +64,29 @@ returns-3 : tie.Need-returns-3
 unfolding markRows markCall
 returns-3 c = simp (level-read (c .before .before) .0, level-read (c .before .before) .1, le-ltb _ _ (long (c .before)), ne-eqb _ _ (c .if2 .taken))
 
-all-in-range-requires : tie.Need-all-in-range-requires
-all-in-range-requires c κs = search needs
+first-out-requires : tie.Need-first-out-requires
+first-out-requires c κs = search needs
+
+mul-out-of-range : tie.Need-mul-out-of-range
+mul-out-of-range c = search needs
+
+shared-slice-copy-out-out-of-range : tie.Need-shared-slice-copy-out-out-of-range
+shared-slice-copy-out-out-of-range c = search needs
+
+out-of-range-requires : tie.Need-out-of-range-requires
+out-of-range-requires c κs = search needs
 
 returns-4 : tie.Need-returns-4
 unfolding markRows markCall
 returns-4 c =
-    let out = fails (c .before .all-in-range .ensures) (c .if3 .taken) in
-    simp (level-read (c .before .before .before .before) .0, level-read (c .before .before .before .before) .1, le-ltb _ _ (long (c .before .before .before)), eq-eqb _ _ (c .before .before .if2 .left), out)
+    let l = c .before .before .before .before .before .before .before .before .l .given .0 .0 in
+    let s = c .before .before .before .before .before .before .before .before .before .before .before .before in
+    let v : Plain w32 (getD (s .args .triangle .now) (c .before .before .before .first-out .result) (pos 0)) = search needs in
+    let r = rw v at (c .out-of-range .ensures (s .args .grid .now)) in
+    let e : c .before .before .before .first-out .result ≡ firstOut l (s .args .triangle .now) = c .before .before .before .first-out .ensures in
+    let out = some-out l (s .args .triangle .now) (omega (arith, e, c .before .before .if3 .taken, c .before .before .before .before .if2 .left)) in
+    simp (level-read (c .before .before .before .before .before .before) .0, level-read (c .before .before .before .before .before .before) .1, le-ltb _ _ (long (c .before .before .before .before .before)), eq-eqb _ _ (c .before .before .before .before .if2 .left))
+    (r ∙ ap (λ (k : ℕ). refusedAt (outNumber l (getD (s .args .triangle .now) k (pos 0))) k (s .args .grid .now)) e ∙ out-told l (s .args .triangle .now) (s .args .grid .now) _ out)
 
 cells-requires : tie.Need-cells-requires
 cells-requires c κs = search needs
@@ -111,7 +131,10 @@ mark-spec =
     points-requires
     returns-2
     returns-3
-    all-in-range-requires
+    first-out-requires
+    mul-out-of-range
+    shared-slice-copy-out-out-of-range
+    out-of-range-requires
     returns-4
     cells-requires
     is-grid-requires

@@ -5,10 +5,10 @@ use Rattle.marking_examples.proofs.show_nine.Statement.{statement}
 use Rattle.marking_examples.proofs.show_nine.Tie as tie
 
 abbrev Inv-loop : tie.InvT-loop
-Inv-loop name v k₀ t6 t7 k = Unit
+Inv-loop name v k₀ t6 k = Unit
 
 abbrev μ-loop : tie.MeasureT-loop
-μ-loop name v k₀ t6 t7 k = 9 - k
+μ-loop name v k₀ t6 k = 9 - k
 
 slice-aggregate-say : tie.Need-slice-aggregate-say Inv-loop μ-loop
 slice-aggregate-say c = search needs
@@ -28,14 +28,8 @@ say-requires-3 c κs = search needs
 loop-holds : tie.Need-loop-holds Inv-loop μ-loop
 loop-holds c = search needs
 
-slice-aggregate-say-count : tie.Need-slice-aggregate-say-count Inv-loop μ-loop
-slice-aggregate-say-count c = search needs
-
-number-with-requires : tie.Need-number-with-requires Inv-loop μ-loop
-number-with-requires c κs = search needs
-
-say-count-requires : tie.Need-say-count-requires Inv-loop μ-loop
-say-count-requires c κs = search needs
+say-with-requires : tie.Need-say-with-requires Inv-loop μ-loop
+say-with-requires c κs = search needs
 
 add-k : tie.Need-add-k Inv-loop μ-loop
 add-k c = search needs
@@ -67,9 +61,7 @@ show-nine-spec =
     slice-aggregate-say-2
     say-requires-3
     loop-holds
-    slice-aggregate-say-count
-    number-with-requires
-    say-count-requires
+    say-with-requires
     add-k
     loop-less
     loop-again

@@ -1,29 +1,28 @@
--- `all_in_range` meets its contract. Assumes nothing.
-use mathlib.Core.Path.{_≡_, refl, sym, ap, _∙_}
+-- `first_out` meets its contract. The loop's invariant: what is left, counted from here, comes to the place. Assumes nothing.
+use mathlib.Core.Path.{_≡_, sym, ap, _∙_}
 use mathlib.Core.Bool.{true, false}
-use Prim.Native.Nat.{_-_, _≤_}
+use Prim.Native.Nat.{_+_, _-_, _≤_}
 use native.Mathlib.Omega.{arith}
 use borrow.Author.Needs.{needs}
 use borrow.Author.Tests.{not-true, not-false}
 use lib.IntN.{pos}
 use lib.ListN.{length, getD, drop, drop-of-length-le}
 use mir.Syntax.{w32}
-use Rattle.rules.specs.Lists.{allOf}
-use Rattle.marking.proofs.Ranges.{all-fails, all-goes-on}
-use Rattle.marking.specs.Ranges.{inRange, allInRange}
+use Rattle.marking.proofs.OutOfRange.{first-here, first-later}
+use Rattle.marking.specs.Ranges.{inRange}
+use Rattle.marking.specs.OutOfRange.{firstOut}
 use Rattle.marking.proofs.Signed.{Plain}
-use Rattle.marking.proofs.range.all_in_range.Statement.{statement}
-use Rattle.marking.proofs.range.all_in_range.Tie as tie
+use Rattle.marking.proofs.range.first_out.Statement.{statement}
+use Rattle.marking.proofs.range.first_out.Tie as tie
 
 abbrev Inv-loop : tie.InvT-loop
-Inv-loop l c k₀ k = (k ≤ length c) × (allOf (inRange l) (drop k c) ≡ allInRange l c)
+Inv-loop l c k₀ k = (k ≤ length c) × (k + firstOut l (drop k c) ≡ firstOut l c)
 
 abbrev μ-loop : tie.MeasureT-loop
 μ-loop l c k₀ k = length c - k
 
 loop-holds : tie.Need-loop-holds Inv-loop μ-loop
-unfolding allInRange
-loop-holds c = (omega arith, refl)
+loop-holds c = (omega arith, omega arith)
 
 mul-in-range : tie.Need-mul-in-range Inv-loop μ-loop
 mul-in-range c = search needs
@@ -40,7 +39,7 @@ returns c =
     let s = c .before .before .before .before .before in
     let e : Plain w32 (getD (s .args .c .now) (l .k) (pos 0)) = search needs in
     let h : inRange (s .args .l) (getD (s .args .c .now) (l .k) (pos 0)) ≡ false = cc (not-true (c .before .in-range .result) (c .if1 .taken)) in
-    sym (all-fails (inRange (s .args .l)) (s .args .c .now) (pos 0) (l .k) (omega arith) h) ∙ l .inv .1
+    sym (first-here (s .args .l) (s .args .c .now) (l .k) (omega arith) h) ∙ l .inv .1
 
 add-k : tie.Need-add-k Inv-loop μ-loop
 add-k c = search needs
@@ -54,17 +53,19 @@ loop-again c =
     let s = c .before .before .before .before .before in
     let e : Plain w32 (getD (s .args .c .now) (l .k) (pos 0)) = search needs in
     let h : inRange (s .args .l) (getD (s .args .c .now) (l .k) (pos 0)) ≡ true = cc (not-false (c .before .in-range .result) (c .if1 .left)) in
-    (omega arith, sym (all-goes-on (inRange (s .args .l)) (s .args .c .now) (pos 0) (l .k) (omega arith) h) ∙ l .inv .1)
+    (omega arith, sym (first-later (s .args .l) (s .args .c .now) (l .k) (omega arith) h) ∙ l .inv .1)
 
 returns-2 : tie.Need-returns-2 Inv-loop μ-loop
+unfolding firstOut
 returns-2 c =
     let l = c .before .loop in
     let s = c .before .before in
     let k : length (s .args .c .now) ≤ l .k = omega arith in
-    sym (ap (allOf (inRange (s .args .l))) (drop-of-length-le (s .args .c .now) k)) ∙ l .inv .1
+    let e : firstOut (s .args .l) (drop (l .k) (s .args .c .now)) ≡ 0 = ap (firstOut (s .args .l)) (drop-of-length-le (s .args .c .now) k) in
+    omega (arith, l .inv .1)
 
-pub all-in-range-spec : {M : Type 1} → statement M
-all-in-range-spec =
+pub first-out-spec : {M : Type 1} → statement M
+first-out-spec =
     tie.close
     (tie.spec
     Inv-loop
