@@ -160,11 +160,12 @@ static void time_stream(const char *path)
     triangle_count = 0;
     while (fread(bytes, 1, 36, file) == 36) {
         int32_t triangle[9];
+        uint32_t place, axis;
         for (int c = 0; c < 9; c++)
             triangle[c] = (int32_t)(bytes[4 * c] | bytes[4 * c + 1] << 8 | bytes[4 * c + 2] << 16 | (uint32_t)bytes[4 * c + 3] << 24);
         if (triangle_count < MOST_TIMED)
             memcpy(triangles[triangle_count++], triangle, sizeof triangle);
-        hold(reference_mark_near(level, came, sizeof came, triangle, 9));
+        hold(reference_mark_near(level, came, sizeof came, triangle, 9, &place, &axis));
     }
     fclose(file);
     time_mark(input);

@@ -98,25 +98,91 @@ static void add_marks_everywhere(const struct measures *m, uint8_t *grid, const 
     }
 }
 
-/* The edges that reach into the bounding box: the unit vectors separate all others. */
+/* ---- Only what the bounding box touches, and nothing worked out twice. */
+
+enum { LATER = AXES - 3 };
+
+/* A triangle on its way through the cells at whose lowest corner its bounding box touches an edge: the first and the last grid plane
+   of the box on each axis, and those of the ten axes behind the unit vectors that an edge has reached so far. Each is kept times S,
+   so that its dot product with (i,j,k) is that with the point's place. */
+struct passage {
+    struct vector corner[3];
+    int64_t s;
+    int first[3], last[3], built;
+    struct axis axes[LATER];
+};
+
+static struct vector later_axis(const struct vector corner[3], int d)
+{
+    struct vector a = corner[0], b = corner[1], c = corner[2];
+    if (d == 0)
+        return cross(minus(b, a), minus(c, a));
+    struct vector side = minus(corner[d % 3], corner[(d + 2) % 3]);
+    switch ((d - 1) / 3) {
+    case X:
+        return (struct vector){0, -side.z, side.y};
+    case Y:
+        return (struct vector){side.z, 0, -side.x};
+    default:
+        return (struct vector){-side.y, side.x, 0};
+    }
+}
+
+static void build_axis(struct passage *t)
+{
+    struct vector v = later_axis(t->corner, t->built);
+    struct axis *axis = &t->axes[t->built++];
+    axis->triangle = span_of_three(dot(v, t->corner[0]), dot(v, t->corner[1]), dot(v, t->corner[2]));
+    axis->along = (struct vector){v.x * t->s, v.y * t->s, v.z * t->s};
+}
+
+/* The edges left at point p that the axis does not separate: 1 for x, 2 for y, 4 for z. All three begin at p. */
+static int not_separated(const struct axis *axis, struct vector p, int left)
+{
+    struct vector v = axis->along;
+    int64_t low = axis->triangle.low, high = axis->triangle.high, from = dot(v, p);
+    if (high < from)
+        return left & ~((high < from + v.x) | (high < from + v.y) << 1 | (high < from + v.z) << 2);
+    if (from < low)
+        return left & ~((from + v.x < low) | (from + v.y < low) << 1 | (from + v.z < low) << 2);
+    return left;
+}
+
+/* The edges at the lowest corner of cell (i,j,k) that are met. Below the first plane on an axis only an edge along it reaches the box. */
+static int met_at(struct passage *t, int i, int j, int k, int left)
+{
+    struct vector p = {i, j, k};
+    left &= i < t->first[X] ? 1 : 7;
+    left &= j < t->first[Y] ? 2 : 7;
+    left &= k < t->first[Z] ? 4 : 7;
+    for (int d = 0; d < LATER && left; d++) {
+        if (d == t->built)
+            build_axis(t);
+        left = not_separated(&t->axes[d], p, left);
+    }
+    return left;
+}
+
 void reference_add_marks(const struct measures *m, uint8_t *grid, const int32_t *triangle)
 {
-    int first[3], last[3], reached = 0;
+    struct passage t = {.s = m->s};
+    int planes = 0;
     for (int d = X; d <= Z; d++) {
         struct span s = span_of_three(triangle[d], triangle[3 + d], triangle[6 + d]);
-        first[d] = (int)((s.low + m->s - 1) / m->s);
-        last[d] = (int)(s.high / m->s);
-        reached += first[d] <= last[d];
+        t.first[d] = (int)((s.low + m->s - 1) / m->s);
+        t.last[d] = (int)(s.high / m->s);
+        planes += t.first[d] <= t.last[d];
     }
-    if (reached < 2)
+    if (planes < 2)
         return; /* an edge has a grid coordinate on two axes */
-    struct axis axes[AXES];
-    thirteen_axes(triangle, axes);
-    for (int axis = X; axis <= Z; axis++) {
-        first[axis]--;
-        scan(m, grid, axes, axis, first, last);
-        first[axis]++;
-    }
+    for (int v = 0; v < 3; v++)
+        t.corner[v] = (struct vector){triangle[3 * v], triangle[3 * v + 1], triangle[3 * v + 2]};
+    for (int k = t.first[Z] - 1; k <= t.last[Z]; k++)
+        for (int j = t.first[Y] - 1; j <= t.last[Y]; j++) {
+            uint8_t *row = grid + j * m->step[Y] + k * m->step[Z];
+            for (int i = t.first[X] - 1; i <= t.last[X]; i++)
+                row[i] |= (uint8_t)met_at(&t, i, j, k, 7 & ~row[i]);
+        }
 }
 
 static uint32_t mark(uint32_t level, uint8_t *grid, size_t grid_len, const int32_t *triangle, size_t triangle_len,

@@ -63,6 +63,14 @@ module _ (n : ℕ) where
         marks-now = λ a p o. x .marks-now a p o ∙ ap (λ (b : Bool). stored n g a p || b) (f a p o);
       }
 
+  -- what has no mark afterwards had none before
+  pub none-before : {E : Set} {g h : List ℕ} → Added n E g h → (a : Axis) (p : Point) → OfGrid n p → stored n h a p ≡ false → stored n g a p ≡ false
+  none-before {E} {g} x a p o e = go (stored n g a p) (sym (x .marks-now a p o) ∙ e)
+    where
+      go : (b : Bool) → b || E a p ≡ false → b ≡ false
+      go true f = f
+      go false f = refl
+
 -- ---- one edge
 module _ (n : ℕ) (E : Set) (e : Place) (g : List ℕ) where
   edge-same : (a : Axis) (p : Point) → atEdge e E a p ≡ true → (e ≡ record { axis = a; at = p }) × (E a p ≡ true)
@@ -123,9 +131,9 @@ corner-grid n c X h = (omega arith, omega arith)
 corner-grid n c Y h = (omega arith, omega arith)
 corner-grid n c Z h = (omega arith, omega arith)
 
--- what an edge at a cell's lowest corner asks for, its axis read off the edge
-pub corner-asks : (n : ℕ) (c : Point) (a : Axis) (e : Place) → Cell n c → e ≡ cornerEdge a c → OfGrid n c × OfGrid n (up a c)
-corner-asks n c a e h q = corner-grid n c a h
+-- a cell of a grid is a point of the largest
+pub cell-wide : (n : ℕ) (c : Point) → n ≤ 32 → Cell n c → OfGrid 32 c
+cell-wide n c h o = omega arith
 
 abbrev corners : Set → Point → Set
 corners E c = added (added (atEdge (cornerEdge X c) E) (atEdge (cornerEdge Y c) E)) (atEdge (cornerEdge Z c) E)

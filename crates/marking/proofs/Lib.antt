@@ -9,3 +9,7 @@ pub mod Marks
 pub mod OutOfRange
 pub mod Calls
 pub mod BadCoordinate
+pub mod Masks
+pub mod Planes
+pub mod Corner
+pub mod Tested

@@ -49,7 +49,7 @@ step-coord Z X p = (omega arith, omega arith)
 step-coord Z Y p = (omega arith, omega arith)
 step-coord Z Z p = (omega arith, omega arith)
 
-place-along : (l : Level) (p : Point) (b : Axis) → along (placeOf l p) (indexOf b) ≡ pos (coord b p * sideOf l)
+pub place-along : (l : Level) (p : Point) (b : Axis) → along (placeOf l p) (indexOf b) ≡ pos (coord b p * sideOf l)
 unfolding along placeOf
 place-along l p X = refl
 place-along l p Y = refl
@@ -93,7 +93,7 @@ module _ (l : Level) (t : Triangle) (a : Axis) (p : Point) where
       let q = up a p in
       rw (leb-yes (q .i) (cellsOf l) (h .i), leb-yes (q .j) (cellsOf l) (h .j), leb-yes (q .k) (cellsOf l) (h .k))
 
-  met-edge : met l t a p ≡ true → edgeMet t (endsOf l a p) ≡ true
+  pub met-edge : met l t a p ≡ true → edgeMet t (endsOf l a p) ≡ true
   unfolding met
   met-edge e = and-right (isEdge (cellsOf l) a p) (edgeMet t (endsOf l a p)) e
 

@@ -3,7 +3,7 @@ use mathlib.Core.Path.{_≡_, sym, subst}
 use mathlib.Core.Bool.{Bool, true}
 use mathlib.Core.List.{List, [], _∷_}
 use Prim.Native.Nat.{ℕ, zero, suc, _+_, _-_, _*_, _/_, _^_, _≤_, _<_, zero-le}
-use native.Mathlib.Nat.{not-suc-le-zero, le-of-suc-le-suc, lt-of-lt-of-le, mod-lt, div-add-mod', div-lt-iff-lt-mul}
+use native.Mathlib.Nat.{not-suc-le-zero, le-of-suc-le-suc, lt-of-lt-of-le, le-trans, mul-le-mul-right, mod-lt, div-add-mod', div-mul-le-self, div-lt-iff-lt-mul}
 use native.Mathlib.Omega.{arith}
 use lib.Dec.{lit<}
 use lib.IntN.{ℤ, pos}
@@ -13,7 +13,7 @@ use Rattle.rules.specs.Lists.{allOf}
 use Rattle.rules.specs.declared.Axis.{Axis}
 use Rattle.rules.specs.declared.Axis.the-variants.{X, Y, Z}
 use Rattle.rules.specs.declared.Point.{Point}
-use Rattle.rules.specs.Lattice.{up, OfGrid}
+use Rattle.rules.specs.Lattice.{OfGrid}
 use Rattle.rules.proofs.Bits.{eq→T, and-left, and-right}
 use Rattle.lattice.specs.declared.level.Level.{Level}
 use Rattle.lattice.specs.Levels.{cellsOf, sideOf, lowestOf, highestOf}
@@ -24,12 +24,12 @@ use Rattle.triangles.specs.declared.Span.{Span}
 use Rattle.triangles.specs.declared.Triangle.{Triangle}
 use Rattle.triangles.specs.Vectors.{Each, UpTo, OnLattice, latticeMost, along, nought}
 use Rattle.triangles.specs.Axes.{units}
-use Rattle.triangles.specs.Meets.{Inside, EndsInside, triangleSpan}
+use Rattle.triangles.specs.Meets.{Inside, triangleSpan}
 use Rattle.triangles.proofs.Order.{≤ℤ-trans, of-lesser, of-greater}
 use Rattle.triangles.proofs.Touching.{vertices-held}
 use Rattle.triangles.proofs.Units.{triangle-along}
 use Rattle.marking.specs.Ranges.{inRange, latticeOf, allInRange, vertexAt, triangleOf, Within, TriangleWithin}
-use Rattle.marking.specs.Met.{placeOf, endsOf}
+use Rattle.marking.specs.Met.{placeOf}
 use Rattle.marking.specs.Scan.{Touches}
 use Rattle.marking.proofs.Signed.{pos-le, pos-lt, le-pos}
 
@@ -73,18 +73,14 @@ within-inside l t w =
     let f = within-up-to l in
     record { a-in = each-weaken f (w .a-in); b-in = each-weaken f (w .b-in); c-in = each-weaken f (w .c-in) }
 
--- and so do the ends of an edge that exists
-up-to : {m : ℕ} → m ≤ 2 ^ 20 → UpTo latticeMost (pos m)
+-- and so does a point of the grid
+pub up-to : {m : ℕ} → m ≤ 2 ^ 20 → UpTo latticeMost (pos m)
 up-to h = record { low = pos-le zero-le; high = pos-le h }
 
 pub place-inside : (l : Level) (p : Point) → OfGrid (cellsOf l) p → OnLattice (placeOf l p)
 unfolding placeOf
 place-inside l p h =
     record { on-x = up-to (place-most l (h .i)); on-y = up-to (place-most l (h .j)); on-z = up-to (place-most l (h .k)) }
-
-pub ends-inside : (l : Level) (a : Axis) (p : Point) → OfGrid (cellsOf l) p → OfGrid (cellsOf l) (up a p) → EndsInside (endsOf l a p)
-unfolding endsOf
-ends-inside l a p h k = record { from-in = place-inside l p h; to-in = place-inside l (up a p) k }
 
 -- ---- the triangle's span on an axis
 pub on-each : (P : Axis → Type 0) → P X → P Y → P Z → (a : Axis) → P a
@@ -129,6 +125,14 @@ module _ (n s m h : ℕ) (whole : n * s ≡ 2 ^ 20) (some : 0 < s) (most : s ≤
   past-most : h / s + 1 ≤ n
   past-most = let b : h < n * s = omega arith in let c = div-lt-iff-lt-mul {k = s} {x = h} {y = n} some .1 b in omega arith
 
+  -- the plane behind the first cell is the first that is not before m
+  plane-next : m ≤ suc ((m - 1) / s) * s
+  plane-next = let e = div-add-mod' (m - 1) s in let r = mod-lt (m - 1) some in omega arith
+
+  -- every cell before the last plane begins no later than h
+  cell-begins : (i : ℕ) → i < h / s + 1 → i * s ≤ h
+  cell-begins i l = let q : i ≤ h / s = omega arith in le-trans (mul-le-mul-right s q) (div-mul-le-self h s)
+
   first-past : (m - 1) / s < h / s + 1
   first-past = let p = past-after in let b : m - 1 < (h / s + 1) * s = omega arith in div-lt-iff-lt-mul {k = s} {x = m - 1} {y = h / s + 1} some .1 b
 
@@ -152,4 +156,6 @@ touches l x m h em eh wm wh o =
       most = past-most n s m h (side-whole l) (side-some l) (side-most l) low mid high;
       begins = rw em (pos-lt (first-before n s m h (side-whole l) (side-some l) (side-most l) low mid high));
       ends = rw eh (pos-lt (past-after n s m h (side-whole l) (side-some l) (side-most l) low mid high));
+      plane = rw em (pos-le (plane-next n s m h (side-whole l) (side-some l) (side-most l) low mid high));
+      last = λ i b. rw eh (pos-le (cell-begins n s m h (side-whole l) (side-some l) (side-most l) low mid high i b));
     }

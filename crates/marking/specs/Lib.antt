@@ -4,6 +4,7 @@ pub mod Met
 pub mod Outcome
 pub mod Open
 pub mod Mark
+pub mod Corner
 pub mod Scan
 pub mod Examples
 pub mod Refused

@@ -1,4 +1,5 @@
 // The calls open and mark.
+pub mod cell;
 pub mod range;
 pub mod scan;
 

@@ -1,123 +1,35 @@
-// The marking scan: only the cells that the triangle's own box touches, and at each the three table edges at its lowest corner.
+// The marking scan: only the cells that the triangle's own box touches, row by row, and at each the three table edges at its
+// lowest corner.
+use crate::cell::NUMBERS;
+use crate::cell::mark_cell;
 use crate::range::plain;
-use crate::range::signed;
-use lattice::byte::bit;
-use lattice::byte::turn;
-use lattice::cell::corner_edge;
+use lattice::coordinate;
 use lattice::level::Level;
-use lattice::number_of;
 use rules::Axis;
 use rules::Box;
-use rules::Place;
 use rules::Point;
-use triangles::Ends;
-use triangles::Ready;
 use triangles::Span;
 use triangles::Triangle;
-use triangles::Vector;
-use triangles::meets;
 ghost use mathlib.Core.Path.{_≡_};
 ghost use mathlib.Core.Bool.{true};
-ghost use Prim.Native.Nat.{_*_, _≤_};
-ghost use lib.IntN.{pos};
+ghost use Prim.Native.Nat.{_+_, _≤_};
+ghost use lib.Dec.{eqb};
 ghost use lib.Signed.{_≤ℤ_};
 ghost use lib.ListN.{length};
-ghost use Rattle.rules.specs.declared.Point.{Point};
-ghost use Rattle.rules.specs.Lattice.{up, OfGrid, pointNumber};
+ghost use Rattle.rules.specs.Lattice.{coord, OfGrid};
 ghost use Rattle.rules.specs.Grid.{isGrid};
-ghost use Rattle.lattice.specs.Levels.{cellsOf, sideOf, pointsOf};
-ghost use Rattle.lattice.specs.Cells.{Cell};
-ghost use Rattle.triangles.specs.Vectors.{OnLattice};
-ghost use Rattle.triangles.specs.Meets.{Inside, readyOf};
+ghost use Rattle.lattice.specs.Levels.{cellsOf, pointsOf};
+ghost use Rattle.triangles.specs.Meets.{Inside};
 ghost use Rattle.marking.specs.Ranges.{Within, TriangleWithin};
-ghost use Rattle.marking.specs.Met.{placeOf, endsOf, met, marked};
-ghost use Rattle.marking.specs.Scan.{Touches, Covers, nextCell, Added, atEdge, atCell};
+ghost use Rattle.marking.specs.Met.{met, marked};
+ghost use Rattle.marking.specs.Corner.{Keeps};
+ghost use Rattle.marking.specs.Scan.{Touches, Covers, bareOf, RowOf, nextRow, Added, inRun, Went};
 
-// Answers where a point's coordinate lies on the lattice.
-fn place_along(l: Level, i: usize) -> i64
-    requires { ⌜ i ≤ cellsOf l ⌝ }
-    ensures { λ r. ⌜ r ≡ pos (i * sideOf l) ⌝ }
-{
-    signed(i * l.side())
-}
-
-// Answers where a point lies on the lattice.
-fn place_of(l: Level, p: Point) -> Vector
-    requires { ⌜ OfGrid (cellsOf l) p ⌝ }
-    ensures { λ r. ⌜ r ≡ placeOf l p ⌝ }
-{
-    Vector {
-        x: place_along(l, p.i),
-        y: place_along(l, p.j),
-        z: place_along(l, p.k),
-    }
-}
-
-// Answers an edge's two ends on the lattice, from its lower end: the upper one lies a cell's side further.
-fn ends_from(l: Level, from: Vector, a: Axis) -> Ends
-    requires { ⌜ OnLattice from ⌝ }
-    ensures { λ r. ⌜ ((p : Point) → from ≡ placeOf l p → r ≡ endsOf l a p) ⌝ }
-{
-    let s = signed(l.side());
-    let mut to = from;
-    match a {
-        Axis::X => {
-            to.x = from.x + s;
-        }
-        Axis::Y => {
-            to.y = from.y + s;
-        }
-        Axis::Z => {
-            to.z = from.z + s;
-        }
-    }
-    Ends { from: from, to: to }
-}
-
-// Adds the mark of an edge, whose point has number `at` and lies at `from`, if the triangle meets it. An edge that is
-// marked already is not tested.
-fn mark_edge(l: Level, grid: &mut [u8], r: Ready, at: usize, from: Vector, e: Place)
-    requires { ⌜ Inside (r .t) × (r ≡ readyOf (r .t)) ⌝ }
-    requires { ⌜ (pointsOf l ≤ length (now grid)) × OfGrid (cellsOf l) (e .at) × OfGrid (cellsOf l) (up (e .axis) (e .at)) ⌝ }
-    requires { ⌜ (at ≡ pointNumber (cellsOf l) (e .at)) × (from ≡ placeOf l (e .at)) ⌝ }
-    ensures { λ _. ⌜ Added (cellsOf l) (atEdge e (met l (r .t))) (now (grid .entry)) (now (grid .exit)) ⌝ }
-{
-    let a = e.axis;
-    if bit(grid[at], a) {
-        return;
-    }
-    if !meets(r, ends_from(l, from, a)) {
-        return;
-    }
-    turn(grid, at, a);
-}
-
-// Adds the marks of the edges met at the lowest corner of a cell.
-fn mark_cell(l: Level, grid: &mut [u8], r: Ready, c: Point)
-    requires { ⌜ Inside (r .t) × (r ≡ readyOf (r .t)) ⌝ }
-    requires { ⌜ (pointsOf l ≤ length (now grid)) × Cell (cellsOf l) c ⌝ }
-    ensures { λ _. ⌜ Added (cellsOf l) (atCell c (met l (r .t))) (now (grid .entry)) (now (grid .exit)) ⌝ }
-{
-    let n = l.cells();
-    let at = number_of(n, c);
-    let from = place_of(l, c);
-    mark_edge(l, grid, r, at, from, corner_edge(n, c, Axis::X));
-    mark_edge(l, grid, r, at, from, corner_edge(n, c, Axis::Y));
-    mark_edge(l, grid, r, at, from, corner_edge(n, c, Axis::Z));
-}
-
-// Answers the cell after a cell of a box.
-fn next_cell(b: Box, c: Point) -> Point
+// Answers where the row after a row of a box begins.
+fn next_row(b: Box, c: Point) -> Point
     requires { ⌜ OfGrid 32 c ⌝ }
-    ensures { λ r. ⌜ r ≡ nextCell b c ⌝ }
+    ensures { λ r. ⌜ r ≡ nextRow b c ⌝ }
 {
-    if c.i + 1 < b.hi.i {
-        return Point {
-            i: c.i + 1,
-            j: c.j,
-            k: c.k,
-        };
-    }
     if c.j + 1 < b.hi.j {
         return Point {
             i: b.lo.i,
@@ -174,17 +86,69 @@ fn box_of(l: Level, t: Triangle) -> Box
     Box { lo: lo, hi: hi }
 }
 
-// Adds the marks of the edges that a triangle meets.
-fn mark_box(l: Level, grid: &mut [u8], r: Ready, b: Box)
-    requires { ⌜ Inside (r .t) × (r ≡ readyOf (r .t)) × Covers l (r .t) b ⌝ }
-    requires { ⌜ pointsOf l ≤ length (now grid) ⌝ }
-    ensures { λ _. ⌜ Added (cellsOf l) (met l (r .t)) (now (grid .entry)) (now (grid .exit)) ⌝ }
+// Answers whether a box has one layer of cells on an axis: no grid plane lies in the triangle's span.
+fn is_thin(b: Box, a: Axis) -> bool
+    requires { ⌜ coord a (b .lo) ≤ 32 ⌝ }
+    ensures { λ r. ⌜ r ≡ eqb (coord a (b .lo) + 1) (coord a (b .hi)) ⌝ }
 {
+    coordinate(b.lo, a) + 1 == coordinate(b.hi, a)
+}
+
+// Answers whether the triangle's spans hold grid planes on fewer than two axes. An edge lies in two planes, so it meets none then.
+fn is_bare(b: Box) -> bool
+    requires { ⌜ OfGrid 32 (b .lo) ⌝ }
+    ensures { λ r. ⌜ r ≡ bareOf b ⌝ }
+{
+    if is_thin(b, Axis::X) {
+        if is_thin(b, Axis::Y) {
+            return true;
+        }
+        return is_thin(b, Axis::Z);
+    }
+    if is_thin(b, Axis::Y) {
+        return is_thin(b, Axis::Z);
+    }
+    false
+}
+
+// Adds the marks of the edges met at the lowest corners of a row of a box's cells, and answers how many axes are built.
+fn mark_row(
+    l: Level,
+    grid: &mut [u8],
+    t: Triangle,
+    kept: &mut [i64; NUMBERS],
+    built: usize,
+    b: Box,
+    c: Point,
+) -> usize
+    requires { ⌜ Inside t × (built ≤ 10) × Keeps l t built (now kept) ⌝ }
+    requires { ⌜ (pointsOf l ≤ length (now grid)) × Covers l t b × RowOf b c ⌝ }
+    ensures { λ r. ⌜ Went l t (inRun c (b .hi .i) (met l t)) r (now (kept .exit)) (now (grid .entry)) (now (grid .exit)) ⌝ }
+{
+    let n = l.cells();
+    let past = b.hi.i;
+    let mut c = c;
+    let mut built = built;
+    while c.i < past {
+        built = mark_cell(l, n, grid, t, kept, built, b.lo, c);
+        c.i += 1;
+    }
+    built
+}
+
+// Adds the marks of the edges met at the lowest corners of a box's cells, row by row.
+fn mark_box(l: Level, grid: &mut [u8], t: Triangle, b: Box)
+    requires { ⌜ Inside t × Covers l t b ⌝ }
+    requires { ⌜ pointsOf l ≤ length (now grid) ⌝ }
+    ensures { λ _. ⌜ Added (cellsOf l) (met l t) (now (grid .entry)) (now (grid .exit)) ⌝ }
+{
+    let mut kept = [0i64; NUMBERS];
+    let mut built: usize = 0;
     let last = b.hi.k;
     let mut c = b.lo;
     while c.k < last {
-        mark_cell(l, grid, r, c);
-        c = next_cell(b, c);
+        built = mark_row(l, grid, t, &mut kept, built, b, c);
+        c = next_row(b, c);
     }
 }
 
@@ -195,5 +159,8 @@ pub fn mark_grid(l: Level, grid: &mut [u8], t: Triangle)
     ensures { λ _. ⌜ now (grid .exit) ≡ marked l t (now (grid .entry)) ⌝ }
 {
     let b = box_of(l, t);
-    mark_box(l, grid, t.ready(), b);
+    if is_bare(b) {
+        return;
+    }
+    mark_box(l, grid, t, b);
 }

@@ -44,9 +44,10 @@ module _ {m n : ℕ} {k l a b : ℤ} (h : Near m k a) (j : Near n l b) where
   pub near-product : Near (m * n) (k *ℤ l) (a *ℤ b)
   near-product = record { is = λ i. h .is i *ℤ j .is i; size = mul-size (h .size) (j .size) }
 
--- the spans as they are built, at the numbers that the locals stand for
-pub two-span : {s u : Span} {p q x y : ℤ} → s ≡ spanAt p → u ≡ spanWith s q → p ≡ x → q ≡ y → u ≡ spanWith (spanAt x) y
-two-span a b f g = cc
+-- a product or a sum whose own size is known
+pub near-own : (f : ℤ → ℤ → ℤ) {m : ℕ} (p q : ℤ) → mag p < 2 ^ 63 → mag q < 2 ^ 63 → Size m (f p q) → Near m (f (held p) (held q)) (f p q)
+near-own f p q g h k = record { is = λ i. f (plain p g i) (plain q h i); size = k }
 
+-- the spans as they are built, at the numbers that the locals stand for
 pub three-span : {s u v : Span} {p q r x y z : ℤ} → s ≡ spanAt p → u ≡ spanWith s q → v ≡ spanWith u r → p ≡ x → q ≡ y → r ≡ z → v ≡ spanWith (spanWith (spanAt x) y) z
 three-span a b c f g h = cc

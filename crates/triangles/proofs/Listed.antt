@@ -1,7 +1,7 @@
 -- The lists of axes as the code walks them. Assumes nothing.
-use mathlib.Core.Path.{_≡_, sym, ap, _∙_}
-use mathlib.Core.Bool.{Bool, true, false, cond}
-use mathlib.Core.List.{List, [], _∷_}
+use mathlib.Core.Path.{_≡_, refl, sym, ap, _∙_}
+use mathlib.Core.Bool.{Bool, true, false, not, cond, _&&_, and-assoc}
+use mathlib.Core.List.{List, [], _∷_, _++_}
 use Prim.Native.Nat.{ℕ, zero, suc, _+_, _/_, _%_, _<_}
 use native.Mathlib.Nat.{add-zero, zero-add, add-suc, suc-add, le-of-suc-le-suc, not-suc-le-zero}
 use lib.ListN.{length, getD, drop}
@@ -9,11 +9,10 @@ use lib.Seq.{drop-cons}
 use Rattle.triangles.specs.declared.Vector.{Vector}
 use Rattle.triangles.specs.declared.Triangle.{Triangle}
 use Rattle.triangles.specs.declared.Ends.{Ends}
-use Rattle.triangles.specs.declared.Ready.{Ready}
 use Rattle.triangles.specs.Vectors.{nought, cross}
-use Rattle.triangles.specs.Spans.{apart}
-use Rattle.triangles.specs.Axes.{units, sides, crossEach, crossed, axes}
-use Rattle.triangles.specs.Meets.{edgeSpan, separates, noneSeparates, edgeMet, readyOf}
+use Rattle.triangles.specs.Axes.{units, sides, normal, crossEach, crossed, axes}
+use Rattle.triangles.specs.Meets.{separates, noneSeparates, edgeMet}
+use Rattle.triangles.specs.Keeping.{laterAxes}
 
 -- a function's values at i, i + 1, .. as a list
 abbrev listed : (ℕ → Vector) → ℕ → ℕ → List Vector
@@ -30,29 +29,35 @@ pub crossed-at : (t : Triangle) (k : ℕ) → k < 9 → getD (crossed t) k nough
 unfolding crossed crossEach units sides
 crossed-at t k h = listed-at (λ j. cross (getD units (j / 3) nought) (getD (sides t) (j % 3) nought)) 9 0 k h ∙ ap (λ (j : ℕ). cross (getD units (j / 3) nought) (getD (sides t) (j % 3) nought)) (zero-add k)
 
-pub nine : (t : Triangle) {k : ℕ} → k < 9 → k < length (crossed t)
-unfolding crossed crossEach units sides
-nine t h = h
+-- the ten axes behind the unit vectors are ten
+pub ten : (t : Triangle) {k : ℕ} → k < 10 → k < length (laterAxes t)
+unfolding laterAxes crossed crossEach units sides
+ten t h = h
 
--- the thirteen axes tried one after the other, the triangle's spans on the first four read from what was worked out once
-abbrev tried : Ready → Triangle → Ends → Bool
-tried r t e =
-    cond (apart (r .x) (edgeSpan (getD units 0 nought) e)) false
-    (cond (apart (r .y) (edgeSpan (getD units 1 nought) e)) false
-    (cond (apart (r .z) (edgeSpan (getD units 2 nought) e)) false
-    (cond (apart (r .span) (edgeSpan (r .n) e)) false (noneSeparates (crossed t) t e))))
+module _ (t : Triangle) (e : Ends) where
+  first-decides : (s r : Bool) → cond s false r ≡ not s && r
+  first-decides true r = refl
+  first-decides false r = refl
 
-pub met-ready : (r : Ready) (e : Ends) → r ≡ readyOf (r .t) → edgeMet (r .t) e ≡ tried r (r .t) e
-unfolding edgeMet axes units noneSeparates separates readyOf
-met-ready r e h = ap (λ (q : Ready). tried q (r .t) e) (sym h)
-
-module _ (l : List Vector) (t : Triangle) (e : Ends) (k : ℕ) (h : k < length l) where
-  -- from number k on: an axis that separates decides
-  pub none-stops : separates (getD l k nought) t e ≡ true → noneSeparates (drop k l) t e ≡ false
+  -- of two lists, one after the other
+  pub none-append : (l m : List Vector) → noneSeparates (l ++ m) t e ≡ noneSeparates l t e && noneSeparates m t e
   unfolding noneSeparates
-  none-stops s = rw (drop-cons l k nought, s)
+  none-append [] m = refl
+  none-append (n ∷ l) m =
+      first-decides (separates n t e) (noneSeparates (l ++ m) t e)
+      ∙ ap (λ (b : Bool). not (separates n t e) && b) (none-append l m)
+      ∙ sym (and-assoc (not (separates n t e)) (noneSeparates l t e) (noneSeparates m t e))
+      ∙ ap (λ (b : Bool). b && noneSeparates m t e) (sym (first-decides (separates n t e) (noneSeparates l t e)))
 
-  -- and one that does not leaves it to the others
-  pub none-goes-on : separates (getD l k nought) t e ≡ false → noneSeparates (drop k l) t e ≡ noneSeparates (drop (suc k) l) t e
+  -- from number k on: that axis, and those behind it
+  pub none-next : (l : List Vector) (k : ℕ) → k < length l →
+      noneSeparates (drop k l) t e ≡ not (separates (getD l k nought) t e) && noneSeparates (drop (suc k) l) t e
   unfolding noneSeparates
-  none-goes-on s = rw (drop-cons l k nought, s)
+  none-next l k h =
+      ap (λ (m : List Vector). noneSeparates m t e) (drop-cons l k nought h)
+      ∙ first-decides (separates (getD l k nought) t e) (noneSeparates (drop (suc k) l) t e)
+
+  -- the three unit vectors come first
+  pub met-later : edgeMet t e ≡ noneSeparates units t e && noneSeparates (laterAxes t) t e
+  unfolding edgeMet axes laterAxes
+  met-later = none-append units (normal t ∷ crossed t)

@@ -28,7 +28,7 @@ left-apart : (s u : Span) (m : ℤ) → s .high ≤ℤ m → m <ℤ u .low → a
 unfolding apart
 left-apart s u m h k = simp (lt-true (≤ℤ-<ℤ-trans h k))
 
-right-apart : (s u : Span) (m : ℤ) → u .high ≤ℤ m → m <ℤ s .low → apart s u ≡ true
+pub right-apart : (s u : Span) (m : ℤ) → u .high ≤ℤ m → m <ℤ s .low → apart s u ≡ true
 unfolding apart
 right-apart s u m h k = simp (lt-true (≤ℤ-<ℤ-trans h k)) (or-true (before s u))
 

@@ -6,9 +6,10 @@ use lib.IntN.{pos}
 use lib.ListN.{getD}
 use Rattle.triangles.specs.declared.Vector.{Vector}
 use Rattle.triangles.specs.declared.Triangle.{Triangle}
-use Rattle.triangles.specs.Vectors.{Each, Size, OnLattice, latticeMost, axisMost, dotMost, nought, minus, cross, dot}
+use Rattle.triangles.specs.Vectors.{Each, Size, OnLattice, Terms, latticeMost, axisMost, dotMost, nought, minus, cross, dot}
 use Rattle.triangles.specs.Axes.{units, sides, normal, crossEach, crossed, axes}
 use Rattle.triangles.specs.Meets.{Inside}
+use Rattle.triangles.specs.Keeping.{laterAxes}
 use Rattle.triangles.proofs.Bounds.{of-up-to, apart-size, mul-size, sub-size, add-size, size-more}
 
 pub place-size : {v : Vector} → OnLattice v → Each (Size latticeMost) v
@@ -28,12 +29,19 @@ cross-size h k =
       on-z = sub-size (mul-size (h .on-x) (k .on-y)) (mul-size (h .on-y) (k .on-x));
     }
 
--- dot products stay within 3 * 2^61 in size
-pub dot-size : {n v : Vector} → Each (Size axisMost) n → OnLattice v → Size dotMost (dot n v)
-unfolding dot
-dot-size h p =
+-- the products of an axis and a place on the lattice
+pub lattice-terms : {n v : Vector} → Each (Size axisMost) n → OnLattice v → Terms n v
+lattice-terms h p =
     let k = place-size p in
-    add-size (add-size (mul-size (h .on-x) (k .on-x)) (mul-size (h .on-y) (k .on-y))) (mul-size (h .on-z) (k .on-z))
+    record { of-x = mul-size (h .on-x) (k .on-x); of-y = mul-size (h .on-y) (k .on-y); of-z = mul-size (h .on-z) (k .on-z) }
+
+-- dot products stay within 3 * 2^61 in size
+pub terms-size : {a b : Vector} → Terms a b → Size dotMost (dot a b)
+unfolding dot
+terms-size h = add-size (add-size (h .of-x) (h .of-y)) (h .of-z)
+
+pub dot-size : {n v : Vector} → Each (Size axisMost) n → OnLattice v → Size dotMost (dot n v)
+dot-size h p = terms-size (lattice-terms h p)
 
 -- what holds of every vector of a list
 abbrev pub All : (Vector → Type 0) → List Vector → Type 0
@@ -88,9 +96,6 @@ pub normal-size : {t : Triangle} → Inside t → Each (Size axisMost) (normal t
 unfolding normal
 normal-size h = cross-size (minus-size (h .b-in) (h .a-in)) (minus-size (h .c-in) (h .a-in))
 
-pub unit-size : (k : ℕ) → Each (Size latticeMost) (getD units k nought)
-unit-size k = all-at (Each (Size latticeMost)) units nought-size units-size k
-
 pub side-size : {t : Triangle} (k : ℕ) → Inside t → Each (Size latticeMost) (getD (sides t) k nought)
 side-size {t} k h = all-at (Each (Size latticeMost)) (sides t) nought-size (sides-size h) k
 
@@ -98,8 +103,10 @@ all-crossed : {t : Triangle} → Inside t → All (Each (Size axisMost)) (crosse
 unfolding crossed
 all-crossed {t} h = cross-each-size units (sides t) units-size (sides-size h)
 
-pub crossed-size : {t : Triangle} (k : ℕ) → Inside t → Each (Size axisMost) (getD (crossed t) k nought)
-crossed-size {t} k h = all-at (Each (Size axisMost)) (crossed t) (wider nought-size) (all-crossed h) k
+-- every axis behind the unit vectors stays within 2^41 in size
+pub later-size : {t : Triangle} (k : ℕ) → Inside t → Each (Size axisMost) (getD (laterAxes t) k nought)
+unfolding laterAxes
+later-size {t} k h = all-at (Each (Size axisMost)) (normal t ∷ crossed t) (wider nought-size) (normal-size h, all-crossed h) k
 
 -- every axis of the thirteen stays within 2^41 in size
 pub axis-size : {t : Triangle} (k : ℕ) → Inside t → Each (Size axisMost) (getD (axes t) k nought)

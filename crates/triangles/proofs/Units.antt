@@ -2,12 +2,12 @@
 use mathlib.Core.Path.{_≡_, _∙_}
 use Prim.Native.Nat.{ℕ, zero, suc, _<_}
 use native.Mathlib.Omega.{arith}
-use lib.IntN.{ℤ, pos, one, _+ℤ_, _*ℤ_, *ℤ-one, *ℤ-comm, zero-*ℤ, +ℤ-idl, +ℤ-idr}
+use lib.IntN.{ℤ, pos, one, _+ℤ_, _-ℤ_, _*ℤ_, *ℤ-one, *ℤ-comm, zero-*ℤ, +ℤ-idl, +ℤ-idr}
 use lib.ListN.{getD}
 use Rattle.triangles.specs.declared.Vector.{Vector}
 use Rattle.triangles.specs.declared.Triangle.{Triangle}
 use Rattle.triangles.specs.declared.Ends.{Ends}
-use Rattle.triangles.specs.Vectors.{nought, along, dot}
+use Rattle.triangles.specs.Vectors.{vector, nought, along, cross, dot}
 use Rattle.triangles.specs.Spans.{spanAt, spanWith}
 use Rattle.triangles.specs.Axes.{units}
 use Rattle.triangles.specs.Meets.{triangleSpan, edgeSpan}
@@ -36,3 +36,26 @@ triangle-along d h t = simp (unit-dot d h)
 pub edge-along : (d : ℕ) → d < 3 → (e : Ends) → edgeSpan (getD units d nought) e ≡ spanWith (spanAt (along (e .from) d)) (along (e .to) d)
 unfolding edgeSpan
 edge-along d h e = simp (unit-dot d h)
+
+-- and a cross product with it has the other's coordinates
+no-less : (a : ℤ) → a -ℤ pos 0 ≡ a
+no-less a = +ℤ-idr a
+
+module _ (v : Vector) where
+  pub cross-x : cross (getD units 0 nought) v ≡ vector (pos 0) (pos 0 -ℤ v .z) (v .y)
+  unfolding cross units
+  cross-x =
+      let y = (λ i. one-* (v .y) i -ℤ zero-*ℤ (v .x) i) ∙ no-less (v .y) in
+      λ i. vector (zero-*ℤ (v .z) i -ℤ zero-*ℤ (v .y) i) (zero-*ℤ (v .x) i -ℤ one-* (v .z) i) (y i)
+
+  pub cross-y : cross (getD units 1 nought) v ≡ vector (v .z) (pos 0) (pos 0 -ℤ v .x)
+  unfolding cross units
+  cross-y =
+      let z = (λ i. one-* (v .z) i -ℤ zero-*ℤ (v .y) i) ∙ no-less (v .z) in
+      λ i. vector (z i) (zero-*ℤ (v .x) i -ℤ zero-*ℤ (v .z) i) (zero-*ℤ (v .y) i -ℤ one-* (v .x) i)
+
+  pub cross-z : cross (getD units 2 nought) v ≡ vector (pos 0 -ℤ v .y) (v .x) (pos 0)
+  unfolding cross units
+  cross-z =
+      let x = (λ i. one-* (v .x) i -ℤ zero-*ℤ (v .z) i) ∙ no-less (v .x) in
+      λ i. vector (zero-*ℤ (v .z) i -ℤ one-* (v .y) i) (x i) (zero-*ℤ (v .y) i -ℤ zero-*ℤ (v .x) i)

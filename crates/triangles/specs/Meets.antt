@@ -1,26 +1,19 @@
 -- Which edges a triangle meets. Assumes nothing.
 use mathlib.Core.Bool.{Bool, true, false, cond}
 use mathlib.Core.List.{List, [], _∷_}
-use lib.ListN.{getD}
 use Rattle.triangles.specs.declared.Vector.{Vector}
 use Rattle.triangles.specs.declared.Span.{Span}
 use Rattle.triangles.specs.declared.Triangle.{Triangle}
 use Rattle.triangles.specs.declared.Ends.{Ends}
-use Rattle.triangles.specs.declared.Ready.{Ready}
-use Rattle.triangles.specs.Vectors.{OnLattice, nought, dot}
+use Rattle.triangles.specs.Vectors.{OnLattice, dot}
 use Rattle.triangles.specs.Spans.{spanAt, spanWith, apart}
-use Rattle.triangles.specs.Axes.{units, normal, axes}
+use Rattle.triangles.specs.Axes.{axes}
 
 -- The vertices lie on the lattice.
 pub record Inside (t : Triangle) : Type 0 where
   pub a-in : OnLattice (t .a)
   pub b-in : OnLattice (t .b)
   pub c-in : OnLattice (t .c)
-
--- The ends lie on the lattice.
-pub record EndsInside (e : Ends) : Type 0 where
-  pub from-in : OnLattice (e .from)
-  pub to-in : OnLattice (e .to)
 
 -- On an axis a triangle projects to the span of its three dot products.
 unfoldable pub triangleSpan : Vector → Triangle → Span
@@ -42,15 +35,3 @@ noneSeparates (n ∷ l) t e = let rest = noneSeparates l t e in cond (separates 
 -- An edge is met when no axis separates.
 unfoldable pub edgeMet : Triangle → Ends → Bool
 edgeMet t e = noneSeparates (axes t) t e
-
--- Worked out once for all edges: a triangle's spans on the three unit vectors, N, and its span on N.
-unfoldable pub readyOf : Triangle → Ready
-readyOf t =
-    record {
-      t = t;
-      x = triangleSpan (getD units 0 nought) t;
-      y = triangleSpan (getD units 1 nought) t;
-      z = triangleSpan (getD units 2 nought) t;
-      n = normal t;
-      span = triangleSpan (normal t) t;
-    }

@@ -14,6 +14,10 @@ latticeMost = 2 ^ 20
 abbrev pub axisMost : ℕ
 axisMost = 2 ^ 41
 
+-- One of the three products of a dot product.
+abbrev pub termMost : ℕ
+termMost = 2 ^ 61
+
 -- Dot products stay within 3 * 2^61 in size.
 abbrev pub dotMost : ℕ
 dotMost = 3 * 2 ^ 61
@@ -61,3 +65,9 @@ cross a b =
 -- The dot product.
 unfoldable pub dot : Vector → Vector → ℤ
 dot a b = a .x *ℤ b .x +ℤ a .y *ℤ b .y +ℤ a .z *ℤ b .z
+
+-- The three products of a dot product, each of its size.
+pub record Terms (a b : Vector) : Type 0 where
+  pub of-x : Size termMost (a .x *ℤ b .x)
+  pub of-y : Size termMost (a .y *ℤ b .y)
+  pub of-z : Size termMost (a .z *ℤ b .z)

@@ -1,12 +1,15 @@
 // Which edges a triangle meets: whole-number vectors, spans, and the thirteen axes. Dot products stay within 3 * 2^61 in
 // size, so that every number here fits; two of them may differ by more, so that spans are compared and never subtracted.
 ghost use mathlib.Core.Path.{_≡_};
-ghost use Prim.Native.Nat.{_<_};
+ghost use Prim.Native.Nat.{ℕ, _<_};
+ghost use lib.IntN.{pos};
 ghost use lib.ListN.{getD};
-ghost use Rattle.triangles.specs.Vectors.{Each, Size, OnLattice, latticeMost, axisMost, nought, along, minus, cross, dot};
-ghost use Rattle.triangles.specs.Spans.{lesser, greater, spanAt, spanWith, before, apart};
+ghost use Rattle.triangles.specs.Vectors.{Each, Size, UpTo, OnLattice, Terms, latticeMost, axisMost, nought, along, minus, cross, dot};
+ghost use Rattle.triangles.specs.Spans.{lesser, greater, spanAt, spanWith};
 ghost use Rattle.triangles.specs.Axes.{units, sides, normal, crossed};
-ghost use Rattle.triangles.specs.Meets.{Inside, EndsInside, triangleSpan, edgeSpan, separates, noneSeparates, edgeMet, readyOf};
+ghost use Rattle.triangles.specs.Meets.{Inside, triangleSpan};
+ghost use Rattle.triangles.specs.Shared.{times};
+ghost use Rattle.triangles.specs.Keeping.{laterAxes, keptOf};
 
 // A place on the lattice, or a direction.
 pub struct Vector {
@@ -53,10 +56,47 @@ impl Vector {
         }
     }
 
-    // Answers the dot product of an axis and a place on the lattice.
-    pub fn dot(self, o: Vector) -> i64
+    // Answers a unit vector crossed with a way between places on the lattice: its coordinates, without a product.
+    pub fn unit_cross(self, d: usize) -> Vector
+        requires { ⌜ Each (Size latticeMost) self ⌝ }
+        requires { ⌜ d < 3 ⌝ }
+        ensures { λ r. ⌜ r ≡ cross (getD units d nought) self ⌝ }
+    {
+        match d {
+            0 => Vector {
+                x: 0,
+                y: 0 - self.z,
+                z: self.y,
+            },
+            1 => Vector {
+                x: self.z,
+                y: 0,
+                z: 0 - self.x,
+            },
+            _ => Vector {
+                x: 0 - self.y,
+                y: self.x,
+                z: 0,
+            },
+        }
+    }
+
+    // Answers an axis s times as long.
+    pub fn times(self, s: i64) -> Vector
         requires { ⌜ Each (Size axisMost) self ⌝ }
-        requires { ⌜ OnLattice o ⌝ }
+        requires { ⌜ UpTo latticeMost s ⌝ }
+        ensures { λ r. ⌜ ((w : ℕ) → s ≡ pos w → r ≡ times w self) ⌝ }
+    {
+        Vector {
+            x: s * self.x,
+            y: s * self.y,
+            z: s * self.z,
+        }
+    }
+
+    // Answers the dot product of two vectors.
+    pub fn dot(self, o: Vector) -> i64
+        requires { ⌜ Terms self o ⌝ }
         ensures { λ r. ⌜ r ≡ dot self o ⌝ }
     {
         self.x * o.x + self.y * o.y + self.z * o.z
@@ -100,52 +140,12 @@ impl Span {
             high: greater(self.high, p),
         }
     }
-
-    // Answers whether it ends strictly before the other begins.
-    pub fn before(self, o: Span) -> bool
-        ensures { λ r. ⌜ r ≡ before self o ⌝ }
-    {
-        self.high < o.low
-    }
-
-    // Answers whether one of the two ends strictly before the other begins.
-    pub fn apart(self, o: Span) -> bool
-        ensures { λ r. ⌜ r ≡ apart self o ⌝ }
-    {
-        if self.before(o) {
-            return true;
-        }
-        o.before(self)
-    }
 }
 
 // An edge by its two ends on the lattice.
 pub struct Ends {
     pub from: Vector,
     pub to: Vector,
-}
-
-impl Ends {
-    // Answers the span of its two dot products with an axis.
-    pub fn span(self, n: Vector) -> Span
-        requires { ⌜ EndsInside self ⌝ }
-        requires { ⌜ Each (Size axisMost) n ⌝ }
-        ensures { λ r. ⌜ r ≡ edgeSpan n self ⌝ }
-    {
-        let p = n.dot(self.from);
-        let q = n.dot(self.to);
-        Span::at(p).with(q)
-    }
-
-    // Answers its span on a unit vector: a dot product with it is a coordinate.
-    pub fn along(self, d: usize) -> Span
-        requires { ⌜ d < 3 ⌝ }
-        ensures { λ r. ⌜ r ≡ edgeSpan (getD units d nought) self ⌝ }
-    {
-        let p = self.from.along(d);
-        let q = self.to.along(d);
-        Span::at(p).with(q)
-    }
 }
 
 // A triangle by its vertices A, B, C on the lattice.
@@ -185,9 +185,7 @@ impl Triangle {
         requires { ⌜ k < 9 ⌝ }
         ensures { λ r. ⌜ r ≡ getD (crossed self) k nought ⌝ }
     {
-        let u = unit(k / 3);
-        let s = self.side(k % 3);
-        u.cross(s)
+        self.side(k % 3).unit_cross(k / 3)
     }
 
     // Answers the span of its three dot products with an axis.
@@ -213,89 +211,35 @@ impl Triangle {
         Span::at(p).with(q).with(r)
     }
 
-    // Answers it made ready: what every edge would have to work out anew.
-    pub fn ready(self) -> Ready
+    // Answers one of the ten axes behind the unit vectors: N, or one of the nine crossed ones.
+    pub fn axis(self, k: usize) -> Vector
         requires { ⌜ Inside self ⌝ }
-        ensures { λ r. ⌜ r ≡ readyOf self ⌝ }
+        requires { ⌜ k < 10 ⌝ }
+        ensures { λ r. ⌜ r ≡ getD (laterAxes self) k nought ⌝ }
     {
-        let n = self.normal();
-        Ready {
-            t: self,
-            x: self.along(0),
-            y: self.along(1),
-            z: self.along(2),
-            n: n,
+        if k == 0 {
+            return self.normal();
+        }
+        self.crossed(k - 1)
+    }
+
+    // Answers such an axis as it is kept for a grid of cells of side s.
+    pub fn kept(self, k: usize, s: i64) -> Kept
+        requires { ⌜ Inside self ⌝ }
+        requires { ⌜ (k < 10) × UpTo latticeMost s ⌝ }
+        ensures { λ r. ⌜ ((w : ℕ) → s ≡ pos w → r ≡ keptOf w (getD (laterAxes self) k nought) self) ⌝ }
+    {
+        let n = self.axis(k);
+        Kept {
+            axis: n.times(s),
             span: self.span(n),
         }
     }
 }
 
-// A triangle made ready for many edges: its spans on the three unit vectors, its normal N, and its span on N.
-pub struct Ready {
-    pub t: Triangle,
-    pub x: Span,
-    pub y: Span,
-    pub z: Span,
-    pub n: Vector,
+// An axis as it is kept for the rest of a triangle: times the side of a cell, so that a dot product with a point's own numbers
+// is that with its place, and with the triangle's span on it.
+pub struct Kept {
+    pub axis: Vector,
     pub span: Span,
-}
-
-// Answers the unit vector along x, y or z.
-fn unit(d: usize) -> Vector
-    requires { ⌜ d < 3 ⌝ }
-    ensures { λ r. ⌜ r ≡ getD units d nought ⌝ }
-{
-    match d {
-        0 => Vector { x: 1, y: 0, z: 0 },
-        1 => Vector { x: 0, y: 1, z: 0 },
-        _ => Vector { x: 0, y: 0, z: 1 },
-    }
-}
-
-// Answers whether an axis separates.
-pub fn separates(n: Vector, t: Triangle, e: Ends) -> bool
-    requires { ⌜ Inside t ⌝ }
-    requires { ⌜ EndsInside e ⌝ }
-    requires { ⌜ Each (Size axisMost) n ⌝ }
-    ensures { λ r. ⌜ r ≡ separates n t e ⌝ }
-{
-    t.span(n).apart(e.span(n))
-}
-
-// Answers whether no unit vector crossed with a side separates; each is built when it is reached.
-fn crossed_clear(t: Triangle, e: Ends) -> bool
-    requires { ⌜ Inside t ⌝ }
-    requires { ⌜ EndsInside e ⌝ }
-    ensures { λ r. ⌜ r ≡ noneSeparates (crossed t) t e ⌝ }
-{
-    let mut k: usize = 0;
-    while k < 9 {
-        if separates(t.crossed(k), t, e) {
-            return false;
-        }
-        k += 1;
-    }
-    true
-}
-
-// Answers whether the triangle meets the edge: none of the thirteen axes separates.
-pub fn meets(r: Ready, e: Ends) -> bool
-    requires { ⌜ Inside (r .t) ⌝ }
-    requires { ⌜ EndsInside e ⌝ }
-    requires { ⌜ r ≡ readyOf (r .t) ⌝ }
-    ensures { λ b. ⌜ b ≡ edgeMet (r .t) e ⌝ }
-{
-    if r.x.apart(e.along(0)) {
-        return false;
-    }
-    if r.y.apart(e.along(1)) {
-        return false;
-    }
-    if r.z.apart(e.along(2)) {
-        return false;
-    }
-    if r.span.apart(e.span(r.n)) {
-        return false;
-    }
-    crossed_clear(r.t, e)
 }

@@ -1,19 +1,20 @@
 -- `Triangle::span` meets its contract. Assumes nothing.
 use Rattle.triangles.specs.Meets.{triangleSpan}
 use mathlib.Core.Path.{_∙_}
+use Rattle.triangles.proofs.Sizes.{lattice-terms}
 use Rattle.triangles.proofs.Held.{plain, three-span}
 use borrow.Author.Needs.{needs}
 use Rattle.triangles.proofs.Triangle.span.Statement.{statement}
 use Rattle.triangles.proofs.Triangle.span.Tie as tie
 
 dot-requires : tie.Need-dot-requires
-dot-requires c κs = search needs
+dot-requires c κs = lattice-terms (c .pre .1) (c .pre .0 .a-in)
 
 dot-requires-2 : tie.Need-dot-requires-2
-dot-requires-2 c κs = search needs
+dot-requires-2 c κs = lattice-terms (c .before .pre .1) (c .before .pre .0 .b-in)
 
 dot-requires-3 : tie.Need-dot-requires-3
-dot-requires-3 c κs = search needs
+dot-requires-3 c κs = lattice-terms (c .before .before .pre .1) (c .before .before .pre .0 .c-in)
 
 at-requires : tie.Need-at-requires
 at-requires c κs = search needs

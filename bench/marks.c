@@ -1,0 +1,149 @@
+/* Times mark on triangles of many kinds: the library beside the reference that does the same in plain C, and beside the mark of an earlier
+   library where bench/run was given one. Round by round in turn; the best round counts.
+   usage: marks STREAM... */
+#define _GNU_SOURCE
+#include <stdio.h>
+#include <stdlib.h>
+#include <string.h>
+#include <time.h>
+
+#include "../include/omphirun.h"
+#include "../tests/random.h"
+#include "../tests/reference.h"
+#include "../tests/reference_grid.h"
+
+enum { MOST_TIMED = 1000, LEAST_ROUNDS = 5, MOST_ROUNDS = 400, SIDES = 3 };
+
+static const double seconds_a_row = 0.4;
+
+typedef uint32_t mark(uint32_t level, uint8_t *grid, size_t grid_len, const int32_t *triangle, size_t triangle_len, uint32_t *place,
+                      uint32_t *axis);
+
+/* The earlier library's mark told no place and no axis. */
+uint32_t before_mark(uint32_t level, uint8_t *grid, size_t grid_len, const int32_t *triangle, size_t triangle_len) __attribute__((weak));
+
+static uint32_t earlier_mark(uint32_t level, uint8_t *grid, size_t grid_len, const int32_t *triangle, size_t triangle_len, uint32_t *place,
+                             uint32_t *axis)
+{
+    *place = *axis = 0;
+    return before_mark(level, grid, grid_len, triangle, triangle_len);
+}
+
+static mark *const sides[SIDES] = {omphirun_mark, reference_mark_near, earlier_mark};
+static int32_t triangles[MOST_TIMED][9];
+static int many;
+
+static double now(void)
+{
+    struct timespec t;
+    clock_gettime(CLOCK_MONOTONIC, &t);
+    return (double)t.tv_sec + 1e-9 * (double)t.tv_nsec;
+}
+
+/* Seconds for all triangles, each on an empty grid. */
+static double run(mark *side, uint32_t level)
+{
+    static uint8_t grid[MOST_POINTS];
+    struct measures m = measures_of(level);
+    double took = 0;
+    for (int t = 0; t < many; t++) {
+        memset(grid, 0, (size_t)m.points);
+        double start = now();
+        uint32_t place, axis, answer = side(level, grid, (size_t)m.points, triangles[t], 9, &place, &axis);
+        took += now() - start;
+        if (answer) {
+            fprintf(stderr, "bench: mark answered %u\n", answer);
+            exit(2);
+        }
+    }
+    return took;
+}
+
+/* Prints one row: microseconds a call of either side, and the ratio; then those of the earlier library, and how many times faster it is now. */
+static void row(const char *input, uint32_t level)
+{
+    double best[SIDES] = {1e9, 1e9, 1e9}, end = now() + seconds_a_row;
+    for (int round = 0; round < LEAST_ROUNDS || (round < MOST_ROUNDS && now() < end); round++)
+        for (int side = 0; side < SIDES; side++) {
+            double took = side < 2 || before_mark ? run(sides[side], level) : 0;
+            best[side] = took < best[side] ? took : best[side];
+        }
+    printf("mark     %-34s %5u %12.2f %12.2f %7.2f", input, level, 1e6 * best[0] / many, 1e6 * best[1] / many, best[0] / best[1]);
+    if (before_mark)
+        printf(" %12.2f %7.1f", 1e6 * best[2] / many, best[2] / best[0]);
+    printf("   %d triangles\n", many);
+}
+
+/* Copies of a triangle, each coordinate of which is moved by up to `by`. */
+static void time_moved(const char *input, const int32_t corners[9], int by, int copies)
+{
+    struct random r = {1};
+    struct measures m = measures_of(5);
+    many = copies;
+    for (int t = 0; t < many; t++)
+        for (int c = 0; c < 9; c++) {
+            int at = corners[c] + between(&r, -by, by);
+            triangles[t][c] = at < m.s ? m.s : at > (1 << 20) - m.s ? (1 << 20) - m.s : at;
+        }
+    row(input, 5);
+}
+
+/* Triangles anywhere whose boxes are this many cells wide. */
+static void time_wide(const char *input, uint32_t level, int cells, int copies)
+{
+    struct random r = {2};
+    struct measures m = measures_of(level);
+    many = copies;
+    for (int t = 0; t < many; t++)
+        for (int d = X; d <= Z; d++) {
+            int low = between(&r, m.s, (1 << 20) - m.s - cells * m.s), ends = (int)below(&r, 3);
+            for (int v = 0; v < 3; v++)
+                triangles[t][3 * v + d] = low + (v == ends ? between(&r, 0, cells * m.s) : (v + 1) % 3 == ends ? 0 : cells * m.s);
+        }
+    row(input, level);
+}
+
+/* The first triangles of a stream of the program. */
+static void time_stream(const char *path)
+{
+    uint8_t bytes[36];
+    const char *name = strrchr(path, '/') ? strrchr(path, '/') + 1 : path;
+    char input[100];
+    FILE *file = fopen(path, "rb");
+    if (!file || fread(bytes, 1, 1, file) != 1 || !known_level(bytes[0])) {
+        fprintf(stderr, "bench: %s is no stream\n", path);
+        exit(2);
+    }
+    uint32_t level = bytes[0];
+    for (many = 0; many < MOST_TIMED && fread(bytes, 1, 36, file) == 36; many++)
+        for (int c = 0; c < 9; c++)
+            triangles[many][c] = (int32_t)(bytes[4 * c] | bytes[4 * c + 1] << 8 | bytes[4 * c + 2] << 16 | (uint32_t)bytes[4 * c + 3] << 24);
+    fclose(file);
+    snprintf(input, sizeof input, "%.*s", (int)strcspn(name, "."), name);
+    for (char *c = input; *c; c++)
+        *c = *c == '_' ? ' ' : *c;
+    row(input, level);
+}
+
+int main(int argc, char **argv)
+{
+    static const int32_t whole[9] = {32768, 32768, 32768, 1015808, 1015808, 40000, 50000, 1015808, 1015808};
+    static const int32_t plane[9] = {524288, 32768, 32768, 524288, 1015808, 32768, 524288, 32768, 1015808};
+    static const int32_t needle[9] = {32768, 32768, 32768, 1015808, 1015808, 1015808, 1015808, 1015808, 1015808};
+    static const int32_t point[9] = {524288, 524288, 524288, 524288, 524288, 524288, 524288, 524288, 524288};
+    setvbuf(stdout, NULL, _IOLBF, 0);
+    printf("%-8s %-34s %5s %12s %12s %7s", "call", "input", "level", "library us", "reference us", "ratio");
+    printf("%s\n", before_mark ? "    before us  faster" : "");
+    time_moved("a triangle through the whole grid", whole, 0, 1);
+    time_moved("the same, moved a little", whole, 3000, 100);
+    time_moved("a triangle on a grid plane", plane, 0, 1);
+    time_moved("a needle from corner to corner", needle, 0, 1);
+    time_moved("the same, moved a little", needle, 3000, 100);
+    time_moved("a point on a grid point", point, 0, 1);
+    time_wide("half the grid wide", 5, 16, 200);
+    time_wide("a quarter of the grid wide", 5, 8, MOST_TIMED);
+    time_wide("two cells wide", 5, 2, MOST_TIMED);
+    for (int a = 1; a < argc; a++)
+        time_stream(argv[a]);
+    return 0;
+}
