@@ -14,11 +14,11 @@ use Rattle.refusals.specs.Columns.{badLevel, levelAt}
 use Rattle.refusals.proofs.Levels.{read-known}
 use Rattle.marking.specs.Ranges.{allInRange, triangleOf}
 use Rattle.marking.specs.OutOfRange.{firstOut, badOne, outNumber}
-use Rattle.marking.specs.Met.{marked}
+use Rattle.meeting.specs.Met.{marked}
 use Rattle.marking.specs.Mark.{done, refusedAt, refused, markRows, markCall}
 use Rattle.marking.proofs.Ranges.{triangle-within}
 use Rattle.marking.proofs.OutOfRange.{out-told}
-use Rattle.marking.proofs.Marks.{grid-after, marked-length}
+use Rattle.meeting.proofs.Marks.{grid-after, marked-length}
 use Rattle.feeding.specs.Feed.{Ready}
 
 -- a level's number is that of a level

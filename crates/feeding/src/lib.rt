@@ -3,7 +3,7 @@ use lattice::level::Level;
 use marking::out_of_range;
 use marking::range::first_out;
 use marking::range::triangle_of;
-use marking::scan::mark_grid;
+use scanning::mark_grid;
 use text::words::numbers_at;
 ghost use Prim.Native.Nat.{_+_, _≤_};
 ghost use lib.ListN.{length, drop};

@@ -2,7 +2,6 @@
 pub mod byte;
 pub mod cell;
 pub mod level;
-pub mod scan;
 
 use crate::byte::bit;
 use crate::cell::upper_face;

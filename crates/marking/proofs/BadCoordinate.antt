@@ -19,7 +19,7 @@ use Rattle.refusals.proofs.Answered.{answered-both}
 use Rattle.refusals.proofs.Levels.{good-number}
 use Rattle.marking.specs.Ranges.{inRange, allInRange, triangleOf}
 use Rattle.marking.specs.OutOfRange.{below, above, firstOut, badOne, outNumber}
-use Rattle.marking.specs.Met.{marked}
+use Rattle.meeting.specs.Met.{marked}
 use Rattle.marking.specs.Mark.{Outcome, done, refusedAt, refused, markRows, markCall}
 use Rattle.marking.proofs.OutOfRange.{bad-there, good-before, not-below, Sides, out-sides}
 

@@ -14,20 +14,21 @@ use Rattle.rules.specs.declared.Point.{Point}
 use Rattle.rules.specs.Grid.{marks, isGrid}
 use Rattle.lattice.specs.declared.level.Level.{Level}
 use Rattle.lattice.specs.Levels.{numberOf, cellsOf, pointsOf}
-use Rattle.lattice.proofs.Ahead.{open-grid, open-marks}
+use Rattle.grids.proofs.Ahead.{open-grid, open-marks}
 use Rattle.refusals.specs.Rows.{Row, answered, noneOf}
 use Rattle.refusals.specs.Columns.{levelAt}
 use Rattle.refusals.proofs.Answered.{none-clear, clear-none, answered-on, answered-part, answered-done}
 use Rattle.refusals.proofs.Levels.{good-number}
 use Rattle.refusals.proofs.Short.{none-short}
-use Rattle.marking.specs.Ranges.{triangleOf, TriangleWithin}
-use Rattle.marking.specs.Met.{marked}
+use Rattle.marking.specs.Ranges.{triangleOf}
+use Rattle.meeting.specs.Within.{TriangleWithin}
+use Rattle.meeting.specs.Met.{marked}
 use Rattle.marking.specs.Outcome as Opening
 use Rattle.marking.specs.Open.{opened, openRows, openCall}
 use Rattle.marking.specs.Mark.{Outcome, done, refused, markRows, markCall}
 use Rattle.marking.proofs.Ranges.{triangle-within}
 use Rattle.marking.proofs.OutOfRange.{none-told}
-use Rattle.marking.proofs.Marks.{Unseparated, grid-after, marked-exactly, marked-twice, marked-swapped, marked-length}
+use Rattle.meeting.proofs.Marks.{Unseparated, grid-after, marked-exactly, marked-twice, marked-swapped, marked-length}
 
 -- an outcome's number, place and axis
 abbrev pub answerOf : Outcome → Outcome

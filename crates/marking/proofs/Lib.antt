@@ -1,15 +1,5 @@
 pub mod Accepted
-pub mod Signed
 pub mod Ranges
-pub mod Outside
-pub mod Adding
-pub mod Scanning
-pub mod Written
-pub mod Marks
 pub mod OutOfRange
 pub mod Calls
 pub mod BadCoordinate
-pub mod Masks
-pub mod Planes
-pub mod Corner
-pub mod Tested

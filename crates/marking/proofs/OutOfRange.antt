@@ -22,7 +22,7 @@ use Rattle.triangles.proofs.Order.{<ℤ-≤ℤ, ≤ℤ-<ℤ-trans}
 use Rattle.marking.specs.Ranges.{inRange, allInRange}
 use Rattle.marking.specs.OutOfRange.{below, above, firstOut, badOne, firstBelow, firstAbove, outNumber}
 use Rattle.marking.specs.Mark.{Outcome, refusedAt, refused}
-use Rattle.marking.proofs.Signed.{pos-le, pos-lt}
+use Rattle.meeting.proofs.Positive.{pos-le, pos-lt}
 
 module _ (l : Level) where
   -- no coordinate before it is bad

@@ -15,7 +15,7 @@ use Rattle.triangles.specs.Spans.{lesser, greater, apart}
 use Rattle.triangles.specs.Axes.{units, sides, normal, crossEach, crossed, axes}
 use Rattle.triangles.specs.Meets.{triangleSpan, edgeSpan, separates, noneSeparates, edgeMet}
 use Rattle.marking.specs.Ranges.{latticeOf, vertexAt, triangleOf}
-use Rattle.marking.specs.Met.{placeOf, endsOf, met}
+use Rattle.meeting.specs.Met.{placeOf, endsOf, met}
 
 -- edge x(i,j,k), y(i,j,k) or z(i,j,k)
 abbrev edge : Axis → ℕ → ℕ → ℕ → Edge

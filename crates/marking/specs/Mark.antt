@@ -15,7 +15,7 @@ use Rattle.marking.specs.declared.MarkAnswer.{MarkAnswer}
 use Rattle.marking.specs.declared.MarkAnswer.the-variants.{Done, Refused, Below, Above}
 use Rattle.marking.specs.Ranges.{triangleOf}
 use Rattle.marking.specs.OutOfRange.{firstOut, firstBelow, firstAbove}
-use Rattle.marking.specs.Met.{marked}
+use Rattle.meeting.specs.Met.{marked}
 
 -- the number, the place and the axis of a bad coordinate, and the grid buffer afterwards
 pub record Outcome : Type 0 where

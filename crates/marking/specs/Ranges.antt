@@ -1,16 +1,16 @@
 -- The vertex range, and the triangle that nine numbers give. Assumes nothing.
 use mathlib.Core.Bool.{Bool, _&&_}
 use mathlib.Core.List.{List}
-use Prim.Native.Nat.{ℕ, _+_, _-_, _^_}
+use Prim.Native.Nat.{ℕ, _+_}
 use lib.IntN.{ℤ, pos}
-use lib.Signed.{leZ, _≤ℤ_}
+use lib.Signed.{leZ}
 use lib.ListN.{getD}
 use Rattle.rules.specs.Lists.{allOf}
 use Rattle.lattice.specs.declared.level.Level.{Level}
-use Rattle.lattice.specs.Levels.{sideOf, lowestOf, highestOf}
+use Rattle.lattice.specs.Levels.{lowestOf, highestOf}
 use Rattle.triangles.specs.declared.Vector.{Vector}
 use Rattle.triangles.specs.declared.Triangle.{Triangle}
-use Rattle.triangles.specs.Vectors.{Each, vector}
+use Rattle.triangles.specs.Vectors.{vector}
 
 -- the range is S to 2^20 - S, ends included
 unfoldable pub inRange : Level → ℤ → Bool
@@ -32,14 +32,3 @@ vertexAt c k =
 -- triangle as nine i32, vertices A, B, C
 unfoldable pub triangleOf : List ℤ → Triangle
 triangleOf c = record { a = vertexAt c 0; b = vertexAt c 3; c = vertexAt c 6 }
-
--- a lattice coordinate at least a cell's side from both ends of the lattice
-pub record Within (l : Level) (z : ℤ) : Type 0 where
-  pub low : pos (sideOf l) ≤ℤ z
-  pub high : z ≤ℤ pos (2 ^ 20 - sideOf l)
-
--- a triangle all of whose coordinates are
-pub record TriangleWithin (l : Level) (t : Triangle) : Type 0 where
-  pub a-in : Each (Within l) (t .a)
-  pub b-in : Each (Within l) (t .b)
-  pub c-in : Each (Within l) (t .c)

@@ -1,18 +1,16 @@
 // The calls open and mark.
-pub mod cell;
 pub mod range;
-pub mod scan;
 
 use crate::range::first_out;
 use crate::range::is_below;
 use crate::range::triangle_of;
-use crate::scan::mark_grid;
+use grids::is_grid;
 use lattice::clear;
 use lattice::level::Level;
 use lattice::level::LevelRead;
-use lattice::scan::is_grid;
 use refusals::Answer;
 use refusals::Refusal;
+use scanning::mark_grid;
 ghost use mathlib.Core.Path.{_≡_};
 ghost use mathlib.Core.List.{List, []};
 ghost use Prim.Native.Nat.{ℕ, _<_};

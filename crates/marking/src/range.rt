@@ -1,12 +1,12 @@
 // The vertex range, and the triangle that nine numbers give.
 use lattice::level::Level;
+use meeting::signed;
 use triangles::Triangle;
 use triangles::Vector;
 ghost use mathlib.Core.Path.{_≡_};
-ghost use Prim.Native.Nat.{_+_, _≤_, _<_};
-ghost use lib.IntN.{pos};
+ghost use Prim.Native.Nat.{_+_, _<_};
 ghost use lib.ListN.{length};
-ghost use lib.Signed.{leZ, _≤ℤ_};
+ghost use lib.Signed.{leZ};
 ghost use Rattle.marking.specs.Ranges.{inRange, latticeOf, vertexAt, triangleOf};
 ghost use Rattle.marking.specs.OutOfRange.{below, firstOut};
 
@@ -15,22 +15,6 @@ fn wide(v: i32) -> i64
     ensures { λ r. ⌜ r ≡ v ⌝ }
 {
     v as i64
-}
-
-// Answers a lattice coordinate as a signed number.
-pub fn signed(v: usize) -> i64
-    requires { ⌜ v ≤ 1048576 ⌝ }
-    ensures { λ r. ⌜ r ≡ pos v ⌝ }
-{
-    v as i64
-}
-
-// Answers a lattice coordinate as a plain number.
-pub fn plain(v: i64) -> usize
-    requires { ⌜ pos 0 ≤ℤ v ⌝ }
-    ensures { λ r. ⌜ v ≡ pos r ⌝ }
-{
-    v as usize
 }
 
 // Answers whether a is at most b.

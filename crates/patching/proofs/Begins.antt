@@ -19,7 +19,7 @@ use Rattle.rules.proofs.Patched.{odd-in}
 use Rattle.lattice.specs.Byte.{low, came, marksPutBy, odd, seen, oddPutBy}
 use Rattle.lattice.specs.Cells.{aside, works}
 use Rattle.lattice.proofs.Laws.{num-below}
-use Rattle.lattice.proofs.GridFacts.{grid-marks}
+use Rattle.grids.proofs.GridFacts.{grid-marks}
 use Rattle.walking.specs.Walks.{oddIn, Fine, seenB}
 use Rattle.lattice.proofs.Parts.{packed-has, packed-flag, packed-high}
 use Rattle.lattice.proofs.PointSteps.{cell-grid}

@@ -21,7 +21,7 @@ use Rattle.rules.proofs.PointOf.{number-pointOf, pointOf-grid, places-by-number
 use Rattle.rules.proofs.Listed.{listed}
 use Rattle.rules.proofs.Same.{keep-same, each-same}
 use Rattle.lattice.specs.Cells.{works, facesOf}
-use Rattle.lattice.proofs.GridFacts.{grid-marks}
+use Rattle.grids.proofs.GridFacts.{grid-marks}
 use Rattle.halving.specs.Halving.{Edged}
 use Rattle.halving.proofs.Turns.{works-append, turns-length, turns-past, stored-works, low-faces}
 use Rattle.patching.specs.Marked.{markAt, marksAt, marksFrom}

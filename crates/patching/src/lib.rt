@@ -1,4 +1,5 @@
 // The call patch.
+use grids::is_grid;
 use halving::patch_box;
 use halving::turn_faces;
 use lattice::byte::bit;
@@ -12,7 +13,6 @@ use lattice::clear;
 use lattice::level::Level;
 use lattice::level::LevelRead;
 use lattice::level::point_count;
-use lattice::scan::is_grid;
 use refusals::Refusal;
 use rules::Axis;
 use rules::Point;

@@ -8,7 +8,7 @@ use lib.ListN.{length, getD, set}
 use Rattle.rules.specs.declared.Point.{Point}
 use Rattle.rules.specs.Lists.{each}
 use Rattle.rules.specs.Lattice.{pointCount}
-use Rattle.lattice.proofs.Points.{pointsFrom, At}
+use Rattle.grids.proofs.Points.{pointsFrom, At}
 use Rattle.rules.specs.Signs.{inside}
 use Rattle.surfacing.proofs.Quads.{each-step}
 use Rattle.text.specs.Text.{Put}

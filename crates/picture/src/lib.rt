@@ -1,7 +1,7 @@
 // The points inside: how many there are, and the layers of points as characters.
+use grids::next_point;
 use lattice::level::Level;
 use lattice::level::point_count;
-use lattice::scan::next_point;
 use rules::Point;
 use signing::is_inside;
 use text::put_text;

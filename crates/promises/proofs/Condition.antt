@@ -23,7 +23,7 @@ use Rattle.rules.proofs.Numbers.{marks-inner, bytes-length}
 use Rattle.rules.proofs.OddList.{even-all}
 use Rattle.rules.proofs.Patched.{patched-inner}
 use Rattle.rules.proofs.Condition.{grid-repaired}
-use Rattle.lattice.proofs.Ahead.{bytes-are-grid, bytes-have-marks}
+use Rattle.grids.proofs.Ahead.{bytes-are-grid, bytes-have-marks}
 use Rattle.refusals.specs.Columns.{badLevel}
 use Rattle.patching.specs.Call.{Outcome as Patching, patchCall, patchDone}
 use Rattle.signing.specs.Call.{Outcome as Signing, done, signCall}

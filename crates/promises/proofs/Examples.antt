@@ -17,7 +17,7 @@ use Rattle.triangles.specs.Spans.{lesser, greater, apart}
 use Rattle.triangles.specs.Axes.{units, sides, normal, crossEach, crossed, axes}
 use Rattle.triangles.specs.Meets.{triangleSpan, edgeSpan, separates, noneSeparates, edgeMet}
 use Rattle.marking.specs.Ranges.{inRange, latticeOf, allInRange, vertexAt, triangleOf}
-use Rattle.marking.specs.Met.{placeOf, endsOf, met, marked}
+use Rattle.meeting.specs.Met.{placeOf, endsOf, met, marked}
 use Rattle.marking.specs.Open.{opened, openRows, openCall}
 use Rattle.marking.specs.Mark.{markRows, markCall}
 use Rattle.patching.specs.Call.{patchDone, patchRows, patchCall}

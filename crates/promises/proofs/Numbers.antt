@@ -10,7 +10,7 @@ use Rattle.refusals.proofs.First.{first-exactly}
 use Rattle.refusals.proofs.Lowest.{lowest-exactly}
 use Rattle.refusals.proofs.Answered.{answered-number, answered-refused}
 use Rattle.marking.specs.Ranges.{triangleOf}
-use Rattle.marking.specs.Met.{marked}
+use Rattle.meeting.specs.Met.{marked}
 use Rattle.marking.specs.Outcome as Opening
 use Rattle.marking.specs.Open.{opened, openRows, openCall}
 use Rattle.marking.specs.Mark as Marking

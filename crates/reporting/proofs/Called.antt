@@ -18,7 +18,7 @@ use Rattle.rules.proofs.Patched.{patched-even, patched-inner}
 use Rattle.rules.proofs.OddList.{even-all}
 use Rattle.lattice.specs.declared.level.Level.{Level}
 use Rattle.lattice.specs.Levels.{numberOf, cellsOf, pointsOf}
-use Rattle.lattice.proofs.Ahead.{bytes-are-grid, bytes-have-marks}
+use Rattle.grids.proofs.Ahead.{bytes-are-grid, bytes-have-marks}
 use Rattle.refusals.specs.Columns.{badLevel, levelAt}
 use Rattle.patching.specs.Call.{Outcome as Patching, counted, patchRows, patchDone, patchCall}
 use Rattle.signing.specs.Call.{done, signRows, signCall}

@@ -21,7 +21,7 @@ use Rattle.rules.proofs.PointOf.{number-pointOf, pointOf-number, pointOf-grid, 
 use Rattle.rules.proofs.Signs.{sign-up}
 use Rattle.rules.proofs.Consistent.{grid-outer}
 use Rattle.rules.proofs.OddList.{even-all}
-use Rattle.lattice.proofs.GridFacts.{grid-marks}
+use Rattle.grids.proofs.GridFacts.{grid-marks}
 
 -- the sign byte of a point, by its number
 abbrev pub signOf : ℕ → Set → ℕ → ℕ

@@ -1,10 +1,10 @@
 // The call sign: which points are inside.
+use grids::all_even;
+use grids::is_grid;
 use lattice::byte::bit;
 use lattice::level::Level;
 use lattice::level::LevelRead;
 use lattice::level::point_count;
-use lattice::scan::all_even;
-use lattice::scan::is_grid;
 use refusals::Answer;
 use refusals::Refusal;
 use rules::Axis;

@@ -23,7 +23,7 @@ use Rattle.refusals.proofs.First.{first-exactly}
 use Rattle.refusals.proofs.Levels.{good-number}
 use Rattle.marking.specs.Ranges.{allInRange, triangleOf}
 use Rattle.marking.specs.OutOfRange.{badOne, firstBelow, firstAbove, outNumber}
-use Rattle.marking.specs.Met.{marked as markedBy}
+use Rattle.meeting.specs.Met.{marked as markedBy}
 use Rattle.marking.specs.Open.{openRows, openCall}
 use Rattle.marking.proofs.OutOfRange.{out-some, out-rows}
 use Rattle.patching.specs.Call.{patchDone}

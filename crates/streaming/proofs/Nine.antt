@@ -18,7 +18,7 @@ use Rattle.refusals.specs.Columns.{badLevel, levelAt}
 use Rattle.refusals.proofs.First.{first-exactly}
 use Rattle.marking.specs.Ranges.{allInRange, triangleOf}
 use Rattle.marking.specs.OutOfRange.{firstBelow, firstAbove}
-use Rattle.marking.specs.Met.{marked}
+use Rattle.meeting.specs.Met.{marked}
 use Rattle.marking.specs.Open.{opened}
 use Rattle.marking.proofs.OutOfRange.{none-told}
 use Rattle.surfacing.specs.Call.{shortList}

@@ -10,7 +10,7 @@ use Rattle.rules.specs.Grid.{isGrid}
 use Rattle.lattice.specs.declared.level.Level.{Level}
 use Rattle.lattice.specs.declared.level.LevelRead.the-variants.{Known, Unknown}
 use Rattle.lattice.specs.Levels.{levelOf, numberOf, cellsOf, pointsOf}
-use Rattle.lattice.proofs.Ahead.{open-grid}
+use Rattle.grids.proofs.Ahead.{open-grid}
 use Rattle.refusals.proofs.Levels.{read-unknown, read-known, good-number}
 use Rattle.marking.specs.Outcome.{done}
 use Rattle.marking.specs.Open.{opened, openRows, openCall}

@@ -13,7 +13,7 @@ use Rattle.refusals.specs.Rows.{Row, _when_}
 use Rattle.refusals.specs.Columns.{badLevel, levelAt}
 use Rattle.marking.specs.Ranges.{allInRange, triangleOf}
 use Rattle.marking.specs.OutOfRange.{firstBelow, firstAbove}
-use Rattle.marking.specs.Met.{marked}
+use Rattle.meeting.specs.Met.{marked}
 use Rattle.marking.specs.Open.{opened}
 use Rattle.surfacing.specs.Call.{shortList}
 use Rattle.text.specs.Words.{numbers}

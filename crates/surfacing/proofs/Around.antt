@@ -15,8 +15,8 @@ use Rattle.rules.specs.Quads.{next, quad}
 use Rattle.rules.proofs.Boxes.{inBox→}
 use Rattle.rules.proofs.Numbers.{number-below, marks-inner}
 use Rattle.lattice.specs.Cells.{Cell}
-use Rattle.lattice.proofs.Points.{At, at-grid}
-use Rattle.lattice.proofs.GridFacts.{grid-marks}
+use Rattle.grids.proofs.Points.{At, at-grid}
+use Rattle.grids.proofs.GridFacts.{grid-marks}
 use Rattle.lattice.proofs.PointSteps.{pred-pos}
 use Rattle.surfacing.specs.Listing.{cellStep, MarksInner}
 

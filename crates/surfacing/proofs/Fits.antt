@@ -17,7 +17,7 @@ use Rattle.rules.proofs.Bits.{&&-true, &&-false}
 use Rattle.rules.proofs.Lists.{allOf-and}
 use Rattle.signing.specs.SignBytes.{signByte}
 use Rattle.signing.proofs.Differ.{differ-is}
-use Rattle.lattice.proofs.GridFacts.{grid-marks}
+use Rattle.grids.proofs.GridFacts.{grid-marks}
 use Rattle.lattice.specs.Cells.{pointStep}
 use Rattle.lattice.proofs.PointSteps.{number-up}
 use Rattle.surfacing.specs.Fit.{edgeFits, pointFits, signsFit, smallSign, smallSigns, signBytesFit, Grids}

@@ -21,8 +21,8 @@ use Rattle.rules.proofs.Sums.{count-append}
 use Rattle.rules.proofs.Listed.{count-places}
 use Rattle.rules.proofs.Same.{each-same}
 use Rattle.rules.proofs.PointOf.{points-grid}
-use Rattle.lattice.proofs.Points.{pointsFrom, points-start, points-more, points-end, At, at-grid}
-use Rattle.lattice.proofs.GridFacts.{grid-marks}
+use Rattle.grids.proofs.Points.{pointsFrom, points-start, points-more, points-end, At, at-grid}
+use Rattle.grids.proofs.GridFacts.{grid-marks}
 use Rattle.lattice.proofs.Written.{sets-append}
 use Rattle.surfacing.specs.Fit.{Grids}
 use Rattle.surfacing.specs.Listing.{quadCount, byteQuad, byteQuads}

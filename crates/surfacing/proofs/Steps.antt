@@ -6,7 +6,7 @@ use Rattle.rules.specs.declared.Point.{Point}
 use Rattle.rules.specs.Lattice.{coord, up, origin, pointNumber, pointCount, pointOf, OfGrid}
 use Rattle.rules.proofs.PointOf.{number-pointOf, pointOf-grid}
 use Rattle.lattice.specs.Cells.{pointStep}
-use Rattle.lattice.proofs.Points.{At}
+use Rattle.grids.proofs.Points.{At}
 use Rattle.lattice.proofs.PointSteps.{number-up, edge-ends}
 use Rattle.lattice.proofs.Laws.{num-below}
 

@@ -1,8 +1,8 @@
 // Whether signs fit a grid: none above 1, point (0,0,0) outside, and a sign change exactly where there is a mark.
+use grids::next_point;
 use lattice::byte::bit;
 use lattice::coordinate;
 use lattice::level::point_count;
-use lattice::scan::next_point;
 use lattice::step;
 use rules::Axis;
 use rules::Point;

@@ -3,9 +3,9 @@ pub mod fit;
 pub mod listing;
 
 use fit::signs_fit;
+use grids::is_grid;
 use lattice::level::Level;
 use lattice::level::LevelRead;
-use lattice::scan::is_grid;
 use listing::count_quads;
 use listing::write_quads;
 use refusals::Refusal;

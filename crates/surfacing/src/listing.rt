@@ -1,7 +1,7 @@
 // The list of quads: the four cells around each marked edge, by rising point number, x before y before z at one point.
+use grids::next_point;
 use lattice::byte::bit;
 use lattice::level::point_count;
-use lattice::scan::next_point;
 use rules::Axis;
 use rules::Point;
 use signing::is_inside;

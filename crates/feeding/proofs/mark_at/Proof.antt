@@ -10,11 +10,12 @@ use borrow.Author.Needs.{needs}
 use mir.Syntax.{w32}
 use Rattle.lattice.specs.declared.level.Level.{Level}
 use Rattle.triangles.specs.declared.Triangle.{Triangle}
-use Rattle.marking.specs.Ranges.{allInRange, triangleOf, TriangleWithin}
+use Rattle.marking.specs.Ranges.{allInRange, triangleOf}
+use Rattle.meeting.specs.Within.{TriangleWithin}
 use Rattle.marking.specs.OutOfRange.{firstOut, badOne, outNumber}
-use Rattle.marking.specs.Met.{marked}
+use Rattle.meeting.specs.Met.{marked}
 use Rattle.marking.specs.Mark.{Outcome}
-use Rattle.marking.proofs.Signed.{Plain}
+use Rattle.meeting.proofs.Positive.{Plain}
 use Rattle.marking.proofs.Ranges.{triangle-within}
 use Rattle.marking.proofs.OutOfRange.{some-out, none-out}
 use Rattle.text.specs.Words.{numbers}

@@ -19,7 +19,7 @@ use Rattle.marking.specs.OutOfRange.{firstOut, outNumber}
 use Rattle.marking.specs.Mark.{done, refusedAt, markRows, markCall}
 use Rattle.marking.proofs.Ranges.{triangle-within}
 use Rattle.marking.proofs.OutOfRange.{some-out, none-out, out-told}
-use Rattle.marking.proofs.Signed.{Plain}
+use Rattle.meeting.proofs.Positive.{Plain}
 use Rattle.marking.proofs.mark.Statement.{statement}
 use Rattle.marking.proofs.mark.Tie as tie
 

@@ -4,7 +4,7 @@ use mathlib.Core.Bool.{true, false}
 use borrow.Author.Needs.{needs}
 use mir.Syntax.{w32}
 use Rattle.marking.specs.OutOfRange.{below, outNumber}
-use Rattle.marking.proofs.Signed.{Plain}
+use Rattle.meeting.proofs.Positive.{Plain}
 use Rattle.marking.proofs.out_of_range.Statement.{statement}
 use Rattle.marking.proofs.out_of_range.Tie as tie
 

@@ -8,7 +8,7 @@ use lib.ListN.{length, length-set}
 use Rattle.rules.specs.Lists.{each}
 use Rattle.rules.specs.Lattice.{pointCount}
 use Rattle.rules.specs.Signs.{inside}
-use Rattle.lattice.proofs.Points.{pointsFrom, points-start, points-end, At, at-start, at-grid, at-next}
+use Rattle.grids.proofs.Points.{pointsFrom, points-start, points-end, At, at-start, at-grid, at-next}
 use Rattle.text.specs.Text.{Put}
 use Rattle.picture.specs.Picture.{pointText, picture}
 use Rattle.text.proofs.Texts.{put-none}

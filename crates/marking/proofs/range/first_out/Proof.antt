@@ -11,7 +11,7 @@ use mir.Syntax.{w32}
 use Rattle.marking.proofs.OutOfRange.{first-here, first-later}
 use Rattle.marking.specs.Ranges.{inRange}
 use Rattle.marking.specs.OutOfRange.{firstOut}
-use Rattle.marking.proofs.Signed.{Plain}
+use Rattle.meeting.proofs.Positive.{Plain}
 use Rattle.marking.proofs.range.first_out.Statement.{statement}
 use Rattle.marking.proofs.range.first_out.Tie as tie
 

@@ -9,7 +9,7 @@ use mir.Syntax.{w32, w64}
 use Rattle.lattice.specs.Levels.{lowestOf}
 use Rattle.marking.specs.Ranges.{inRange}
 use Rattle.marking.specs.OutOfRange.{below}
-use Rattle.marking.proofs.Signed.{Plain}
+use Rattle.meeting.proofs.Positive.{Plain}
 use Rattle.marking.proofs.range.in_range.Statement.{statement}
 use Rattle.marking.proofs.range.in_range.Tie as tie
 

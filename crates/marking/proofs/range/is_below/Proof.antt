@@ -8,7 +8,7 @@ use mir.Syntax.{w32, w64}
 use Rattle.lattice.specs.Levels.{lowestOf}
 use Rattle.lattice.proofs.LevelFacts.{side-most}
 use Rattle.marking.specs.OutOfRange.{below}
-use Rattle.marking.proofs.Signed.{Plain}
+use Rattle.meeting.proofs.Positive.{Plain}
 use Rattle.marking.proofs.range.is_below.Statement.{statement}
 use Rattle.marking.proofs.range.is_below.Tie as tie
 

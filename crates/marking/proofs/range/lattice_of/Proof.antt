@@ -1,7 +1,7 @@
 -- `lattice_of` meets its contract. Assumes nothing.
 use borrow.Author.Needs.{needs}
 use mir.Syntax.{w32, w64}
-use Rattle.marking.proofs.Signed.{Plain}
+use Rattle.meeting.proofs.Positive.{Plain}
 use Rattle.marking.specs.Ranges.{latticeOf}
 use Rattle.marking.proofs.range.lattice_of.Statement.{statement}
 use Rattle.marking.proofs.range.lattice_of.Tie as tie

@@ -5,7 +5,7 @@ use lib.IntN.{pos}
 use lib.ListN.{getD}
 use mir.Syntax.{w32, w64}
 use Rattle.marking.specs.Ranges.{vertexAt}
-use Rattle.marking.proofs.Signed.{Plain}
+use Rattle.meeting.proofs.Positive.{Plain}
 use Rattle.marking.proofs.range.vertex_at.Statement.{statement}
 use Rattle.marking.proofs.range.vertex_at.Tie as tie
 

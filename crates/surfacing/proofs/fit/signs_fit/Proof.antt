@@ -12,7 +12,7 @@ use Rattle.rules.specs.Grid.{marks}
 use Rattle.rules.specs.Signs.{inside}
 use Rattle.rules.specs.declared.Point.{Point}
 use Rattle.lattice.proofs.Tests.{fails, holds}
-use Rattle.lattice.proofs.Points.{pointsFrom, At, at-start, at-grid, at-next, all-start, all-more, all-fails, all-end}
+use Rattle.grids.proofs.Points.{pointsFrom, At, at-start, at-grid, at-next, all-start, all-more, all-fails, all-end}
 use Rattle.surfacing.specs.Fit.{pointFits, smallSign, signBytesFit}
 use Rattle.surfacing.proofs.Steps.{count-some}
 use Rattle.surfacing.proofs.Fits.{origin-inside, origin-outside}

@@ -10,7 +10,7 @@ use Rattle.rules.specs.Lattice.{pointCount}
 use Rattle.rules.specs.Grid.{marks}
 use Rattle.rules.specs.Quads.{quads}
 use Rattle.rules.specs.Signs.{inside}
-use Rattle.lattice.proofs.Points.{At, at-start, at-grid, at-next}
+use Rattle.grids.proofs.Points.{At, at-start, at-grid, at-next}
 use Rattle.lattice.proofs.Written.{written}
 use Rattle.surfacing.specs.Listing.{quadCount}
 use Rattle.surfacing.proofs.Around.{marks-inner-at}

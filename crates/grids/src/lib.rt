@@ -1,0 +1,213 @@
+// What every scan of the points needs: the point after a point, inner edges, "is a grid", "no face is odd".
+use lattice::byte::bit;
+use lattice::cell::edge_rule;
+use lattice::level::point_count;
+use lattice::number_of;
+use lattice::odd;
+use rules::Axis;
+use rules::Point;
+ghost use mathlib.Core.Path.{_≡_};
+ghost use mathlib.Core.Bool.{true, not, _||_};
+ghost use Prim.Native.Nat.{_≤_};
+ghost use lib.ListN.{length};
+ghost use Rattle.rules.specs.Lists.{between};
+ghost use Rattle.rules.specs.Lattice.{inner, pointCount, pointOf};
+ghost use Rattle.rules.specs.Cell.{oddFace};
+ghost use Rattle.rules.specs.Grid.{has, byteFits, isGrid, marks};
+ghost use Rattle.rules.specs.Lattice.{OfGrid};
+ghost use Rattle.rules.specs.Rims.{evenFaces};
+ghost use Rattle.lattice.specs.Cells.{Cell};
+ghost use Rattle.grids.specs.Scans.{nextPoint, innerAlong, deep, lowerEven};
+
+// The point after a point, by rising number.
+pub fn next_point(n: usize, p: Point) -> Point
+    requires { ⌜ (n ≤ 32) × OfGrid n p ⌝ }
+    ensures { λ r. ⌜ r ≡ nextPoint n p ⌝ }
+{
+    if p.i < n {
+        return Point {
+            i: p.i + 1,
+            j: p.j,
+            k: p.k,
+        };
+    }
+    if p.j < n {
+        return Point {
+            i: 0,
+            j: p.j + 1,
+            k: p.k,
+        };
+    }
+    Point {
+        i: 0,
+        j: 0,
+        k: p.k + 1,
+    }
+}
+
+// Whether i is one of the numbers from l on and below h.
+fn is_between(l: usize, h: usize, i: usize) -> bool
+    ensures { λ r. ⌜ r ≡ between l h i ⌝ }
+{
+    if i < l {
+        return false;
+    }
+    i < h
+}
+
+// Whether an edge with the lengthwise coordinate l and the crosswise ones u and v is inner.
+fn is_inner_along(n: usize, l: usize, u: usize, v: usize) -> bool
+    ensures { λ r. ⌜ r ≡ innerAlong n l u v ⌝ }
+{
+    if !is_between(0, n, l) {
+        return false;
+    }
+    if !is_between(1, n, u) {
+        return false;
+    }
+    is_between(1, n, v)
+}
+
+// Whether the edge along a at p is inner.
+pub fn is_inner(n: usize, a: Axis, p: Point) -> bool
+    ensures { λ r. ⌜ r ≡ inner n a p ⌝ }
+{
+    match a {
+        Axis::X => is_inner_along(n, p.i, p.j, p.k),
+        Axis::Y => is_inner_along(n, p.j, p.i, p.k),
+        Axis::Z => is_inner_along(n, p.k, p.i, p.j),
+    }
+}
+
+// Whether a byte has no mark along a, or its edge is inner.
+fn mark_fits(n: usize, b: u8, a: Axis, p: Point) -> bool
+    ensures { λ r. ⌜ r ≡ (not (has a b) || inner n a p) ⌝ }
+{
+    if !bit(b, a) {
+        return true;
+    }
+    is_inner(n, a, p)
+}
+
+// Whether all three coordinates of a point lie in 1..n-1, so that its three edges are inner.
+fn is_deep(n: usize, p: Point) -> bool
+    ensures { λ r. ⌜ r ≡ deep n p ⌝ }
+{
+    if !is_between(1, n, p.i) {
+        return false;
+    }
+    if !is_between(1, n, p.j) {
+        return false;
+    }
+    is_between(1, n, p.k)
+}
+
+// Whether a byte may stand at a point of a grid. Most points are deep, and there any byte up to 7 may.
+pub fn byte_fits(n: usize, b: u8, p: Point) -> bool
+    ensures { λ r. ⌜ r ≡ byteFits n b p ⌝ }
+{
+    if b == 0 {
+        return true;
+    }
+    if 7 < b {
+        return false;
+    }
+    if is_deep(n, p) {
+        return true;
+    }
+    if !mark_fits(n, b, Axis::X, p) {
+        return false;
+    }
+    if !mark_fits(n, b, Axis::Y, p) {
+        return false;
+    }
+    mark_fits(n, b, Axis::Z, p)
+}
+
+// Whether the first P bytes of a buffer are a grid.
+pub fn is_grid(n: usize, grid: &[u8]) -> bool
+    requires { ⌜ (n ≤ 32) × (pointCount n ≤ length (now grid)) ⌝ }
+    ensures { λ r. ⌜ r ≡ isGrid n (now (grid .entry)) ⌝ }
+{
+    let count = point_count(n);
+    let mut q = Point { i: 0, j: 0, k: 0 };
+    let mut p: usize = 0;
+    while p < count {
+        if !byte_fits(n, grid[p], q) {
+            return false;
+        }
+        q = next_point(n, q);
+        p += 1;
+    }
+    true
+}
+
+// Whether the lower face square to a of the cell at point number `at` is odd. By literals, since a table read by a variable is laid out at each use.
+fn lower_odd(n: usize, grid: &[u8], at: usize, a: Axis) -> bool
+    requires { ⌜ (n ≤ 32) × (pointCount n ≤ length (now grid)) × (isGrid n (now grid) ≡ true) × Cell n (pointOf n at) ⌝ }
+    ensures { λ r. ⌜ r ≡ oddFace (marks n (now (grid .entry))) a (pointOf n at) ⌝ }
+{
+    match a {
+        Axis::X => odd(
+            n,
+            grid,
+            at,
+            edge_rule(4),
+            edge_rule(6),
+            edge_rule(8),
+            edge_rule(10),
+        ),
+        Axis::Y => odd(
+            n,
+            grid,
+            at,
+            edge_rule(0),
+            edge_rule(2),
+            edge_rule(8),
+            edge_rule(9),
+        ),
+        Axis::Z => odd(
+            n,
+            grid,
+            at,
+            edge_rule(0),
+            edge_rule(1),
+            edge_rule(4),
+            edge_rule(5),
+        ),
+    }
+}
+
+// Whether none of a cell's three lower faces is odd.
+fn lower_even(n: usize, grid: &[u8], c: Point) -> bool
+    requires { ⌜ (n ≤ 32) × (pointCount n ≤ length (now grid)) × (isGrid n (now grid) ≡ true) × Cell n c ⌝ }
+    ensures { λ r. ⌜ r ≡ lowerEven (marks n (now (grid .entry))) c ⌝ }
+{
+    let at = number_of(n, c);
+    if lower_odd(n, grid, at, Axis::X) {
+        return false;
+    }
+    if lower_odd(n, grid, at, Axis::Y) {
+        return false;
+    }
+    !lower_odd(n, grid, at, Axis::Z)
+}
+
+// Whether no face of a grid is odd. Each face that can be is a lower face of one cell.
+pub fn all_even(n: usize, grid: &[u8]) -> bool
+    requires { ⌜ (1 ≤ n) × (n ≤ 32) × (pointCount n ≤ length (now grid)) × (isGrid n (now grid) ≡ true) ⌝ }
+    ensures { λ r. ⌜ r ≡ evenFaces n (marks n (now (grid .entry))) ⌝ }
+{
+    let last = n - 1;
+    let count = point_count(last);
+    let mut c = Point { i: 0, j: 0, k: 0 };
+    let mut k: usize = 0;
+    while k < count {
+        if !lower_even(n, grid, c) {
+            return false;
+        }
+        c = next_point(last, c);
+        k += 1;
+    }
+    true
+}
