@@ -93,7 +93,7 @@ static void count_triangle(const struct measures *m, uint8_t *grid, const int32_
     vector v[3], axes[LATER];
     int low[3], high[3], built = 0;
     for (int k = 0; k < 9; k++)
-        v[k / 3][k % 3] = t[k];
+        v[k / 3][k % 3] = tested_at(t[k]);
     for (int d = X; d <= Z; d++) {
         int64_t least = v[0][d], most = v[0][d];
         for (int k = 1; k < 3; k++) {
@@ -148,7 +148,7 @@ static void count_stream(const char *path)
 
 int main(int argc, char **argv)
 {
-    static const int32_t whole[9] = {32768, 32768, 32768, 1015808, 1015808, 40000, 50000, 1015808, 1015808};
+    static const int32_t whole[9] = {16384, 16384, 16384, 507903, 507903, 20000, 25000, 507903, 507903};
     static uint8_t grid[MOST_POINTS];
     struct measures m = measures_of(5);
     struct counts c = {0};

@@ -19,14 +19,17 @@ static const double seconds_a_row = 0.4;
 typedef uint32_t mark(uint32_t level, uint8_t *grid, size_t grid_len, const int32_t *triangle, size_t triangle_len, uint32_t *place,
                       uint32_t *axis);
 
-/* The earlier library's mark told no place and no axis. */
+/* The earlier library's mark told no place and no axis, and took lattice coordinates: it is handed those that are tested. */
 uint32_t before_mark(uint32_t level, uint8_t *grid, size_t grid_len, const int32_t *triangle, size_t triangle_len) __attribute__((weak));
 
 static uint32_t earlier_mark(uint32_t level, uint8_t *grid, size_t grid_len, const int32_t *triangle, size_t triangle_len, uint32_t *place,
                              uint32_t *axis)
 {
+    int32_t tested[9];
+    for (int c = 0; c < 9; c++)
+        tested[c] = tested_at(triangle[c]);
     *place = *axis = 0;
-    return before_mark(level, grid, grid_len, triangle, triangle_len);
+    return before_mark(level, grid, grid_len, tested, triangle_len);
 }
 
 static mark *const sides[SIDES] = {omphirun_mark, reference_mark_near, earlier_mark};
@@ -83,7 +86,7 @@ static void time_moved(const char *input, const int32_t corners[9], int by, int 
     for (int t = 0; t < many; t++)
         for (int c = 0; c < 9; c++) {
             int at = corners[c] + between(&r, -by, by);
-            triangles[t][c] = at < m.s ? m.s : at > (1 << 20) - m.s ? (1 << 20) - m.s : at;
+            triangles[t][c] = at < lowest(&m) ? lowest(&m) : at > highest(&m) ? highest(&m) : at;
         }
     row(input, 5);
 }
@@ -93,12 +96,13 @@ static void time_wide(const char *input, uint32_t level, int cells, int copies)
 {
     struct random r = {2};
     struct measures m = measures_of(level);
+    int width = cells * m.s / 2;
     many = copies;
     for (int t = 0; t < many; t++)
         for (int d = X; d <= Z; d++) {
-            int low = between(&r, m.s, (1 << 20) - m.s - cells * m.s), ends = (int)below(&r, 3);
+            int low = between(&r, lowest(&m), highest(&m) - width), ends = (int)below(&r, 3);
             for (int v = 0; v < 3; v++)
-                triangles[t][3 * v + d] = low + (v == ends ? between(&r, 0, cells * m.s) : (v + 1) % 3 == ends ? 0 : cells * m.s);
+                triangles[t][3 * v + d] = low + (v == ends ? between(&r, 0, width) : (v + 1) % 3 == ends ? 0 : width);
         }
     row(input, level);
 }
@@ -127,19 +131,19 @@ static void time_stream(const char *path)
 
 int main(int argc, char **argv)
 {
-    static const int32_t whole[9] = {32768, 32768, 32768, 1015808, 1015808, 40000, 50000, 1015808, 1015808};
-    static const int32_t plane[9] = {524288, 32768, 32768, 524288, 1015808, 32768, 524288, 32768, 1015808};
-    static const int32_t needle[9] = {32768, 32768, 32768, 1015808, 1015808, 1015808, 1015808, 1015808, 1015808};
-    static const int32_t point[9] = {524288, 524288, 524288, 524288, 524288, 524288, 524288, 524288, 524288};
+    static const int32_t whole[9] = {16384, 16384, 16384, 507903, 507903, 20000, 25000, 507903, 507903};
+    static const int32_t plane[9] = {262144, 16384, 16384, 262144, 507903, 16384, 262144, 16384, 507903};
+    static const int32_t needle[9] = {16384, 16384, 16384, 507903, 507903, 507903, 507903, 507903, 507903};
+    static const int32_t line[9] = {262143, 262143, 262143, 262144, 262144, 262144, 262144, 262144, 262144};
     setvbuf(stdout, NULL, _IOLBF, 0);
     printf("%-8s %-34s %5s %12s %12s %7s", "call", "input", "level", "library us", "reference us", "ratio");
     printf("%s\n", before_mark ? "    before us  faster" : "");
     time_moved("a triangle through the whole grid", whole, 0, 1);
     time_moved("the same, moved a little", whole, 3000, 100);
-    time_moved("a triangle on a grid plane", plane, 0, 1);
+    time_moved("a triangle next to a grid plane", plane, 0, 1);
     time_moved("a needle from corner to corner", needle, 0, 1);
     time_moved("the same, moved a little", needle, 3000, 100);
-    time_moved("a point on a grid point", point, 0, 1);
+    time_moved("a short line through a grid point", line, 0, 1);
     time_wide("half the grid wide", 5, 16, 200);
     time_wide("a quarter of the grid wide", 5, 8, MOST_TIMED);
     time_wide("two cells wide", 5, 2, MOST_TIMED);

@@ -225,10 +225,10 @@ static uint32_t of_every_size(uint32_t number) /* up to 2^30 */
 
 int main(int argc, char **argv)
 {
-    static const int32_t whole[9] = {32768, 32768, 32768, 1015808, 1015808, 40000, 50000, 1015808, 1015808};
-    static const int32_t plane[9] = {524288, 32768, 32768, 524288, 1015808, 32768, 524288, 32768, 1015808};
-    static const int32_t needle[9] = {32768, 32768, 32768, 1015808, 1015808, 1015808, 1015808, 1015808, 1015808};
-    static const int32_t point[9] = {524288, 524288, 524288, 524288, 524288, 524288, 524288, 524288, 524288};
+    static const int32_t whole[9] = {16384, 16384, 16384, 507903, 507903, 20000, 25000, 507903, 507903};
+    static const int32_t plane[9] = {262144, 16384, 16384, 262144, 507903, 16384, 262144, 16384, 507903};
+    static const int32_t needle[9] = {16384, 16384, 16384, 507903, 507903, 507903, 507903, 507903, 507903};
+    static const int32_t line[9] = {262143, 262143, 262143, 262144, 262144, 262144, 262144, 262144, 262144};
     setvbuf(stdout, NULL, _IOLBF, 0);
     printf("%-8s %-34s %5s %12s %12s %7s\n", "call", "input", "level", "library us", "reference us", "ratio");
     for (uint32_t l = 2; l <= 5; l++) {
@@ -237,9 +237,9 @@ int main(int argc, char **argv)
         printf("\n");
     }
     time_triangle("a triangle through the whole grid", whole);
-    time_triangle("a triangle on a grid plane", plane);
+    time_triangle("a triangle next to a grid plane", plane);
     time_triangle("a needle from corner to corner", needle);
-    time_triangle("a point on a grid point", point);
+    time_triangle("a short line through a grid point", line);
     time_read("coordinates above zero", above_zero);
     time_read("coordinates of both signs", of_both_signs);
     time_read("coordinates of every size", of_every_size);

@@ -4,7 +4,8 @@
    their order: open, mark for each triangle, patch, sign, surface.
 
    Measures. At level L, 2 to 5, the grid has n = 2^L cells a side and P = (n+1)^3 points. Lattice coordinates run from 0 to
-   2^20; a cell's side is S = 2^(20-L), and point (i,j,k) lies at (iS, jS, kS). A point's number is i + (n+1)(j + (n+1)k), a
+   2^20; a cell's side is S = 2^(20-L), and point (i,j,k) lies at (iS, jS, kS). Triangles are given in model coordinates, 0 to 524,287:
+   v stands for the lattice coordinate 2v+1, which is odd and so never on a grid plane. A point's number is i + (n+1)(j + (n+1)k), a
    cell's i + n(j + nk). A grid holds one byte a point: 1 for a marked x edge from that point on, 2 for y, 4 for z, added. A mark
    stands only on an inner edge, one whose two crosswise coordinates lie in 1..n-1; a byte above 7 or a mark elsewhere makes the
    buffer no grid. Signs are one byte a point, 0 outside and 1 inside.
@@ -15,10 +16,10 @@
      1  the level is not 2 to 5                                    all calls with a level
      2  a grid, work or sign buffer is shorter than P              all calls with a level
      3  the triangle is not nine numbers, fewer or more            mark
-     4  a coordinate lies outside S to 2^20 - S, and the first
-        that does lies below it                                    mark
-    24  a coordinate lies outside S to 2^20 - S, and the first
-        that does lies above it                                    mark
+     4  a coordinate lies outside S/2 to 524,287 - S/2, and the
+        first that does lies below it                              mark
+    24  a coordinate lies outside S/2 to 524,287 - S/2, and the
+        first that does lies above it                              mark
      5  the buffer is no grid                                      all of these but open
      6  some face of a cell has an odd number of marked edges      sign
      7  a sign above 1, point (0,0,0) inside, an edge whose ends
@@ -56,7 +57,7 @@ extern "C" {
 #endif
 
 /* The version: the first number rises when a caller has to change, the second when there is something new. It stands here alone. */
-#define OMPHIRUN_MAJOR 2
+#define OMPHIRUN_MAJOR 3
 #define OMPHIRUN_MINOR 0
 #define OMPHIRUN_PATCH 0
 
@@ -85,6 +86,10 @@ enum omphirun_number {
 #define OMPHIRUN_POINTS(level) ((OMPHIRUN_CELLS(level) + 1) * (OMPHIRUN_CELLS(level) + 1) * (OMPHIRUN_CELLS(level) + 1))
 #define OMPHIRUN_SIDE(level) (1 << (20 - (level)))
 
+/* The lowest and the highest model coordinate that mark takes at a level, S/2 and 524,287 - S/2. */
+#define OMPHIRUN_LOWEST(level) (1 << (19 - (level)))
+#define OMPHIRUN_HIGHEST(level) (524287 - OMPHIRUN_LOWEST(level))
+
 /* A list that is long enough for every surface at a level, in numbers: four for each inner edge, of which there are 3 n (n-1)^2. */
 #define OMPHIRUN_EDGES(level) (3 * OMPHIRUN_CELLS(level) * (OMPHIRUN_CELLS(level) - 1) * (OMPHIRUN_CELLS(level) - 1))
 #define OMPHIRUN_LIST(level) (4 * OMPHIRUN_EDGES(level))
@@ -96,10 +101,12 @@ enum omphirun_number {
    Refusals: 1, 2. */
 uint32_t omphirun_open(uint32_t level, uint8_t *grid, size_t grid_len);
 
-/* Mark. The triangle is nine lattice coordinates, Ax Ay Az Bx By Bz Cx Cy Cz. The marks of all edges that it meets are added; none
+/* Mark. The triangle is nine model coordinates, Ax Ay Az Bx By Bz Cx Cy Cz. The marks of all edges that it meets are added; none
    is removed, and no other byte changes. An edge is met when none of thirteen axes separates it from the triangle; touching is
-   meeting. Triangles of no area are allowed. The order of triangles makes no difference, nor does marking one twice. Each call looks at
-   all P bytes first, since it takes any buffer and 5 has to be told: for a small triangle that is most of its time.
+   meeting. A triangle square to an axis adds marks only to edges along that axis that go through its plane, in one layer of cells, so
+   that a flat face does not thicken; one that is sloped can go through a grid point, and then meets all six edges there. Triangles of no
+   area are allowed. The order of triangles makes no difference, nor does marking one twice. Each call looks at all P bytes first, since
+   it takes any buffer and 5 has to be told: for a small triangle that is most of its time.
    When it is refused by 4 or 24, *place is the place of the first coordinate that is out, 0 to 8 in the order of the nine, and *axis its
    axis, 0 to 2; both are 0 in every other case.
    Refusals, in this order: 1, 2, 3, 4 or 24, 5. */
@@ -129,7 +136,7 @@ uint32_t omphirun_surface(uint32_t level, const uint8_t *grid, size_t grid_len, 
 /* Read a binary STL file: 80 header bytes, a little-endian u32 count, then 50 bytes a triangle (normal, three vertices, all f32, and a
    u16). Each coordinate times 2^e is rounded to the nearest whole number, halves away from zero; normals and the u16 are not looked at.
    The triangles go to the front of the list, nine numbers each in file order, and those behind keep their contents; *triangles is their
-   number. Whether a triangle lies in a level's range is for mark to say. One pass over the vertices: at the first faulty one it is 12 when
+   number. They are model coordinates as mark takes them; whether a triangle lies in a level's range is for mark to say. One pass over the vertices: at the first faulty one it is 12 when
    any of its numbers is not finite, with the axis of the first such number in *axis, 0 to 2, and 13 otherwise; 2^30 itself is no fault.
    Refusals, in this order: 14, 11, 10, 8, then 12 or 13, with *triangles 0; *axis is 0 but with 12. */
 uint32_t omphirun_read_stl(const uint8_t *file, size_t file_len, int32_t e, int32_t *list, size_t list_len, uint32_t *triangles,

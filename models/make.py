@@ -1,11 +1,11 @@
 #!/usr/bin/env python3
 """Makes the sample models: streams for `repair`, each with a truth that tests/models.py holds its repair to.
 
-A stream is one level byte, then nine little-endian i32 a triangle. Shapes are given in cells of the level and put on the
-lattice at the end. Walls are more than one and a half cells thick: thinner ones do not survive on so few cells.
+A stream is one level byte, then nine little-endian i32 a triangle. Shapes are given in cells of the level and become model
+coordinates at the end. Walls are more than one and a half cells thick: thinner ones do not survive on so few cells.
 
 usage: models/make.py [FOLDER]                          writes every model into the folder (this one when none is given)
-       models/make.py --whole FOLDER                    writes models without damage, which have rims all the same, and a bowl of one sheet
+       models/make.py --whole FOLDER                    writes models without damage, one of which has rims all the same, and a bowl of one sheet
        models/make.py --lampshade TRIANGLES LEVEL FILE  writes a whole lampshade of about so many triangles
 """
 import math
@@ -17,9 +17,9 @@ import sys
 MIDDLE = 16.0  # the middle of the grid in cells at level 5
 
 
-def lattice(level, triangles):
-    """The stream of a model: corners in cells become whole numbers."""
-    side = 1 << (20 - level)
+def stream_of(level, triangles):
+    """The stream of a model: corners in cells become model coordinates, of which S/2 make a cell's side."""
+    side = 1 << (19 - level)
     stream = bytearray([level])
     for triangle in triangles:
         stream += struct.pack("<9i", *(round(c * side) for corner in triangle for c in corner))
@@ -181,6 +181,14 @@ def box_with_membrane():
     return box(*ROOM) + quad((15.4, y, z), (15.4, t, z), (15.4, t, u), (15.4, y, u))
 
 
+PLANES = ((6.0, 8.0, 5.0), (26.0, 20.0, 24.0))
+
+
+def box_on_planes():
+    """Each side lies on a grid plane, as near as a model coordinate can: it must not thicken."""
+    return box(*PLANES)
+
+
 ONE, TWO = ((4.3, 4.4, 4.3), (18.6, 17.7, 16.6)), ((11.4, 10.3, 8.4), (27.3, 26.4, 25.3))
 
 
@@ -201,6 +209,7 @@ MODELS = {
     "sphere_with_hole": (5, sphere_with_hole, sphere_with_hole_depth),
     "soup": (5, soup, soup_depth),
     "box_with_membrane": (5, box_with_membrane, lambda p: box_depth(p, *ROOM)),
+    "box_on_planes": (5, box_on_planes, lambda p: box_depth(p, *PLANES)),
     "overlapping_boxes": (5, overlapping_boxes, overlapping_boxes_depth),
 }
 
@@ -215,7 +224,7 @@ WHOLE = {
 
 def write(path, level, triangles):
     with open(path, "wb") as file:
-        file.write(lattice(level, triangles))
+        file.write(stream_of(level, triangles))
 
 
 def main(words):

@@ -1,4 +1,4 @@
-/* Document 01's checked examples at level 2, and the vectors that pin its choices, run through a table of calls. */
+/* Document 01's checked examples at level 2, those with coordinates as M-105 has them, and the vectors that pin its choices, run through a table of calls. */
 #include "examples.h"
 
 #include <stdio.h>
@@ -114,16 +114,20 @@ static void run_triangle(const struct calls *calls, const char *name, const int3
 
 static void run_triangles(const struct calls *calls)
 {
-    static const int32_t square[9] = {393216, 400000, 400000, 393216, 700000, 400000, 393216, 400000, 700000};
+    static const int32_t square[9] = {196608, 200000, 200000, 196608, 350000, 200000, 196608, 200000, 350000};
+    static const int32_t sloped[9] = {131072, 131072, 131072, 393215, 393215, 393215, 393215, 393215, 393215};
+    static const int32_t flat[9] = {262144, 150000, 150000, 262144, 390000, 150000, 262144, 150000, 390000};
     static const struct {
         int32_t at;
         uint32_t answer;
-    } ends[] = {{262144, 0}, {262143, 4}, {786432, 0}, {786433, 24}};
+    } ends[] = {{131072, 0}, {131071, 4}, {393215, 0}, {393216, 24}};
     int32_t point[9];
     run_triangle(calls, "example 8", square, 0, "x122");
     for (int c = 0; c < 9; c++)
-        point[c] = 524288;
-    run_triangle(calls, "example 9", point, 0, six);
+        point[c] = 262144;
+    run_triangle(calls, "example 9", point, 0, "");
+    run_triangle(calls, "a sloped line through a grid point", sloped, 0, six);
+    run_triangle(calls, "a face next to a grid plane", flat, 0, "x222");
     for (int e = 0; e < 4; e++)
         for (uint32_t c = 0; c < 9; c++) {
             uint8_t grid[POINTS] = {0};
@@ -131,7 +135,7 @@ static void run_triangles(const struct calls *calls)
             point[c] = ends[e].at;
             hold(calls->mark(2, grid, POINTS, point, 9, &place, &axis) == ends[e].answer, "example 10", "the ends of the range");
             hold(place == bad * c && axis == bad * (c % 3), "example 10", "place and axis of the coordinate that is out");
-            point[c] = 524288;
+            point[c] = 262144;
         }
 }
 
@@ -140,15 +144,15 @@ static void run_refusals(const struct calls *calls)
     uint8_t grid[POINTS], signs[POINTS], left[POINTS];
     uint16_t list[23], kept[23];
     uint32_t place, axis, quads;
-    int32_t triangle[9] = {0, 524288, 524288, 524288, 524288, 524288, 524288, 524288, 524288};
+    int32_t triangle[9] = {0, 262144, 262144, 262144, 262144, 262144, 262144, 262144, 262144};
     hold(calls->open(1, grid, 0) == 1, "example 11", "level 1 with an empty buffer");
     memset(grid, 0, POINTS);
     grid[62] = 8;
     hold(calls->mark(2, grid, POINTS, triangle, 9, &place, &axis) == 4, "example 11", "byte 8 with a coordinate of 0");
-    triangle[0] = 524288;
+    triangle[0] = 262144;
     hold(calls->mark(2, grid, POINTS, triangle, 9, &place, &axis) == 5, "example 11", "byte 8 with the coordinate mended");
-    triangle[4] = 786433;
-    triangle[7] = 262143;
+    triangle[4] = 393216;
+    triangle[7] = 131071;
     hold(calls->mark(2, grid, POINTS, triangle, 9, &place, &axis) == 24 && place == 4 && axis == 1, "several out of range",
          "the first decides");
     read_names(examples[2].marks, grid);

@@ -5,12 +5,16 @@
 #include <stdio.h>
 #include <string.h>
 
-/* Document 01's table of levels, its numbers, and the inner edges counted there. */
+/* Document 01's table of levels, its numbers, and the inner edges counted there; M-105's range. */
 #define HOLDS(name, claim) typedef char name[(claim) ? 1 : -1]
 HOLDS(level_2, OMPHIRUN_CELLS(2) == 4 && OMPHIRUN_SIDE(2) == 262144 && OMPHIRUN_POINTS(2) == 125);
 HOLDS(level_3, OMPHIRUN_CELLS(3) == 8 && OMPHIRUN_SIDE(3) == 131072 && OMPHIRUN_POINTS(3) == 729);
 HOLDS(level_4, OMPHIRUN_CELLS(4) == 16 && OMPHIRUN_SIDE(4) == 65536 && OMPHIRUN_POINTS(4) == 4913);
 HOLDS(level_5, OMPHIRUN_CELLS(5) == 32 && OMPHIRUN_SIDE(5) == 32768 && OMPHIRUN_POINTS(5) == 35937);
+HOLDS(range_2, OMPHIRUN_LOWEST(2) == 131072 && OMPHIRUN_HIGHEST(2) == 393215);
+HOLDS(range_3, OMPHIRUN_LOWEST(3) == 65536 && OMPHIRUN_HIGHEST(3) == 458751);
+HOLDS(range_4, OMPHIRUN_LOWEST(4) == 32768 && OMPHIRUN_HIGHEST(4) == 491519);
+HOLDS(range_5, OMPHIRUN_LOWEST(5) == 16384 && OMPHIRUN_HIGHEST(5) == 507903);
 HOLDS(edges_5, OMPHIRUN_EDGES(5) == 92256 && OMPHIRUN_LIST(5) == 369024 && OMPHIRUN_LIST(2) == 432);
 HOLDS(version, OMPHIRUN_MAJOR >= 1 && OMPHIRUN_MINOR >= 0 && OMPHIRUN_PATCH >= 0);
 
@@ -37,7 +41,7 @@ int main(void)
 {
     uint8_t grid[OMPHIRUN_POINTS(2)], other[OMPHIRUN_POINTS(2)];
     uint32_t one = 9, two = 9;
-    const int32_t low[9] = {524288, 0}, high[9] = {524288, 524288, 524288, 524288, 524288, 1048576};
+    const int32_t low[9] = {262144, 0}, high[9] = {262144, 262144, 262144, 262144, 262144, 524287};
     memset(grid, 0, sizeof grid);
     memset(other, 0, sizeof other);
     hold(omphirun_open(1, NULL, 0), OMPHIRUN_BAD_LEVEL, "open");

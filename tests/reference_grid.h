@@ -1,4 +1,4 @@
-/* The lattice and the grid of document 01 for the reference's own files: measures of a level, marks, faces. */
+/* The lattice and the grid of document 01, with M-105's coordinates, for the reference's own files: measures of a level, marks, faces. */
 #ifndef REFERENCE_GRID_H
 #define REFERENCE_GRID_H
 
@@ -24,10 +24,29 @@ static inline struct measures measures_of(uint32_t level)
     return (struct measures){n, 1 << (20 - level), (n + 1) * (n + 1) * (n + 1), {1, n + 1, (n + 1) * (n + 1)}};
 }
 
+/* M-105: a model coordinate v runs over 0 to 524,287 and is tested at 2v+1. */
+enum { MODEL_MOST = 524287 };
+
+static inline int tested_at(int32_t v)
+{
+    return 2 * v + 1;
+}
+
+/* The range for v is S/2 to 524,287 - S/2, both taken. */
+static inline int lowest(const struct measures *m)
+{
+    return m->s / 2;
+}
+
+static inline int highest(const struct measures *m)
+{
+    return MODEL_MOST - m->s / 2;
+}
+
 /* The number that a coordinate is refused by: 4 below the level's range, 24 above it; 0 in it. */
 static inline uint32_t out_of_range(const struct measures *m, int32_t v)
 {
-    return v < m->s ? 4 : v > (1 << 20) - m->s ? 24 : 0;
+    return v < lowest(m) ? 4 : v > highest(m) ? 24 : 0;
 }
 
 /* The two axes that are not the given one, in their order. */

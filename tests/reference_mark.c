@@ -1,4 +1,4 @@
-/* Mark, from document 01, "Which edges a triangle meets", and document 02, M-101. */
+/* Mark, from document 01, "Which edges a triangle meets", and document 02, M-101 and M-105. */
 #include "reference.h"
 #include "reference_grid.h"
 
@@ -44,11 +44,18 @@ static struct span span_of_three(int64_t a, int64_t b, int64_t c)
     return (struct span){c < s.low ? c : s.low, c > s.high ? c : s.high};
 }
 
+/* Where a vertex is tested, 0 to 2 for A, B, C. */
+static struct vector corner(const int32_t *triangle, int v)
+{
+    const int32_t *at = triangle + 3 * v;
+    return (struct vector){tested_at(at[X]), tested_at(at[Y]), tested_at(at[Z])};
+}
+
 /* The three unit vectors; N = (B-A) x (C-A); each unit vector crossed with each of B-A, C-B, A-C. */
 static void thirteen_axes(const int32_t *t, struct axis axes[AXES])
 {
     static const struct vector unit[3] = {{1, 0, 0}, {0, 1, 0}, {0, 0, 1}};
-    struct vector a = {t[0], t[1], t[2]}, b = {t[3], t[4], t[5]}, c = {t[6], t[7], t[8]};
+    struct vector a = corner(t, 0), b = corner(t, 1), c = corner(t, 2);
     struct vector sides[3] = {minus(b, a), minus(c, b), minus(a, c)};
     for (int u = 0; u < 3; u++)
         axes[u].along = unit[u];
@@ -168,7 +175,7 @@ void reference_add_marks(const struct measures *m, uint8_t *grid, const int32_t 
     struct passage t = {.s = m->s};
     int planes = 0;
     for (int d = X; d <= Z; d++) {
-        struct span s = span_of_three(triangle[d], triangle[3 + d], triangle[6 + d]);
+        struct span s = span_of_three(tested_at(triangle[d]), tested_at(triangle[3 + d]), tested_at(triangle[6 + d]));
         t.first[d] = (int)((s.low + m->s - 1) / m->s);
         t.last[d] = (int)(s.high / m->s);
         planes += t.first[d] <= t.last[d];
@@ -176,7 +183,7 @@ void reference_add_marks(const struct measures *m, uint8_t *grid, const int32_t 
     if (planes < 2)
         return; /* an edge has a grid coordinate on two axes */
     for (int v = 0; v < 3; v++)
-        t.corner[v] = (struct vector){triangle[3 * v], triangle[3 * v + 1], triangle[3 * v + 2]};
+        t.corner[v] = corner(triangle, v);
     for (int k = t.first[Z] - 1; k <= t.last[Z]; k++)
         for (int j = t.first[Y] - 1; j <= t.last[Y]; j++) {
             uint8_t *row = grid + j * m->step[Y] + k * m->step[Z];

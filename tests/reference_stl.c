@@ -1,4 +1,4 @@
-/* Binary STL read as lattice triangles, M-100 of document 02, plainly and in doubles: a float times a power of two from 2^-20 to 2^20 is
+/* Binary STL read as triangles, M-100 of document 02, plainly and in doubles: a float times a power of two from 2^-20 to 2^20 is
    exact in a double. So is the half that rounding adds, or else the sum lies well between two whole numbers, as all the float did. */
 #include <string.h>
 

@@ -16,7 +16,7 @@ import time
 
 ROOT = os.path.dirname(os.path.dirname(os.path.abspath(__file__)))
 REPAIR = os.path.join(ROOT, "repair")
-MIDDLE = 524288
+MIDDLE = 262144
 MOST_TRIANGLES = 100000
 SOON = 20  # seconds within which everything here has to end
 ONE_LINE = re.compile(r"^repair: .+\n$")
@@ -100,13 +100,14 @@ def options():
 
 
 def many_quads():
-    side = 1 << 15
+    """A short line through each of many grid points, which marks the six edges there."""
+    half = 1 << 14
     places = [(i, j, k) for k in range(2, 31, 2) for j in range(2, 31, 2) for i in range(2, 31, 2)]
-    return b"\5" + b"".join(triangle(*[side * c for c in p] * 3) for p in places)
+    return b"\5" + b"".join(triangle(*[half * c - 1 for c in p], *[half * c for c in p] * 2) for p in places)
 
 
 def refusals():
-    streams = {1: b"", 3: b"\2" + POINT[:35], 4: b"\2" + triangle(0, *[MIDDLE] * 8), 24: b"\2" + triangle(*[MIDDLE] * 8, 786433),
+    streams = {1: b"", 3: b"\2" + POINT[:35], 4: b"\2" + triangle(0, *[MIDDLE] * 8), 24: b"\2" + triangle(*[MIDDLE] * 8, 393216),
                8: many_quads(), 9: b"\2" + POINT * (MOST_TRIANGLES + 1)}
     for number, stream in streams.items():
         status, out, said = run(["--quads", "-"], input=stream)
@@ -115,14 +116,14 @@ def refusals():
 
 def bad_coordinates():
     """Which coordinate is out, and on which side: the first of the first triangle that has one, whatever follows."""
-    for number, side, level, bad in ((4, "below", 2, 262143), (24, "above", 2, 786433), (4, "below", 5, -(1 << 31)), (24, "above", 5, (1 << 31) - 1)):
+    for number, side, level, bad in ((4, "below", 2, 131071), (24, "above", 2, 393216), (4, "below", 5, -(1 << 31)), (24, "above", 5, (1 << 31) - 1)):
         for place in range(9):
             numbers = [MIDDLE] * place + [bad] + [0] * (8 - place)
             stream = bytes([level]) + POINT * place + triangle(*numbers) + triangle(*[0] * 9) + b"unfinished"
             status, out, said = run(["-"], input=stream)
-            least = 1 << (20 - level)
+            least = 1 << (19 - level)
             words = (f"standard input: refused {number}: a coordinate lies {side} the level's range: {'xyz'[place % 3]} of corner {'ABC'[place // 3]} "
-                     f"of triangle {place + 1} is {bad}, the range is {least} to {(1 << 20) - least}\n")
+                     f"of triangle {place + 1} is {bad}, the range is {least} to {524287 - least}\n")
             hold((status, out, said) == (1, words, ""), f"place {place}: {out!r}")
 
 

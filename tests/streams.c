@@ -5,7 +5,7 @@
 
 #include "inputs.h"
 
-enum { MIDDLE = 524288, MOST_TRIANGLES = 100000 };
+enum { MIDDLE = 262144, MOST_TRIANGLES = 100000 };
 
 static const char *folder;
 static struct random r = {1};
@@ -56,6 +56,24 @@ static void put_points(int many)
         put_point(MIDDLE, MIDDLE, MIDDLE);
 }
 
+/* A line through grid point (i,j,k), as short as can be: the six edges there are met. */
+static void put_line_through(const struct measures *m, int i, int j, int k)
+{
+    int x = i * m->s / 2, y = j * m->s / 2, z = k * m->s / 2;
+    int32_t t[9] = {x - 1, y - 1, z - 1, x, y, z, x, y, z};
+    put_triangle(t);
+}
+
+/* A triangle square to an edge, about its middle and as small as can be: it meets no other. */
+static void put_across(const struct measures *m, int axis, const int at[3])
+{
+    int32_t t[9];
+    for (int v = 0; v < 3; v++)
+        for (int d = X; d <= Z; d++)
+            t[3 * v + d] = at[d] * m->s / 2 + (d == axis ? m->s / 4 : v == (d == earlier(axis) ? 1 : 2) ? 1 : -1);
+    put_triangle(t);
+}
+
 static void put_random_bytes(uint32_t many)
 {
     while (many--)
@@ -95,7 +113,7 @@ static void unfinished(void)
         put_byte(2 + bytes % 4);
         put_points((int)(bytes % 3));
         for (uint32_t b = 0; b < bytes; b++)
-            put_byte(b % 4 == 2 ? 8 : 0); /* whole coordinates among them are right */
+            put_byte(b % 4 == 2 ? 4 : 0); /* whole coordinates among them are right */
         begin("unfinished_%02u_with_a_bad_coordinate", bytes);
         put_byte(2 + bytes % 4);
         put_points((int)(bytes % 5));
@@ -106,13 +124,13 @@ static void unfinished(void)
     put_byte(2);
     put_points(1);
     for (uint32_t b = 0; b < 35; b++)
-        put_byte(b % 4 == 2 ? 8 : 0);
+        put_byte(b % 4 == 2 ? 4 : 0);
     begin("range_before_unfinished");
     put_byte(2);
     put_points(1);
-    put_with(0, 262143);
+    put_with(0, 131071);
     for (uint32_t b = 0; b < 7; b++)
-        put_byte(b % 4 == 2 ? 8 : 0);
+        put_byte(b % 4 == 2 ? 4 : 0);
     begin("bad_coordinate_before_an_unfinished_triangle");
     put_byte(3);
     put_points(4);
@@ -123,10 +141,10 @@ static void unfinished(void)
 
 static void coordinates(void)
 {
-    static const int32_t extremes[] = {0, -1, 1 << 20, INT32_MAX, INT32_MIN};
+    static const int32_t extremes[] = {0, -1, MODEL_MOST, INT32_MAX, INT32_MIN};
     for (uint32_t level = 2; level <= 5; level++) {
         struct measures m = measures_of(level);
-        int32_t ends[] = {m.s, m.s - 1, (1 << 20) - m.s, (1 << 20) - m.s + 1};
+        int32_t ends[] = {lowest(&m), lowest(&m) - 1, highest(&m), highest(&m) + 1};
         for (int c = (int)level % 4; c < 9; c += 4)
             for (int e = 0; e < 4; e++) {
                 begin("level_%u_coordinate_%d_is_%d", level, c, ends[e]);
@@ -160,24 +178,25 @@ static void many_triangles(void)
 }
 
 /* Single points give six quads each, two neighbours ten: 1,362 points and two pairs give 8,192, the most that is listed; 1,364 and one
-   pair give 8,194, the least above, since quads are even in number. */
+   pair give 8,194, the least above, since quads are even in number. The points fill six layers, and the pairs stand in the seventh. */
 static void many_quads(void)
 {
     for (int more = 0; more <= 1; more++) {
-        int s = measures_of(5).s, points = 1364 + more;
+        struct measures m = measures_of(5);
+        int points = 1364 + more;
         begin(more ? "8194_quads" : "8192_quads");
         put_byte(5);
         for (int k = 2; k < 31; k += 2)
             for (int j = 2; j < 31; j += 2)
                 for (int i = 2; i < 31 && points > 0; i += 2, points--) {
-                    put_point(i * s, j * s, k * s);
-                    if ((k == 2 && j == 2 && i == 30) || (k == 4 && j == 4 && i == 30 && !more))
-                        put_point((i + 1) * s, j * s, k * s);
+                    put_line_through(&m, i, j, k);
+                    if (k == 14 && (i == 2 || (i == 6 && !more)))
+                        put_line_through(&m, i, j, k + 1);
                 }
     }
 }
 
-/* Asks for single edges by points in their middle: grids that no model has. */
+/* Asks for single edges by triangles across them: grids that no model has. */
 static void scattered_edges(void)
 {
     for (uint32_t level = 2; level <= 5; level++)
@@ -186,14 +205,11 @@ static void scattered_edges(void)
             begin("level_%u_edges_%u_percent", level, percent);
             put_byte(level);
             for (int axis = X; axis <= Z; axis++)
-                for (int k = 1; k < m.n; k++)
-                    for (int j = 1; j < m.n; j++)
-                        for (int i = 1; i < m.n; i++) {
-                            int at[3] = {i * m.s, j * m.s, k * m.s};
-                            at[axis] += m.s / 2;
-                            if (at[axis] <= (1 << 20) - m.s && chance(&r, percent))
-                                put_point(at[X], at[Y], at[Z]);
-                        }
+                for (int k = 1 + (axis != Z); k < m.n - 1; k++)
+                    for (int j = 1 + (axis != Y); j < m.n - 1; j++)
+                        for (int i = 1 + (axis != X); i < m.n - 1; i++)
+                            if (chance(&r, percent))
+                                put_across(&m, axis, (int[3]){i, j, k});
         }
 }
 

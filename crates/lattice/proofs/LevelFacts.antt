@@ -50,12 +50,24 @@ place-most l {i} h = subst (λ (k : ℕ). i * sideOf l ≤ k) (side-whole l) (mu
 pub side-most : (l : Level) → sideOf l ≤ 2 ^ 20
 side-most l = let h : 20 - numberOf l ≤ 20 = omega arith in pow-mono h
 
--- a cell's side is at most a quarter of the lattice's, so the range is not empty
+-- a cell's side is at most a quarter of the lattice's, so half of it is a model coordinate and the range is not empty
 pub side-quarter : (l : Level) → sideOf l ≤ 2 ^ 18
 side-quarter l = let n = number-least l in let h : 20 - numberOf l ≤ 18 = omega arith in pow-mono h
 
+pub lowest-most : (l : Level) → lowestOf l ≤ 131072
+lowest-most l = let m = side-quarter l in omega arith
+
 pub range-some : (l : Level) → lowestOf l ≤ highestOf l
-range-some l = let m = side-quarter l in omega arith
+range-some l = let m = lowest-most l in omega arith
+
+-- S is even
+pub side-even : (l : Level) → lowestOf l + lowestOf l ≡ sideOf l
+side-even l =
+    let e : sideOf l ≡ 2 ^ (19 - numberOf l) * 2 = ap (λ (k : ℕ). 2 ^ k) (more (numberOf l) (number-most l)) ∙ pow-add 2 (19 - numberOf l) 1 in
+    omega arith
+  where
+    more : (k : ℕ) → k ≤ 5 → 20 - k ≡ 19 - k + 1
+    more k h = omega arith
 
 -- the count of points as code multiplies it out
 pub count-is : (n : ℕ) → (n + 1) * (n + 1) * (n + 1) ≡ pointCount n

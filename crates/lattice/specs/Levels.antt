@@ -1,6 +1,6 @@
 -- The levels: n, S, P and the vertex range. Assumes nothing.
 use mathlib.Core.Bool.{cond}
-use Prim.Native.Nat.{ℕ, _-_, _^_}
+use Prim.Native.Nat.{ℕ, _-_, _/_, _^_}
 use lib.Dec.{eqb}
 use Rattle.rules.specs.Lattice.{pointCount}
 use Rattle.lattice.specs.declared.level.Level.{Level}
@@ -28,12 +28,12 @@ cellsOf l = 2 ^ numberOf l
 abbrev pub sideOf : Level → ℕ
 sideOf l = 2 ^ (20 - numberOf l)
 
--- the range is S to 2^20 - S, ends included
+-- the range for v is S/2 to 524,287 - S/2, ends included
 abbrev pub lowestOf : Level → ℕ
-lowestOf l = sideOf l
+lowestOf l = sideOf l / 2
 
 abbrev pub highestOf : Level → ℕ
-highestOf l = 2 ^ 20 - sideOf l
+highestOf l = 524287 - sideOf l / 2
 
 -- P = (n+1)^3 points
 abbrev pub pointsOf : Level → ℕ

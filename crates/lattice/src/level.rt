@@ -2,7 +2,7 @@
 ghost use mathlib.Core.Path.{_≡_};
 ghost use Prim.Native.Nat.{_≤_};
 ghost use Rattle.rules.specs.Lattice.{pointCount};
-ghost use Rattle.lattice.specs.Levels.{levelOf, cellsOf, sideOf, pointsOf, highestOf};
+ghost use Rattle.lattice.specs.Levels.{levelOf, cellsOf, sideOf, pointsOf, lowestOf, highestOf};
 
 pub enum Level {
     Two,
@@ -20,6 +20,8 @@ pub enum LevelRead {
 impl Level {
     // Lattice coordinates run from 0 to 2^20.
     pub const LATTICE: usize = 1_048_576;
+    // Model coordinates run from 0 to 2^19 - 1; v is tested at 2v+1 of the lattice.
+    pub const MODEL: usize = 524_287;
 
     // The level of a number, which has to be 2 to 5.
     pub fn read(number: u32) -> LevelRead
@@ -46,18 +48,25 @@ impl Level {
         }
     }
 
-    // The side of a cell, S = 2^(20-L). It is the lowest coordinate that a vertex may have.
+    // The side of a cell, S = 2^(20-L).
     pub fn side(self) -> usize
         ensures { λ r. ⌜ r ≡ sideOf self ⌝ }
     {
         Level::LATTICE / self.cells()
     }
 
-    // The highest coordinate that a vertex may have, 2^20 - S.
+    // The lowest model coordinate that a vertex may have, S/2.
+    pub fn lowest(self) -> usize
+        ensures { λ r. ⌜ r ≡ lowestOf self ⌝ }
+    {
+        self.side() / 2
+    }
+
+    // The highest model coordinate that a vertex may have, 524,287 - S/2.
     pub fn highest(self) -> usize
         ensures { λ r. ⌜ r ≡ highestOf self ⌝ }
     {
-        Level::LATTICE - self.side()
+        Level::MODEL - self.lowest()
     }
 
     // The number of points, P = (n+1)^3.

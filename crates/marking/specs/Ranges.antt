@@ -2,7 +2,7 @@
 use mathlib.Core.Bool.{Bool, _&&_}
 use mathlib.Core.List.{List}
 use Prim.Native.Nat.{ℕ, _+_}
-use lib.IntN.{ℤ, pos}
+use lib.IntN.{ℤ, pos, _+ℤ_, _*ℤ_}
 use lib.Signed.{leZ}
 use lib.ListN.{getD}
 use Rattle.rules.specs.Lists.{allOf}
@@ -12,13 +12,13 @@ use Rattle.triangles.specs.declared.Vector.{Vector}
 use Rattle.triangles.specs.declared.Triangle.{Triangle}
 use Rattle.triangles.specs.Vectors.{vector}
 
--- the range is S to 2^20 - S, ends included
+-- the range for v is S/2 to 524,287 - S/2, ends included
 unfoldable pub inRange : Level → ℤ → Bool
 inRange l v = leZ (pos (lowestOf l)) v && leZ v (pos (highestOf l))
 
--- where a vertex's coordinate lies on the lattice: it is a lattice coordinate
+-- a model coordinate v is tested at 2v+1
 unfoldable pub latticeOf : ℤ → ℤ
-latticeOf v = v
+latticeOf v = pos 2 *ℤ v +ℤ pos 1
 
 -- no coordinate is out of the level's range
 unfoldable pub allInRange : Level → List ℤ → Bool

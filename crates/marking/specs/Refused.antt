@@ -11,7 +11,7 @@ use Rattle.marking.specs.Mark.{markCall}
 
 -- k numbers in range at level 2
 abbrev good : ℕ → List ℤ
-good k = replicate k (pos 524288)
+good k = replicate k (pos 262144)
 
 -- v, and k numbers in range behind it
 abbrev first : ℕ → ℕ → List ℤ
@@ -50,17 +50,17 @@ cases =
     ∷ markCall 2 (lone 0 1) (good 9) .number is 5
     ∷ markCall 2 (lone 64 1) (good 9) .number is 5
     -- example 10: the ends of the range are taken
-    ∷ markCall 2 (zeros 125) (first 262144 8) .number is 0
-    ∷ markCall 2 (zeros 125) (first 262143 8) .number is 4
-    ∷ markCall 2 (zeros 125) (first 786432 8) .number is 0
-    ∷ markCall 2 (zeros 125) (first 786433 8) .number is 24
+    ∷ markCall 2 (zeros 125) (first 131072 8) .number is 0
+    ∷ markCall 2 (zeros 125) (first 131071 8) .number is 4
+    ∷ markCall 2 (zeros 125) (first 393215 8) .number is 0
+    ∷ markCall 2 (zeros 125) (first 393216 8) .number is 24
     -- the first bad coordinate decides between 4 and 24, both before 5; its place and its axis are told
-    ∷ markCall 2 noGrid (two 786433 0) .number is 24
-    ∷ markCall 2 noGrid (two 786433 0) .place is 5
-    ∷ markCall 2 noGrid (two 786433 0) .axis is 2
-    ∷ markCall 2 noGrid (two 0 786433) .number is 4
-    ∷ markCall 2 noGrid (two 0 786433) .place is 5
-    ∷ markCall 2 noGrid (two 0 786433) .axis is 2
+    ∷ markCall 2 noGrid (two 393216 0) .number is 24
+    ∷ markCall 2 noGrid (two 393216 0) .place is 5
+    ∷ markCall 2 noGrid (two 393216 0) .axis is 2
+    ∷ markCall 2 noGrid (two 0 393216) .number is 4
+    ∷ markCall 2 noGrid (two 0 393216) .place is 5
+    ∷ markCall 2 noGrid (two 0 393216) .axis is 2
     -- both are 0 in other answers: done, and refused by 5
     ∷ markCall 2 (zeros 125) (good 9) .place is 0
     ∷ markCall 2 (zeros 125) (good 9) .axis is 0

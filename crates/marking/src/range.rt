@@ -28,7 +28,7 @@ fn at_most(a: i64, b: i64) -> bool
 pub fn is_below(l: Level, v: i32) -> bool
     ensures { λ r. ⌜ r ≡ below l v ⌝ }
 {
-    !at_most(signed(l.side()), wide(v))
+    !at_most(signed(l.lowest()), wide(v))
 }
 
 // Answers whether a coordinate is in the level's range.
@@ -55,11 +55,11 @@ pub fn first_out(l: Level, c: &[i32]) -> usize
     k
 }
 
-// Answers where a vertex's coordinate lies on the lattice.
+// Answers where a model coordinate is tested: at an odd number, and so on no grid plane.
 fn lattice_of(v: i32) -> i64
     ensures { λ r. ⌜ r ≡ latticeOf v ⌝ }
 {
-    wide(v)
+    2 * wide(v) + 1
 }
 
 // Answers the vertex of three numbers.

@@ -98,7 +98,7 @@ fn say_place(place: u32, axis: u32) {
 // Says the number that is given when one of the nine numbers is v, and the place and the axis if it is bad.
 fn say_with(k: usize, v: i32) {
     let mut grid = [0u8; POINTS];
-    let mut numbers = [524_288; 9];
+    let mut numbers = [262_144; 9];
     put_number(&mut numbers, k, v);
     let answer = mark(2, &mut grid, &numbers);
     say_count(b" ", answer.number());
@@ -125,26 +125,26 @@ fn show_nine(name: &[u8], v: i32) {
 
 fn show_examples() {
     let eight = [
-        393_216,
-        400_000,
-        400_000,
-        393_216,
-        700_000,
-        400_000,
-        393_216,
-        400_000,
-        700_000,
+        196_608,
+        200_000,
+        200_000,
+        196_608,
+        350_000,
+        200_000,
+        196_608,
+        200_000,
+        350_000,
     ];
-    let nine = [524_288; 9];
+    let nine = [262_144; 9];
     show(b"example 8", &eight);
     show(b"example 9", &nine);
     show_both(b"example 8 after 9", &nine, &eight);
     show_both(b"example 9 after 8", &eight, &nine);
     show_both(b"example 8 twice", &eight, &eight);
-    show_nine(b"262144", 262_144);
-    show_nine(b"262143", 262_143);
-    show_nine(b"786432", 786_432);
-    show_nine(b"786433", 786_433);
+    show_nine(b"131072", 131_072);
+    show_nine(b"131071", 131_071);
+    show_nine(b"393215", 393_215);
+    show_nine(b"393216", 393_216);
     show_nine(b"the least i32", -2_147_483_648);
     show_nine(b"the greatest i32", 2_147_483_647);
 }
@@ -157,36 +157,36 @@ fn show_byte_eight() {
         8,
         &[
             0,
-            524_288,
-            524_288,
-            524_288,
-            524_288,
-            524_288,
-            524_288,
-            524_288,
-            524_288,
+            262_144,
+            262_144,
+            262_144,
+            262_144,
+            262_144,
+            262_144,
+            262_144,
+            262_144,
         ],
     );
-    show_put(b"a byte of 8, a coordinate above", 2, 62, 8, &[786_433; 9]);
-    show_put(b"a byte of 8, mended", 2, 62, 8, &[524_288; 9]);
+    show_put(b"a byte of 8, a coordinate above", 2, 62, 8, &[393_216; 9]);
+    show_put(b"a byte of 8, mended", 2, 62, 8, &[262_144; 9]);
 }
 
 fn show_points() {
-    show(b"the range's lowest point", &[262_144; 9]);
-    show(b"the range's highest point", &[786_432; 9]);
-    show(b"a point in a cell", &[600_000; 9]);
+    show(b"the range's lowest point", &[131_072; 9]);
+    show(b"the range's highest point", &[393_215; 9]);
+    show(b"a point in a cell", &[300_000; 9]);
     show(
-        b"a point on an edge",
+        b"a point beside an edge",
         &[
-            600_000,
-            524_288,
-            524_288,
-            600_000,
-            524_288,
-            524_288,
-            600_000,
-            524_288,
-            524_288,
+            300_000,
+            262_144,
+            262_144,
+            300_000,
+            262_144,
+            262_144,
+            300_000,
+            262_144,
+            262_144,
         ],
     );
 }
@@ -195,60 +195,60 @@ fn show_lines() {
     show(
         b"a line from A to B and back",
         &[
-            300_000,
-            524_288,
-            524_288,
-            700_000,
-            524_288,
-            524_288,
-            300_000,
-            524_288,
-            524_288,
+            150_000,
+            262_144,
+            262_144,
+            350_000,
+            262_144,
+            262_144,
+            150_000,
+            262_144,
+            262_144,
         ],
     );
     show(
         b"a line through three vertices",
         &[
-            300_000,
-            300_000,
-            300_000,
-            500_000,
-            500_000,
-            500_000,
-            700_000,
-            700_000,
-            700_000,
+            150_000,
+            150_000,
+            150_000,
+            250_000,
+            250_000,
+            250_000,
+            350_000,
+            350_000,
+            350_000,
         ],
     );
 }
 
 fn show_plane() {
     show(
-        b"the plane between two cells",
+        b"a face beside the plane between two cells",
         &[
-            524_288,
-            300_000,
-            300_000,
-            524_288,
-            700_000,
-            300_000,
-            524_288,
-            300_000,
-            700_000,
+            262_144,
+            150_000,
+            150_000,
+            262_144,
+            390_000,
+            150_000,
+            262_144,
+            150_000,
+            390_000,
         ],
     );
 }
 
 fn show_refusals() {
-    let nine = [524_288; 9];
+    let nine = [262_144; 9];
     show(b"no number", &[0; 0]);
-    show(b"eight numbers", &[524_288; 8]);
-    show(b"ten numbers", &[524_288; 10]);
+    show(b"eight numbers", &[262_144; 8]);
+    show(b"ten numbers", &[262_144; 10]);
     show(b"eight numbers, all 0", &[0; 8]);
     show_put(b"level 0", 0, 0, 0, &nine);
     show_put(b"level 1", 1, 0, 0, &nine);
-    show_put(b"level 6, eight numbers", 6, 0, 0, &[524_288; 8]);
-    show_put(b"level 3, short, eight numbers", 3, 0, 0, &[524_288; 8]);
+    show_put(b"level 6, eight numbers", 6, 0, 0, &[262_144; 8]);
+    show_put(b"level 3, short, eight numbers", 3, 0, 0, &[262_144; 8]);
     show_put(b"a mark on the outside", 2, 0, 1, &nine);
     show_put(b"a mark beyond the grid", 2, 64, 1, &nine);
     show_put(b"a byte of 8 behind the grid", 2, 125, 8, &nine);

@@ -38,7 +38,7 @@ use Rattle.meeting.proofs.Positive.{pos-le, pos-lt}
 use Rattle.meeting.proofs.Within.{index-small, spanOn, span-within}
 
 -- a step up an axis moves a coordinate by one, or not at all
-step-coord : (a b : Axis) (p : Point) → (coord b p ≤ coord b (up a p)) × (coord b (up a p) ≤ suc (coord b p))
+pub step-coord : (a b : Axis) (p : Point) → (coord b p ≤ coord b (up a p)) × (coord b (up a p) ≤ suc (coord b p))
 step-coord X X p = (omega arith, omega arith)
 step-coord X Y p = (omega arith, omega arith)
 step-coord X Z p = (omega arith, omega arith)

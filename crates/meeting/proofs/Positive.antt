@@ -1,7 +1,7 @@
 -- Whole numbers as signed ones, and as a machine holds them. Assumes nothing.
 use mathlib.Core.Path.{_≡_}
 use Prim.Native.Nat.{ℕ, _≤_, _<_}
-use lib.Dec.{leb→le, le→leb, lt→ltb}
+use lib.Dec.{leb→le, le→leb, lt→ltb, ltb→lt}
 use lib.IntN.{ℤ, pos}
 use lib.Signed.{_≤ℤ_, _<ℤ_}
 use mir.Syntax.{Width}
@@ -19,3 +19,6 @@ pos-lt {m} {n} h = record { lt = lt→ltb m n h }
 
 pub le-pos : {m n : ℕ} → pos m ≤ℤ pos n → m ≤ n
 le-pos {m} {n} h = leb→le m n (h .le)
+
+pub lt-pos : {m n : ℕ} → pos m <ℤ pos n → m < n
+lt-pos {m} {n} h = ltb→lt m n (h .lt)

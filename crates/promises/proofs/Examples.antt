@@ -1,4 +1,4 @@
--- Examples 1 to 9 and the listing, by computing the calls' definitions. Assumes nothing.
+-- Examples 1 to 9 and two listings, by computing the calls' definitions. Assumes nothing.
 use mathlib.Core.Path.{_≡_, refl}
 use mathlib.Core.Bool.{true}
 use mathlib.Core.List.{_++_}
@@ -25,22 +25,27 @@ use Rattle.signing.specs.Call.{signRows, signCall}
 use Rattle.surfacing.specs.Fit.{edgeFits, pointFits, signsFit, smallSigns}
 use Rattle.surfacing.specs.Listing.{quadCount}
 use Rattle.surfacing.specs.Call.{surfaceDone, surfaceRows, surfaceCall}
-use Rattle.promises.specs.Examples.{run, right, examples, ninth, listing}
+use Rattle.promises.specs.Examples.{run, edges, right, examples, ninth, listing}
 
 -- the calls' definitions, computed
-computed : (allOf right examples ≡ true) × (run ninth .surfacing ≡ record { number = 0; quads = 6; list = listing ++ replicate 360 65535 })
+computed : (allOf right examples ≡ true) × (run ninth .surfacing ≡ record { number = 0; quads = 0; list = replicate 384 65535 })
+    × (run (edges single) .surfacing ≡ record { number = 0; quads = 6; list = listing ++ replicate 360 65535 })
 unfolding
     examples single gap pair bytes marks isGrid oddFaces evenFaces rims patchRim patchOf flips patched flipCount signBytes quads levelOf
     along minus cross dot lesser greater apart units sides normal crossEach crossed axes
     triangleSpan edgeSpan separates noneSeparates edgeMet inRange latticeOf allInRange vertexAt triangleOf placeOf endsOf met marked
     badLevel levelAt opened openRows openCall markRows markCall patchDone patchRows patchCall signRows signCall
     edgeFits pointFits signsFit smallSigns quadCount surfaceDone surfaceRows surfaceCall
-computed = (refl, refl)
+computed = (refl, refl, refl)
 
 -- the single claim: every example of the table is right
 pub examples-hold : allOf right examples ≡ true
 examples-hold = computed .0
 
--- example 9's listing: six quads, and the 360 entries behind them as they were
-pub listing-holds : run ninth .surfacing ≡ record { number = 0; quads = 6; list = listing ++ replicate 360 65535 }
-listing-holds = computed .1
+-- example 9's listing: no quad, and the 384 entries as they were
+pub listing-empty : run ninth .surfacing ≡ record { number = 0; quads = 0; list = replicate 384 65535 }
+listing-empty = computed .1
+
+-- example 2's: six quads, and the 360 entries behind them as they were
+pub listing-holds : run (edges single) .surfacing ≡ record { number = 0; quads = 6; list = listing ++ replicate 360 65535 }
+listing-holds = computed .2

@@ -55,9 +55,9 @@ abbrev pub nine : ℕ → ℕ → ℕ → ℕ → ℕ → ℕ → ℕ → ℕ �
 nine a b c d e f g h i =
     triangle (pos a ∷ (pos b ∷ (pos c ∷ (pos d ∷ (pos e ∷ (pos f ∷ (pos g ∷ (pos h ∷ (pos i ∷ [])))))))))
 
--- the triangle of example 9: all three vertices at (524288,524288,524288)
+-- the triangle of example 9: v = 262144 three times
 abbrev pub ninth : Given
-ninth = nine 524288 524288 524288 524288 524288 524288 524288 524288 524288
+ninth = nine 262144 262144 262144 262144 262144 262144 262144 262144 262144
 
 -- the nine examples that are proved
 unfoldable pub examples : List Example
@@ -81,13 +81,10 @@ examples =
           ∷ (rimFaces 6
           ∷ (flips 2 ∷ (result (edge Y 2 2 2 ∷ (edge Y 3 2 2 ∷ Drawn.pair)) ∷ (inside (point 2 2 2 ∷ (point 3 2 2 ∷ [])) ∷ []))));
     }
-    -- 8. triangle (393216,400000,400000), (393216,700000,400000), (393216,400000,700000) marks x(1,2,2) only
-    ∷ (record { given = nine 393216 400000 400000 393216 700000 400000 393216 400000 700000; stated = marked (edge X 1 2 2 ∷ []) ∷ [] }
-    -- 9. all three vertices at (524288,524288,524288): the marks of 2, and the listing's second line
-    ∷ (record {
-      given = ninth;
-      stated = marked Drawn.single ∷ (rims 0 ∷ (flips 0 ∷ (inside (point 2 2 2 ∷ []) ∷ (quads 6 ∷ []))));
-    }
+    -- 8. triangle (196608,200000,200000), (196608,350000,200000), (196608,200000,350000) marks x(1,2,2) only
+    ∷ (record { given = nine 196608 200000 200000 196608 350000 200000 196608 200000 350000; stated = marked (edge X 1 2 2 ∷ []) ∷ [] }
+    -- 9. v = 262144 three times marks nothing, and the listing's second line
+    ∷ (record { given = ninth; stated = marked [] ∷ (rims 0 ∷ (flips 0 ∷ (inside [] ∷ (quads 0 ∷ [])))) }
     ∷ []))))))))
 
 -- what comes of the calls: mark's, patch's, sign's and surface's outcome
@@ -140,6 +137,6 @@ right e =
 abbrev q : ℕ → ℕ → ℕ → ℕ → List ℕ
 q a b c d = a ∷ (b ∷ (c ∷ (d ∷ [])))
 
--- the quads that are listed for example 9
+-- the quads that are listed for example 2, whose one point inside has a quad on each side
 abbrev pub listing : List ℕ
 listing = q 21 25 26 22 ++ (q 21 22 38 37 ++ (q 21 37 41 25 ++ (q 22 26 42 38 ++ (q 25 41 42 26 ++ q 37 38 42 41))))

@@ -1,4 +1,4 @@
-// The call that reads a binary STL file as lattice triangles.
+// The call that reads a binary STL file as triangles in model coordinates.
 pub mod triangles;
 pub mod vertices;
 

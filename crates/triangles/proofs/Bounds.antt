@@ -32,7 +32,7 @@ abs-add (pos a) (negsuc b) = abs-subℕ a (suc b)
 abs-add (negsuc a) (pos b) = omega (arith, abs-subℕ b (suc a))
 abs-add (negsuc a) (negsuc b) = omega arith
 
-abs-mul : (a b : ℤ) → natAbs (a *ℤ b) ≡ natAbs a * natAbs b
+pub abs-mul : (a b : ℤ) → natAbs (a *ℤ b) ≡ natAbs a * natAbs b
 abs-mul (pos a) (pos b) = refl
 abs-mul (pos a) (negsuc b) = abs-neg (pos (a * suc b))
 abs-mul (negsuc a) (pos b) = abs-neg (pos (suc a * b))

@@ -1,22 +1,23 @@
 -- `is_below` meets its contract. Assumes nothing.
 use mathlib.Core.Path.{_≡_, ap}
 use mathlib.Core.Bool.{not}
+use native.Mathlib.Omega.{arith}
 use borrow.Author.Needs.{needs}
 use lib.IntN.{pos}
 use lib.Signed.{leZ}
 use mir.Syntax.{w32, w64}
 use Rattle.lattice.specs.Levels.{lowestOf}
-use Rattle.lattice.proofs.LevelFacts.{side-most}
+use Rattle.lattice.proofs.LevelFacts.{lowest-most}
 use Rattle.marking.specs.OutOfRange.{below}
 use Rattle.meeting.proofs.Positive.{Plain}
 use Rattle.marking.proofs.range.is_below.Statement.{statement}
 use Rattle.marking.proofs.range.is_below.Tie as tie
 
-side-requires : tie.Need-side-requires
-side-requires c κs = search needs
+lowest-requires : tie.Need-lowest-requires
+lowest-requires c κs = search needs
 
 signed-requires : tie.Need-signed-requires
-signed-requires c κs = rw (c .side .ensures) (side-most (c .before .args .l))
+signed-requires c κs = let h = lowest-most (c .before .args .l) in rw (c .lowest .ensures) (omega arith)
 
 wide-requires : tie.Need-wide-requires
 wide-requires c κs = search needs
@@ -35,4 +36,4 @@ returns c =
 
 pub is-below-spec : {M : Type 1} → statement M
 is-below-spec =
-    tie.close (tie.spec side-requires signed-requires wide-requires at-most-requires returns)
+    tie.close (tie.spec lowest-requires signed-requires wide-requires at-most-requires returns)
