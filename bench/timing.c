@@ -72,12 +72,12 @@ static void run_patch(const struct calls *calls)
 
 static void run_sign(const struct calls *calls)
 {
-    hold(calls->sign(level, grid, sizeof grid, other, sizeof other));
+    hold(calls->sign(level, grid, sizeof grid));
 }
 
 static void run_surface(const struct calls *calls)
 {
-    hold(calls->surface(level, grid, sizeof grid, other, sizeof other, list, LIST_ROOM, &counts[0]));
+    hold(calls->surface(level, grid, sizeof grid, list, LIST_ROOM, &counts[0]));
 }
 
 static void run_read(const struct calls *calls)
@@ -124,6 +124,7 @@ static void time_grid(const char *input)
     memcpy(came, grid, sizeof came);
     row("sign", input, run_sign, 1);
     printf("\n");
+    memcpy(came, grid, sizeof came);
     row("surface", input, run_surface, 1);
     printf("   %u quads\n", counts[0]);
 }

@@ -12,7 +12,7 @@
 
 enum { MOST_POINTS = OMPHIRUN_POINTS(5) };
 
-static uint8_t grid[MOST_POINTS], work[MOST_POINTS], signs[MOST_POINTS];
+static uint8_t grid[MOST_POINTS], work[MOST_POINTS];
 
 /* Stops at a refusal. */
 static void done(const char *call, uint32_t number)
@@ -57,15 +57,15 @@ int main(int words, char **word)
 
     uint32_t rims, flips, quads;
     done("patch", omphirun_patch((uint32_t)level, grid, sizeof grid, work, sizeof work, &rims, &flips));
-    done("sign", omphirun_sign((uint32_t)level, grid, sizeof grid, signs, sizeof signs));
+    done("sign", omphirun_sign((uint32_t)level, grid, sizeof grid));
     printf("%u rims closed by %u flips\n", (unsigned)rims, (unsigned)flips);
 
-    /* A layer of points is a run of (n+1)^2 signs. */
+    /* A layer of points is a run of (n+1)^2 bytes. */
     size_t row = OMPHIRUN_CELLS(level) + 1, layer = row * row;
     for (size_t k = 0; k < row; k++) {
         unsigned cured = 0;
         for (size_t p = k * layer; p < (k + 1) * layer; p++)
-            cured += signs[p];
+            cured += (grid[p] & OMPHIRUN_INSIDE) != 0;
         if (cured > 0)
             printf("layer %zu: %u points\n", k, cured);
     }
@@ -75,7 +75,7 @@ int main(int words, char **word)
     uint16_t *list = malloc(room * sizeof *list);
     if (list == NULL)
         return 2;
-    done("surface", omphirun_surface((uint32_t)level, grid, sizeof grid, signs, sizeof signs, list, room, &quads));
+    done("surface", omphirun_surface((uint32_t)level, grid, sizeof grid, list, room, &quads));
     printf("%u quads\n", (unsigned)quads);
     if (quads > 0)
         printf("the first joins cells %u %u %u %u\n", list[0], list[1], list[2], list[3]);

@@ -6,15 +6,24 @@
    Measures. At level L, 2 to 5, the grid has n = 2^L cells a side and P = (n+1)^3 points. Lattice coordinates run from 0 to
    2^20; a cell's side is S = 2^(20-L), and point (i,j,k) lies at (iS, jS, kS). Triangles are given in model coordinates, 0 to 524,287:
    v stands for the lattice coordinate 2v+1, which is odd and so never on a grid plane. A point's number is i + (n+1)(j + (n+1)k), a
-   cell's i + n(j + nk). A grid holds one byte a point: 1 for a marked x edge from that point on, 2 for y, 4 for z, added. A mark
-   stands only on an inner edge, one whose two crosswise coordinates lie in 1..n-1; a byte above 7 or a mark elsewhere makes the
-   buffer no grid. Signs are one byte a point, 0 outside and 1 inside.
+   cell's i + n(j + nk). A grid holds one byte a point: 1 for a marked x edge from that point on, 2 for y, 4 for z, and 8
+   (OMPHIRUN_INSIDE) for a point inside, added. A mark stands only on an inner edge, one whose two crosswise coordinates lie in 1..n-1;
+   a byte above 15 or a mark elsewhere makes the buffer no grid. Open, mark and patch clear all signs, those of a call that is refused
+   are kept; sign writes them, and surface reads them.
+
+   Memory. A repair needs a grid and work bytes, and a list that is as long as the caller likes, at most OMPHIRUN_LIST:
+
+     level          P   grid and work   the longest list
+       2          125       250 bytes           864 bytes
+       3          729     1,458 bytes         9,408 bytes
+       4        4,913     9,826 bytes        86,400 bytes
+       5       35,937    71,874 bytes       738,048 bytes
 
    Every call returns OMPHIRUN_DONE, 0, or else the lowest number of this table that applies; where a call names its numbers in another
    order, the first of them. Each number is given exactly when its line says, for any contents of the buffers. The names stand below.
 
      1  the level is not 2 to 5                                    all calls with a level
-     2  a grid, work or sign buffer is shorter than P              all calls with a level
+     2  a grid or work buffer is shorter than P                    all calls with a level
      3  the triangle is not nine numbers, fewer or more            mark
      4  a coordinate lies outside S/2 to 524,287 - S/2, and the
         first that does lies below it                              mark
@@ -22,9 +31,9 @@
         first that does lies above it                              mark
      5  the buffer is no grid                                      all of these but open
      6  some face of a cell has an odd number of marked edges      sign
-     7  a sign above 1, point (0,0,0) inside, an edge whose ends
-        differ in sign and that has no mark, or one with a mark
-        whose ends do not differ                                   surface
+     7  point (0,0,0) inside, an edge whose ends differ in sign
+        and that has no mark, or one with a mark whose ends do
+        not differ                                                 surface
      8  the list is shorter than four times the quads              surface
         the list is shorter than nine times the triangles          read_stl
      9  more than 100,000 triangles                                the program repair alone
@@ -34,7 +43,7 @@
     13  a coordinate is beyond 2^30 in size                        read_stl
     14  e is not -20 to 20                                         read_stl
 
-   A refusal changes no buffer and sets every count to 0. Grid, work and sign buffers may be longer than P, and the list longer
+   A refusal changes no buffer and sets every count to 0. Grid and work buffers may be longer than P, and the list longer
    than it has to be: what lies behind is neither read nor changed.
 
    What the caller owes, and no call can check:
@@ -57,7 +66,7 @@ extern "C" {
 #endif
 
 /* The version: the first number rises when a caller has to change, the second when there is something new. It stands here alone. */
-#define OMPHIRUN_MAJOR 3
+#define OMPHIRUN_MAJOR 4
 #define OMPHIRUN_MINOR 0
 #define OMPHIRUN_PATCH 0
 
@@ -81,6 +90,9 @@ enum omphirun_number {
     OMPHIRUN_ABOVE_RANGE = 24
 };
 
+/* The sign in a grid's byte: set where the point is inside. */
+#define OMPHIRUN_INSIDE 8
+
 /* Cells a side, points and a cell's side at a level from 2 to 5. */
 #define OMPHIRUN_CELLS(level) (1u << (level))
 #define OMPHIRUN_POINTS(level) ((OMPHIRUN_CELLS(level) + 1) * (OMPHIRUN_CELLS(level) + 1) * (OMPHIRUN_CELLS(level) + 1))
@@ -97,12 +109,12 @@ enum omphirun_number {
 /* Bytes of stack that are enough for any call: patch was measured to take 6.5 kB, every other call less than 1 kB. */
 #define OMPHIRUN_STACK 8192
 
-/* Open. The first P bytes of the grid become 0, whatever they held: a grid without marks.
+/* Open. The first P bytes of the grid become 0, whatever they held: a grid without marks and signs.
    Refusals: 1, 2. */
 uint32_t omphirun_open(uint32_t level, uint8_t *grid, size_t grid_len);
 
-/* Mark. The triangle is nine model coordinates, Ax Ay Az Bx By Bz Cx Cy Cz. The marks of all edges that it meets are added; none
-   is removed, and no other byte changes. An edge is met when none of thirteen axes separates it from the triangle; touching is
+/* Mark. The triangle is nine model coordinates, Ax Ay Az Bx By Bz Cx Cy Cz. The marks of all edges that it meets are added and
+   none is removed; all signs are cleared, also where no mark is added. An edge is met when none of thirteen axes separates it from the triangle; touching is
    meeting. A triangle square to an axis adds marks only to edges along that axis that go through its plane, in one layer of cells, so
    that a flat face does not thicken; one that is sloped can go through a grid point, and then meets all six edges there. Triangles of no
    area are allowed. The order of triangles makes no difference, nor does marking one twice. Each call looks at all P bytes first, since
@@ -113,7 +125,7 @@ uint32_t omphirun_open(uint32_t level, uint8_t *grid, size_t grid_len);
 uint32_t omphirun_mark(uint32_t level, uint8_t *grid, size_t grid_len, const int32_t *triangle, size_t triangle_len, uint32_t *place,
                        uint32_t *axis);
 
-/* Patch. Marks are added and taken away until every face of every cell has an even number of marked edges. The first P work bytes
+/* Patch. Marks are added and taken away until every face of every cell has an even number of marked edges, and all signs are cleared. The first P work bytes
    are 0 afterwards, whatever they held. *rims is the number of rims, which are the faces with an odd number of marks, taken
    together where they touch by a cell; *flips is the number of edges whose mark differs between entry and exit. No edge is altered
    unless all four cells around it lie in the box of one rim.
@@ -121,17 +133,17 @@ uint32_t omphirun_mark(uint32_t level, uint8_t *grid, size_t grid_len, const int
 uint32_t omphirun_patch(uint32_t level, uint8_t *grid, size_t grid_len, uint8_t *work, size_t work_len, uint32_t *rims,
                         uint32_t *flips);
 
-/* Sign. The first P sign bytes become 1 inside and 0 outside, whatever they held: point (0,0,0) is outside, and two ends of an
-   edge differ exactly when the edge is marked. There is exactly one such assignment when no face is odd, as after patch.
+/* Sign. Value 8 of the first P bytes is set inside and taken away outside, whatever signs there were; the marks stay. Point (0,0,0) is
+   outside, and two ends of an edge differ exactly when the edge is marked. There is exactly one such assignment when no face is odd, as
+   after patch. Called again it changes nothing.
    Refusals: 1, 2, 5, 6. */
-uint32_t omphirun_sign(uint32_t level, const uint8_t *grid, size_t grid_len, uint8_t *signs, size_t signs_len);
+uint32_t omphirun_sign(uint32_t level, uint8_t *grid, size_t grid_len);
 
-/* Surface. For each marked edge, by rising point number, x before y before z, one quad: the numbers of the four cells around the
+/* Surface, of a grid that sign has signed. For each marked edge, by rising point number, x before y before z, one quad: the numbers of the four cells around the
    edge, counterclockwise as seen from outside. *quads is their number, which is that of the marked edges; the first 4 * *quads
    entries of the list are written, and those behind keep their contents.
    Refusals: 1, 2, 5, 7, 8, with *quads 0. */
-uint32_t omphirun_surface(uint32_t level, const uint8_t *grid, size_t grid_len, const uint8_t *signs, size_t signs_len,
-                          uint16_t *list, size_t list_len, uint32_t *quads);
+uint32_t omphirun_surface(uint32_t level, const uint8_t *grid, size_t grid_len, uint16_t *list, size_t list_len, uint32_t *quads);
 
 /* Read a binary STL file: 80 header bytes, a little-endian u32 count, then 50 bytes a triangle (normal, three vertices, all f32, and a
    u16). Each coordinate times 2^e is rounded to the nearest whole number, halves away from zero; normals and the u16 are not looked at.

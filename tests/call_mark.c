@@ -6,6 +6,8 @@ static void make(struct random *r, const struct measures *m, struct input *in)
 {
     int32_t *triangle = (int32_t *)in->buffer[TRIANGLE];
     make_grid(r, m, in->buffer[GRID]);
+    if (chance(r, 40))
+        make_signs(r, m, in->level, in->buffer[GRID]);
     make_triangle(r, m, triangle);
     make_triangle(r, m, triangle + 9);
     fill(r, triangle + 18, (TRIANGLE_ROOM - 18) * sizeof *triangle);

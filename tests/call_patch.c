@@ -1,9 +1,11 @@
-/* Patch, for the harness: grids of every kind. */
+/* Patch, for the harness: grids of every kind, with signs and without. */
 #include "inputs.h"
 
 static void make(struct random *r, const struct measures *m, struct input *in)
 {
     make_grid(r, m, in->buffer[GRID]);
+    if (chance(r, 40))
+        make_signs(r, m, in->level, in->buffer[GRID]);
     if (chance(r, 6))
         spoil_grid(r, m, in->buffer[GRID]);
 }

@@ -47,35 +47,39 @@ static void hold(int holds, const char *example, const char *claim)
         printf("%s: %s does not hold: %s\n", who, example, claim);
 }
 
-/* Sets a grid's marks, or a sign for each point, from their names. */
-static void read_names(const char *names, uint8_t *bytes)
+/* Adds a grid's marks, and the signs of points inside, from their names. */
+static void add_names(const char *names, uint8_t *bytes)
 {
-    memset(bytes, 0, POINTS);
     while (*names) {
-        uint8_t value = *names == 'y' ? 2 : *names == 'z' ? 4 : 1;
+        uint8_t value = *names == 'x' ? 1 : *names == 'y' ? 2 : *names == 'z' ? 4 : 8;
         names += *names >= 'x';
         bytes[(names[0] - '0') + 5 * ((names[1] - '0') + 5 * (names[2] - '0'))] += value;
         names += names[3] == ' ' ? 4 : 3;
     }
 }
 
+static void read_names(const char *names, uint8_t *bytes)
+{
+    memset(bytes, 0, POINTS);
+    add_names(names, bytes);
+}
+
 static void run_example(const struct calls *calls, const struct example *e)
 {
-    uint8_t grid[POINTS], work[POINTS], signs[POINTS], patched[POINTS], inside[POINTS], none[POINTS] = {0};
+    uint8_t grid[POINTS], work[POINTS], patched[POINTS], none[POINTS] = {0};
     uint16_t list[4 * MOST_QUADS];
     uint32_t rims, flips, quads, marks = 0;
     read_names(e->marks, grid);
     read_names(e->patched, patched);
-    read_names(e->inside, inside);
     for (int p = 0; p < POINTS; p++)
         marks += (uint32_t)((patched[p] & 1) + (patched[p] >> 1 & 1) + (patched[p] >> 2));
     memset(work, 255, POINTS);
-    memset(signs, 255, POINTS);
     hold(calls->patch(2, grid, POINTS, work, POINTS, &rims, &flips) == 0, e->name, "patch is done");
     hold(rims == e->rims && flips == e->flips, e->name, "rims and flips");
     hold(!memcmp(grid, patched, POINTS) && !memcmp(work, none, POINTS), e->name, "the patched grid, work bytes 0");
-    hold(calls->sign(2, grid, POINTS, signs, POINTS) == 0 && !memcmp(signs, inside, POINTS), e->name, "the points inside");
-    hold(calls->surface(2, grid, POINTS, signs, POINTS, list, 4 * MOST_QUADS, &quads) == 0 && quads == marks, e->name, "the quads");
+    add_names(e->inside, patched);
+    hold(calls->sign(2, grid, POINTS) == 0 && !memcmp(grid, patched, POINTS), e->name, "the points inside, and the marks as they were");
+    hold(calls->surface(2, grid, POINTS, list, 4 * MOST_QUADS, &quads) == 0 && quads == marks, e->name, "the quads");
     if (e->patched == six)
         hold(!memcmp(list, listing, sizeof listing), e->name, "the six quads");
 }
@@ -141,30 +145,52 @@ static void run_triangles(const struct calls *calls)
 
 static void run_refusals(const struct calls *calls)
 {
-    uint8_t grid[POINTS], signs[POINTS], left[POINTS];
+    uint8_t grid[POINTS], left[POINTS];
     uint16_t list[23], kept[23];
     uint32_t place, axis, quads;
     int32_t triangle[9] = {0, 262144, 262144, 262144, 262144, 262144, 262144, 262144, 262144};
     hold(calls->open(1, grid, 0) == 1, "example 11", "level 1 with an empty buffer");
     memset(grid, 0, POINTS);
-    grid[62] = 8;
-    hold(calls->mark(2, grid, POINTS, triangle, 9, &place, &axis) == 4, "example 11", "byte 8 with a coordinate of 0");
+    grid[62] = 16;
+    hold(calls->mark(2, grid, POINTS, triangle, 9, &place, &axis) == 4, "example 11", "byte 16 with a coordinate of 0");
     triangle[0] = 262144;
-    hold(calls->mark(2, grid, POINTS, triangle, 9, &place, &axis) == 5, "example 11", "byte 8 with the coordinate mended");
+    hold(calls->mark(2, grid, POINTS, triangle, 9, &place, &axis) == 5, "example 11", "byte 16 with the coordinate mended");
     triangle[4] = 393216;
     triangle[7] = 131071;
     hold(calls->mark(2, grid, POINTS, triangle, 9, &place, &axis) == 24 && place == 4 && axis == 1, "several out of range",
          "the first decides");
     read_names(examples[2].marks, grid);
-    memset(signs, 9, POINTS);
-    memset(left, 9, POINTS);
-    hold(calls->sign(2, grid, POINTS, signs, POINTS) == 6 && !memcmp(signs, left, POINTS), "example 12", "sign on the grid of 3");
+    memcpy(left, grid, POINTS);
+    hold(calls->sign(2, grid, POINTS) == 6 && !memcmp(grid, left, POINTS), "example 12", "sign on the grid of 3");
     read_names(six, grid);
-    read_names("222", signs);
+    add_names("222", grid);
     memset(list, 9, sizeof list);
     memset(kept, 9, sizeof kept);
-    hold(calls->surface(2, grid, POINTS, signs, POINTS, list, 23, &quads) == 8 && quads == 0 && !memcmp(list, kept, sizeof kept),
+    hold(calls->surface(2, grid, POINTS, list, 23, &quads) == 8 && quads == 0 && !memcmp(list, kept, sizeof kept),
          "example 12", "surface of 2 with room for 23 numbers");
+}
+
+/* M-107: signs are taken out by open, mark and patch, also where mark adds nothing, and by none of them where it is refused. */
+static void run_clearing(const struct calls *calls, const char *name)
+{
+    uint8_t grid[POINTS], came[POINTS], work[POINTS], expected[POINTS];
+    uint32_t one, two;
+    int32_t nothing[9] = {400000, 400000, 400000, 400000, 400000, 400000, 400000, 400000, 400000};
+    read_names(six, expected);
+    read_names(six, came);
+    add_names("222 000 444", came);
+    memcpy(grid, came, POINTS);
+    hold(calls->mark(2, grid, POINTS, nothing, 9, &one, &two) == 0 && !memcmp(grid, expected, POINTS), name, "mark clears signs where it adds nothing");
+    memcpy(grid, came, POINTS);
+    hold(calls->mark(2, grid, POINTS, nothing, 8, &one, &two) == 3 && !memcmp(grid, came, POINTS), name, "a refused mark clears none");
+    hold(calls->patch(2, grid, POINTS, work, POINTS, &one, &two) == 0 && one + two == 0 && !memcmp(grid, expected, POINTS), name,
+         "patch clears signs, which are no marks");
+    memset(grid, 15, POINTS);
+    hold(calls->open(2, grid, POINTS) == 0 && !memchr(grid, 15, POINTS), name, "open clears signs");
+    memcpy(grid, came, POINTS);
+    add_names("222", expected);
+    hold(calls->sign(2, grid, POINTS) == 0 && !memcmp(grid, expected, POINTS), name, "sign writes all signs anew");
+    hold(calls->sign(2, grid, POINTS) == 0 && !memcmp(grid, expected, POINTS), name, "and changes nothing when called again");
 }
 
 int failed_examples(const struct calls *calls)
@@ -175,6 +201,7 @@ int failed_examples(const struct calls *calls)
         run_example(calls, &examples[e]);
     run_triangles(calls);
     run_refusals(calls);
+    run_clearing(calls, "M-107");
     run_turning("M-113");
     return failures;
 }

@@ -39,11 +39,10 @@ static void hold_place(uint32_t place, uint32_t axis, uint32_t expected)
 
 int main(void)
 {
-    uint8_t grid[OMPHIRUN_POINTS(2)], other[OMPHIRUN_POINTS(2)];
+    uint8_t grid[OMPHIRUN_POINTS(2)];
     uint32_t one = 9, two = 9;
     const int32_t low[9] = {262144, 0}, high[9] = {262144, 262144, 262144, 262144, 262144, 524287};
     memset(grid, 0, sizeof grid);
-    memset(other, 0, sizeof other);
     hold(omphirun_open(1, NULL, 0), OMPHIRUN_BAD_LEVEL, "open");
     hold(omphirun_open(2, NULL, 0), OMPHIRUN_SHORT_BUFFER, "open");
     hold(omphirun_mark(2, NULL, 0, NULL, 0, &one, &two), OMPHIRUN_SHORT_BUFFER, "mark");
@@ -57,20 +56,19 @@ int main(void)
     hold(omphirun_patch(2, NULL, 0, NULL, 0, &one, &two), OMPHIRUN_SHORT_BUFFER, "patch");
     hold(one + two, OMPHIRUN_DONE, "patch's counts");
     hold(omphirun_patch(2, grid, sizeof grid, NULL, 0, &one, &two), OMPHIRUN_SHORT_BUFFER, "patch");
-    hold(omphirun_sign(2, NULL, 0, NULL, 0), OMPHIRUN_SHORT_BUFFER, "sign");
-    hold(omphirun_sign(2, grid, sizeof grid, NULL, 0), OMPHIRUN_SHORT_BUFFER, "sign");
-    hold(omphirun_surface(2, NULL, 0, NULL, 0, NULL, 0, &one), OMPHIRUN_SHORT_BUFFER, "surface");
-    hold(omphirun_surface(2, grid, sizeof grid, other, sizeof other, NULL, 0, &one), OMPHIRUN_DONE, "surface without quads");
-    other[0] = 1;
-    hold(omphirun_surface(2, grid, sizeof grid, other, sizeof other, NULL, 0, &one), OMPHIRUN_SIGNS_MISFIT, "surface");
-    grid[0] = 1;
-    hold(omphirun_sign(2, grid, sizeof grid, other, sizeof other), OMPHIRUN_NO_GRID, "sign");
+    hold(omphirun_sign(2, NULL, 0), OMPHIRUN_SHORT_BUFFER, "sign");
+    hold(omphirun_surface(2, NULL, 0, NULL, 0, &one), OMPHIRUN_SHORT_BUFFER, "surface");
+    hold(omphirun_surface(2, grid, sizeof grid, NULL, 0, &one), OMPHIRUN_DONE, "surface without quads");
+    grid[0] = OMPHIRUN_INSIDE;
+    hold(omphirun_surface(2, grid, sizeof grid, NULL, 0, &one), OMPHIRUN_SIGNS_MISFIT, "surface");
+    grid[0] = 2 * OMPHIRUN_INSIDE;
+    hold(omphirun_sign(2, grid, sizeof grid), OMPHIRUN_NO_GRID, "sign");
     grid[0] = 0;
     hold(omphirun_read_stl(NULL, 0, 21, NULL, 0, &one, &two), OMPHIRUN_BAD_SCALE, "read_stl");
     hold(omphirun_read_stl(NULL, 0, 20, NULL, 0, &one, &two), OMPHIRUN_WRONG_LENGTH, "read_stl");
     hold(one + two, OMPHIRUN_DONE, "read_stl's counts");
     hold(omphirun_read_stl(grid, 84, -20, NULL, 0, &one, &two), OMPHIRUN_DONE, "read_stl without triangles");
     grid[2 + 5 * (2 + 5 * 2)] = 1;
-    hold(omphirun_sign(2, grid, sizeof grid, other, sizeof other), OMPHIRUN_ODD_FACE, "sign");
+    hold(omphirun_sign(2, grid, sizeof grid), OMPHIRUN_ODD_FACE, "sign");
     return failures > 0;
 }

@@ -9,7 +9,6 @@
 const struct kind kinds[BUFFERS] = {
     [GRID] = {"grid", 1, POINT_ROOM, 1},
     [WORK] = {"work", 1, POINT_ROOM, 1},
-    [SIGNS] = {"sign", 1, POINT_ROOM, 1},
     [TRIANGLE] = {"triangle", sizeof(int32_t), TRIANGLE_ROOM, 0},
     [LIST] = {"list", sizeof(uint16_t), LIST_ROOM, 0},
     [STL] = {"file", 1, STL_ROOM, 0},
@@ -62,9 +61,9 @@ void spoil_grid(struct random *r, const struct measures *m, uint8_t *grid)
         fill(r, grid, (size_t)m->points);
     else if (kind == 1)
         for (int q = 0; q < m->points; q++)
-            grid[q] = (uint8_t)below(r, 8);
+            grid[q] = (uint8_t)below(r, 16);
     else if (kind <= 3)
-        grid[kind == 2 ? p : (uint32_t)m->points - 1 - below(r, 3)] |= (uint8_t)(8 << below(r, 5));
+        grid[kind == 2 ? p : (uint32_t)m->points - 1 - below(r, 3)] |= (uint8_t)(16 << below(r, 4));
     else
         for (int tries = 0; tries < 200; tries++, p = (p + 7) % (uint32_t)m->points) {
             int i = (int)p % side, j = (int)p / side % side, k = (int)p / side / side;
@@ -74,6 +73,19 @@ void spoil_grid(struct random *r, const struct measures *m, uint8_t *grid)
                 return;
             }
         }
+}
+
+void make_signs(struct random *r, const struct measures *m, uint32_t level, uint8_t *grid)
+{
+    uint32_t kind = below(r, 5);
+    clear_signs(m, grid);
+    if (kind == 0)
+        reference_sign(known_level(level) ? level : 2, grid, (size_t)m->points);
+    else if (kind == 1)
+        grid[below(r, (uint32_t)m->points)] |= INSIDE;
+    else if (kind <= 3)
+        for (int p = 0; p < m->points; p++)
+            grid[p] |= kind == 2 || chance(r, 50) ? INSIDE : 0;
 }
 
 void patch_grid(struct input *in)

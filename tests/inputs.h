@@ -11,7 +11,7 @@
 #include "random.h"
 #include "reference_grid.h"
 
-enum buffer { GRID, WORK, SIGNS, TRIANGLE, LIST, STL, NUMBERS, BUFFERS };
+enum buffer { GRID, WORK, TRIANGLE, LIST, STL, NUMBERS, BUFFERS };
 enum { POINT_ROOM = 40000, TRIANGLE_ROOM = 24, LIST_ROOM = 4 * 3 * 31 * 31 * 32 + 1000, MOST_COUNTS = 2 };
 enum { MOST_STL = 40, STL_ROOM = 84 + 50 * (MOST_STL + 2), NUMBERS_ROOM = 9 * MOST_STL + 40 };
 enum { MOST_CALLS = 32, MOST_ANSWERS = 32 };
@@ -80,6 +80,9 @@ void make_input(struct random *r, const struct call *only, struct input *in);
 
 /* Makes a grid of some kind, always one that is a grid. */
 void make_grid(struct random *r, const struct measures *m, uint8_t *grid);
+
+/* Sets signs in a grid, in place of those that it has: none, all, one, any, or those of its marks where it has some. */
+void make_signs(struct random *r, const struct measures *m, uint32_t level, uint8_t *grid);
 
 /* Turns the mark of one inner edge. */
 void turn_one(struct random *r, const struct measures *m, uint8_t *grid);

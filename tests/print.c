@@ -5,7 +5,7 @@
 
 enum { MOST_SHOWN = 60, SHOWN_WHOLE = 24 };
 
-/* Marks by name; a byte with more than marks, or behind P, by its index. */
+/* Marks by name, and the points inside; a byte with more than these, or behind P, by its index. */
 static void print_points(const struct input *in, int b)
 {
     struct measures m = measures_for(in);
@@ -21,14 +21,17 @@ static void print_points(const struct input *in, int b)
             continue;
         if (shown++ >= MOST_SHOWN)
             left++;
-        else if (p >= (size_t)m.points || (marks && bytes[p] > 7))
+        else if (p >= (size_t)m.points || (marks && bytes[p] > (MARKS | INSIDE)))
             printf(" [%zu]=%u", p, bytes[p]);
         else if (!marks)
             printf(" (%d,%d,%d)=%u", at[X], at[Y], at[Z], bytes[p]);
-        else
+        else {
             for (int axis = X; axis <= Z; axis++)
                 if (has(bytes, axis, (int)p))
                     printf(" %c(%d,%d,%d)", "xyz"[axis], at[X], at[Y], at[Z]);
+            if (is_inside(bytes, (int)p))
+                printf(" inside(%d,%d,%d)", at[X], at[Y], at[Z]);
+        }
     }
     if (left)
         printf(" and %zu more", left);

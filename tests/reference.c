@@ -1,4 +1,4 @@
-/* Open, sign and surface, from document 01, "Five calls" and "Quads". */
+/* Open, sign and surface, from document 01, "Five calls" and "Quads", and document 02, M-107: one buffer for marks and signs. */
 #include "reference.h"
 
 #include <string.h>
@@ -29,42 +29,40 @@ static int some_face_is_odd(const struct measures *m, const uint8_t *grid)
     return 0;
 }
 
-uint32_t reference_sign(uint32_t level, const uint8_t *grid, size_t grid_len, uint8_t *signs, size_t signs_len)
+uint32_t reference_sign(uint32_t level, uint8_t *grid, size_t grid_len)
 {
     if (!known_level(level))
         return 1;
     struct measures m = measures_of(level);
-    if (grid_len < (size_t)m.points || signs_len < (size_t)m.points)
+    if (grid_len < (size_t)m.points)
         return 2;
     if (!is_grid(&m, grid))
         return 5;
     if (some_face_is_odd(&m, grid))
         return 6;
-    signs[0] = 0;
+    clear_signs(&m, grid);
     for (int k = 0, p = 0; k <= m.n; k++)
         for (int j = 0; j <= m.n; j++)
             for (int i = 0; i <= m.n; i++, p++)
                 if (p > 0) { /* all ways to a point agree; the one taken comes from the point below on x, or y, or z */
                     int axis = i > 0 ? X : j > 0 ? Y : Z, below = p - m.step[axis];
-                    signs[p] = (uint8_t)(signs[below] ^ has(grid, axis, below));
+                    if (is_inside(grid, below) != has(grid, axis, below))
+                        grid[p] |= INSIDE;
                 }
     return 0;
 }
 
-/* A sign above 1, point (0,0,0) inside, or an edge, inner or not, where mark and sign change are not both there or both not. */
-static int signs_are_wrong(const struct measures *m, const uint8_t *grid, const uint8_t *signs)
+/* Point (0,0,0) inside, or an edge, inner or not, where mark and sign change are not both there or both not. */
+static int signs_are_wrong(const struct measures *m, const uint8_t *grid)
 {
-    if (signs[0] != 0)
+    if (is_inside(grid, 0))
         return 1;
-    for (int p = 0; p < m->points; p++)
-        if (signs[p] > 1)
-            return 1;
     for (int k = 0, p = 0; k <= m->n; k++)
         for (int j = 0; j <= m->n; j++)
             for (int i = 0; i <= m->n; i++, p++) {
                 int at[3] = {i, j, k};
                 for (int axis = X; axis <= Z; axis++)
-                    if (at[axis] < m->n && (signs[p] != signs[p + m->step[axis]]) != has(grid, axis, p))
+                    if (at[axis] < m->n && (is_inside(grid, p) != is_inside(grid, p + m->step[axis])) != has(grid, axis, p))
                         return 1;
             }
     return 0;
@@ -91,18 +89,17 @@ static void write_quad(int n, int axis, const int at[3], int lower_inside, uint1
     }
 }
 
-uint32_t reference_surface(uint32_t level, const uint8_t *grid, size_t grid_len, const uint8_t *signs, size_t signs_len,
-                           uint16_t *list, size_t list_len, uint32_t *quads)
+uint32_t reference_surface(uint32_t level, const uint8_t *grid, size_t grid_len, uint16_t *list, size_t list_len, uint32_t *quads)
 {
     *quads = 0;
     if (!known_level(level))
         return 1;
     struct measures m = measures_of(level);
-    if (grid_len < (size_t)m.points || signs_len < (size_t)m.points)
+    if (grid_len < (size_t)m.points)
         return 2;
     if (!is_grid(&m, grid))
         return 5;
-    if (signs_are_wrong(&m, grid, signs))
+    if (signs_are_wrong(&m, grid))
         return 7;
     if (list_len < 4 * (size_t)marked_edges(&m, grid))
         return 8;
@@ -111,6 +108,6 @@ uint32_t reference_surface(uint32_t level, const uint8_t *grid, size_t grid_len,
             for (int i = 0; i <= m.n; i++, p++)
                 for (int axis = X; axis <= Z; axis++)
                     if (has(grid, axis, p))
-                        write_quad(m.n, axis, (const int[3]){i, j, k}, signs[p], list + 4 * (size_t)(*quads)++);
+                        write_quad(m.n, axis, (const int[3]){i, j, k}, is_inside(grid, p), list + 4 * (size_t)(*quads)++);
     return 0;
 }

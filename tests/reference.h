@@ -11,9 +11,8 @@ uint32_t reference_mark(uint32_t level, uint8_t *grid, size_t grid_len, const in
                         uint32_t *axis);
 uint32_t reference_patch(uint32_t level, uint8_t *grid, size_t grid_len, uint8_t *work, size_t work_len, uint32_t *rims,
                          uint32_t *flips);
-uint32_t reference_sign(uint32_t level, const uint8_t *grid, size_t grid_len, uint8_t *signs, size_t signs_len);
-uint32_t reference_surface(uint32_t level, const uint8_t *grid, size_t grid_len, const uint8_t *signs, size_t signs_len,
-                           uint16_t *list, size_t list_len, uint32_t *quads);
+uint32_t reference_sign(uint32_t level, uint8_t *grid, size_t grid_len);
+uint32_t reference_surface(uint32_t level, const uint8_t *grid, size_t grid_len, uint16_t *list, size_t list_len, uint32_t *quads);
 
 /* Document 02, M-100. */
 uint32_t reference_read_stl(const uint8_t *file, size_t file_len, int32_t e, int32_t *list, size_t list_len, uint32_t *triangles,

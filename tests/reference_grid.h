@@ -1,4 +1,5 @@
-/* The lattice and the grid of document 01, with M-105's coordinates, for the reference's own files: measures of a level, marks, faces. */
+/* The lattice and the grid of document 01, with M-105's coordinates and the signs of M-107, for the reference's own files: measures of a level, marks,
+   signs, faces. */
 #ifndef REFERENCE_GRID_H
 #define REFERENCE_GRID_H
 
@@ -66,6 +67,14 @@ static inline int has(const uint8_t *set, int axis, int p)
     return set[p] >> axis & 1;
 }
 
+/* What a grid byte holds beside the marks: value 8 for a point inside (M-107). */
+enum { MARKS = 7, INSIDE = 8 };
+
+static inline int is_inside(const uint8_t *grid, int p)
+{
+    return (grid[p] & INSIDE) != 0;
+}
+
 /* The value of all edges at point (i,j,k) that exist and are inner. */
 static inline uint8_t inner_edges(int n, int i, int j, int k)
 {
@@ -74,14 +83,14 @@ static inline uint8_t inner_edges(int n, int i, int j, int k)
                      ((k < n) & across_i & across_j) << 2);
 }
 
-/* No byte above 7, and no mark on an edge that is not inner or does not exist. */
+/* No byte above 15, and no mark on an edge that is not inner or does not exist. */
 static inline int is_grid(const struct measures *m, const uint8_t *grid)
 {
     const uint8_t *byte = grid;
     for (int k = 0; k <= m->n; k++)
         for (int j = 0; j <= m->n; j++)
             for (int i = 0; i <= m->n; i++)
-                if (*byte++ & ~inner_edges(m->n, i, j, k))
+                if (*byte++ & ~(inner_edges(m->n, i, j, k) | INSIDE))
                     return 0;
     return 1;
 }
@@ -91,6 +100,13 @@ static inline int odd_face(const struct measures *m, const uint8_t *grid, int ax
 {
     int b = earlier(axis), c = later(axis);
     return has(grid, b, p) ^ has(grid, b, p + m->step[c]) ^ has(grid, c, p) ^ has(grid, c, p + m->step[b]);
+}
+
+/* Takes all signs out of a grid. */
+static inline void clear_signs(const struct measures *m, uint8_t *grid)
+{
+    for (int p = 0; p < m->points; p++)
+        grid[p] &= MARKS;
 }
 
 /* Adds the marks of the edges that the triangle meets; level, coordinates and grid are known to be right. */

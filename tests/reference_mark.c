@@ -213,6 +213,7 @@ static uint32_t mark(uint32_t level, uint8_t *grid, size_t grid_len, const int32
     }
     if (!is_grid(&m, grid))
         return 5;
+    clear_signs(&m, grid);
     add_marks(&m, grid, triangle);
     return 0;
 }

@@ -184,6 +184,7 @@ uint32_t reference_patch(uint32_t level, uint8_t *grid, size_t grid_len, uint8_t
         return 2;
     if (!is_grid(&m, grid))
         return 5;
+    clear_signs(&m, grid);
     memset(flipped, 0, (size_t)m.points);
     *rims = each_rim(&m, grid, halve);
     *flips = apply_flips(&m, grid);

@@ -31,7 +31,7 @@ static uint32_t read_triangles(const struct measures *m, const uint8_t *at, size
 
 void reference_repair(const uint8_t *stream, size_t stream_len, FILE *out)
 {
-    static uint8_t grid[MOST_POINTS], other[MOST_POINTS];
+    static uint8_t grid[MOST_POINTS], work[MOST_POINTS];
     static uint16_t list[LIST];
     uint32_t triangles = 0, rims = 0, flips = 0, inside = 0, quads = 0;
     uint32_t level = stream_len > 0 ? stream[0] : 0, refused = reference_open(level, grid, sizeof grid);
@@ -41,17 +41,17 @@ void reference_repair(const uint8_t *stream, size_t stream_len, FILE *out)
         refused = read_triangles(&m, stream + 1, stream_len - 1, grid, &triangles);
     }
     if (!refused)
-        refused = reference_patch(level, grid, sizeof grid, other, sizeof other, &rims, &flips);
+        refused = reference_patch(level, grid, sizeof grid, work, sizeof work, &rims, &flips);
     if (!refused)
-        refused = reference_sign(level, grid, sizeof grid, other, sizeof other);
+        refused = reference_sign(level, grid, sizeof grid);
     if (!refused)
-        refused = reference_surface(level, grid, sizeof grid, other, sizeof other, list, LIST, &quads);
+        refused = reference_surface(level, grid, sizeof grid, list, LIST, &quads);
     if (refused) {
         fprintf(out, "refused %u\n", (unsigned)refused);
         return;
     }
     for (int p = 0; p < m.points; p++)
-        inside += other[p];
+        inside += (uint32_t)is_inside(grid, p);
     fprintf(out, "level %u triangles %u\n", (unsigned)level, (unsigned)triangles);
     fprintf(out, "rims %u flips %u inside %u quads %u\n", (unsigned)rims, (unsigned)flips, (unsigned)inside, (unsigned)quads);
     for (const uint16_t *q = list; q < list + 4 * quads; q += 4)

@@ -42,7 +42,7 @@ static void crop(const struct measures *big, const struct measures *small, const
             for (int i = 0; i <= small->n; i++, p++) {
                 int shift = which * (big->n - small->n) / 2;
                 int q = (i + shift) * big->step[X] + (j + shift) * big->step[Y] + (k + shift) * big->step[Z];
-                to[p] = (uint8_t)(from[q] & (marks ? inner_edges(small->n, i, j, k) : 255));
+                to[p] = (uint8_t)(from[q] & (marks ? inner_edges(small->n, i, j, k) | INSIDE : 255));
             }
 }
 
@@ -125,7 +125,7 @@ static void drop_point(struct input *in, const struct measures *m, int p)
             more += has(in->buffer[GRID], axis, edge) ? 4 : -4;
         }
     if (takes(in->call, LIST)) {
-        in->buffer[SIGNS][p] = 0;
+        in->buffer[GRID][p] &= MARKS;
         in->len[LIST] = more < 0 && in->len[LIST] < (size_t)-more ? 0 : in->len[LIST] + (size_t)more;
     }
 }
@@ -135,18 +135,19 @@ static int drop_points(struct input *best)
 {
     struct measures m = measures_for(best);
     size_t points = (size_t)m.points;
-    static uint8_t inside[MOST_POINTS];
+    static uint8_t signed_grid[MOST_POINTS];
     int taken = 0;
-    if (!takes(best->call, SIGNS) || best->len[GRID] < points || best->len[SIGNS] < points)
+    if ((best->call != &call_sign && best->call != &call_surface) || best->len[GRID] < points)
         return 0;
     for (size_t run = points; run > 0; run /= 2)
         for (size_t at = 0; at < points && time(NULL) <= stop_at; at += run) {
             size_t dropped = 0;
-            if (reference_sign(best->level, best->buffer[GRID], points, inside, points))
+            memcpy(signed_grid, best->buffer[GRID], points);
+            if (reference_sign(best->level, signed_grid, points))
                 return taken > 0;
             copy(&candidate, best);
             for (size_t p = at; p < at + run && p < points; p++)
-                if (inside[p]) {
+                if (is_inside(signed_grid, (int)p)) {
                     drop_point(&candidate, &m, (int)p);
                     dropped++;
                 }

@@ -18,7 +18,7 @@ use Rattle.meeting.specs.Met.{marked}
 use Rattle.marking.specs.Mark.{done, refusedAt, refused, markRows, markCall}
 use Rattle.marking.proofs.Ranges.{triangle-within}
 use Rattle.marking.proofs.OutOfRange.{out-told}
-use Rattle.meeting.proofs.Marks.{grid-after, marked-length}
+use Rattle.meeting.proofs.Marks.{grid-after, marked-length, unsigned-after}
 use Rattle.feeding.specs.Feed.{Ready}
 
 -- a level's number is that of a level
@@ -54,7 +54,11 @@ module _ (l : Level) (g : List ℕ) (r : Ready l g) (c : List ℤ) where
   unfolding markRows markCall
   mark-in h e = rw (level-is, good, le-ltb (length g) (pointsOf l) (r .long), eq-eqb (length c) 9 h, e, r .grid)
 
--- marking leaves a grid of the level
+-- marking leaves a grid of the level, without signs
 pub ready-after : (l : Level) (g : List ℕ) (c : List ℤ) → Ready l g → length c ≡ 9 → allInRange l c ≡ true → Ready l (marked l (triangleOf c) g)
 ready-after l g c r h e =
-    record { long = rw (marked-length l (triangleOf c) g (r .long)) (r .long); grid = grid-after l (triangleOf c) (triangle-within l c h e) g }
+    record {
+      long = rw (marked-length l (triangleOf c) g (r .long)) (r .long);
+      grid = grid-after l (triangleOf c) (triangle-within l c h e) g;
+      unsigned = unsigned-after l (triangleOf c) g;
+    }

@@ -4,7 +4,7 @@ use mathlib.Core.Bool.{true}
 use mathlib.Core.List.{List, _++_}
 use Prim.Native.Nat.{ℕ, _-_, _%_, _≤_, _<_}
 use lib.ListN.{length}
-use Rattle.rules.specs.Grid.{isGrid}
+use Rattle.rules.specs.Grid.{isGrid, Unsigned}
 use Rattle.lattice.specs.declared.level.Level.{Level}
 use Rattle.lattice.specs.Levels.{numberOf, cellsOf, pointsOf}
 use Rattle.marking.specs.Mark.{markCall}
@@ -13,10 +13,11 @@ use Rattle.feeding.specs.declared.Fed.{Fed}
 use Rattle.feeding.specs.declared.Fed.the-variants.{Marked, Refused}
 use Rattle.feeding.specs.Taken.{Taken, refusedBy, taken, mostTriangles}
 
--- the buffer is a grid of the level
+-- the buffer is a grid of the level, without signs
 pub record Ready (l : Level) (g : List ℕ) : Type 0 where
   pub long : pointsOf l ≤ length g
   pub grid : isGrid (cellsOf l) g ≡ true
+  pub unsigned : Unsigned (cellsOf l) g
 
 -- the number and the grid are those of mark, for the triangle of the bytes s
 pub record Marking (l : Level) (s : List ℕ) (number : ℕ) (g g′ : List ℕ) : Type 0 where

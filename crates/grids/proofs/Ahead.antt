@@ -7,9 +7,9 @@ use lib.ListN.{length, getD, replicate, length-replicate, getD-replicate, List·
 use Rattle.rules.specs.declared.Axis.{Axis}
 use Rattle.rules.specs.declared.Point.{Point}
 use Rattle.rules.specs.Lattice.{Set, points, pointNumber, pointCount, inner, OfGrid}
-use Rattle.rules.specs.Grid.{has, bytes, marks, byteFits, goodByte, isGrid}
+use Rattle.rules.specs.Grid.{has, byteAt, bytes, marks, saysInside, Unsigned, byteFits, goodByte, isGrid}
 use Rattle.rules.proofs.Lists.{all-weaken, allOf←}
-use Rattle.rules.proofs.Numbers.{bytes-length, zero-has}
+use Rattle.rules.proofs.Numbers.{bytes-length, bytes-at, byte-most, low-says, zero-has}
 use Rattle.rules.proofs.PointOf.{points-grid}
 use Rattle.rules.proofs.Again.{bytes-grid, read-back, inner-point}
 use Rattle.rules.proofs.Same.{allOf-same}
@@ -43,7 +43,12 @@ module _ (n : ℕ) (E : Set) (inside : (a : Axis) (p : Point) → E a p ≡ true
   pub bytes-have-marks : marks n (bytes n E ++ rest) ≡ E
   bytes-have-marks = marks-ahead n (bytes n E) rest (bytes-length n E) ∙ read-back n E inside
 
--- an opened grid is one, without marks
+-- and without signs
+pub bytes-unsigned : (n : ℕ) (E : Set) (rest : List ℕ) → Unsigned n (bytes n E ++ rest)
+bytes-unsigned n E rest p o =
+    ap saysInside (byte-ahead n (bytes n E) rest (bytes-length n E) p o ∙ bytes-at n E p (o .i) (o .j) (o .k)) ∙ low-says (byteAt E p) (byte-most E p)
+
+-- an opened grid is one, without marks and signs
 module _ (n : ℕ) (rest : List ℕ) where
   abbrev noughts : List ℕ
   noughts = replicate (pointCount n) 0
@@ -58,6 +63,9 @@ module _ (n : ℕ) (rest : List ℕ) where
       go : (a : Axis) (p : Point) (c : Bool) → inner n a p ≡ c → c && has a (getD noughts (pointNumber n p) 0) ≡ false
       go a p true e = ap (has a) (nought p (inner-point n a p e)) ∙ zero-has a
       go a p false e = refl
+
+  pub open-unsigned : Unsigned n (noughts ++ rest)
+  open-unsigned p o = ap saysInside (byte-ahead n noughts rest (length-replicate (pointCount n) 0) p o ∙ nought p o)
 
   pub open-grid : isGrid n (noughts ++ rest) ≡ true
   unfolding isGrid

@@ -1,3 +1,4 @@
 pub mod Points
 pub mod GridFacts
 pub mod Ahead
+pub mod Unsigning

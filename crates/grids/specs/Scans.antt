@@ -1,11 +1,16 @@
 -- A scan of the points by rising number. Assumes nothing.
 use mathlib.Core.Bool.{Bool, not, _&&_, cond}
-use Prim.Native.Nat.{ℕ, _+_}
+use mathlib.Core.List.{List, _++_}
+use Prim.Native.Nat.{ℕ, suc, _+_}
 use lib.Dec.{ltb}
-use Rattle.rules.specs.Lists.{between, allOf}
+use lib.ListN.{drop}
+use Rattle.rules.specs.Lists.{between, allOf, count}
 use Rattle.rules.specs.declared.Point.{Point}
-use Rattle.rules.specs.Lattice.{Set, isIn, placesAt}
+use Rattle.rules.specs.Lattice.{Set, isIn, placesAt, points, pointCount}
+use Rattle.rules.specs.Grid.{bytes, marks, inside, isGrid}
 use Rattle.rules.specs.Cell.{oddFace}
+use Rattle.grids.specs.declared.GridRead.{GridRead}
+use Rattle.grids.specs.declared.GridRead.the-variants.{NoGrid, Grid}
 
 -- the point whose number is one more
 unfoldable pub nextPoint : ℕ → Point → Point
@@ -24,3 +29,15 @@ lowerEven E c = allOf (λ f. not (isIn (oddFace E) f)) (placesAt c)
 -- all three coordinates lie in 1..n-1
 abbrev pub deep : ℕ → Point → Bool
 deep n p = between 1 n (p .i) && (between 1 n (p .j) && between 1 n (p .k))
+
+-- the points that a buffer has inside
+unfoldable pub insideCount : ℕ → List ℕ → ℕ
+insideCount n g = count (inside n g) (points (suc n))
+
+-- what a buffer is read as
+abbrev pub readOf : ℕ → List ℕ → GridRead
+readOf n g = cond (isGrid n g) (Grid (insideCount n g)) NoGrid
+
+-- a grid without its signs
+unfoldable pub unsigned : ℕ → List ℕ → List ℕ
+unsigned n g = bytes n (marks n g) ++ drop (pointCount n) g

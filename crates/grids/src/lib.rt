@@ -1,5 +1,7 @@
-// What every scan of the points needs: the point after a point, inner edges, "is a grid", "no face is odd".
+// What every scan of the points needs: the point after a point, inner edges, "is a grid", signs taken out, "no face is odd".
 use lattice::byte::bit;
+use lattice::byte::one_inside;
+use lattice::byte::with_sign;
 use lattice::cell::edge_rule;
 use lattice::level::point_count;
 use lattice::number_of;
@@ -7,7 +9,7 @@ use lattice::odd;
 use rules::Axis;
 use rules::Point;
 ghost use mathlib.Core.Path.{_≡_};
-ghost use mathlib.Core.Bool.{true, not, _||_};
+ghost use mathlib.Core.Bool.{true, not, _||_, cond};
 ghost use Prim.Native.Nat.{_≤_};
 ghost use lib.ListN.{length};
 ghost use Rattle.rules.specs.Lists.{between};
@@ -17,7 +19,7 @@ ghost use Rattle.rules.specs.Grid.{has, byteFits, isGrid, marks};
 ghost use Rattle.rules.specs.Lattice.{OfGrid};
 ghost use Rattle.rules.specs.Rims.{evenFaces};
 ghost use Rattle.lattice.specs.Cells.{Cell};
-ghost use Rattle.grids.specs.Scans.{nextPoint, innerAlong, deep, lowerEven};
+ghost use Rattle.grids.specs.Scans.{nextPoint, innerAlong, deep, lowerEven, readOf, unsigned};
 
 // The point after a point, by rising number.
 pub fn next_point(n: usize, p: Point) -> Point
@@ -102,14 +104,14 @@ fn is_deep(n: usize, p: Point) -> bool
     is_between(1, n, p.k)
 }
 
-// Whether a byte may stand at a point of a grid. Most points are deep, and there any byte up to 7 may.
+// Whether a byte may stand at a point of a grid. Most points are deep, and there any byte up to 15 may.
 pub fn byte_fits(n: usize, b: u8, p: Point) -> bool
     ensures { λ r. ⌜ r ≡ byteFits n b p ⌝ }
 {
     if b == 0 {
         return true;
     }
-    if 7 < b {
+    if 15 < b {
         return false;
     }
     if is_deep(n, p) {
@@ -124,21 +126,68 @@ pub fn byte_fits(n: usize, b: u8, p: Point) -> bool
     mark_fits(n, b, Axis::Z, p)
 }
 
+// What the first P bytes of a buffer are: no grid, or one with so many points inside.
+pub enum GridRead {
+    NoGrid,
+    Grid { inside: usize },
+}
+
+// Looks at every byte of a buffer.
+pub fn read_grid(n: usize, grid: &[u8]) -> GridRead
+    requires { ⌜ (n ≤ 32) × (pointCount n ≤ length (now grid)) ⌝ }
+    ensures { λ r. ⌜ r ≡ readOf n (now (grid .entry)) ⌝ }
+{
+    let count = point_count(n);
+    let mut q = Point { i: 0, j: 0, k: 0 };
+    let mut found: usize = 0;
+    let mut p: usize = 0;
+    while p < count {
+        if !byte_fits(n, grid[p], q) {
+            return GridRead::NoGrid;
+        }
+        found += one_inside(grid[p]);
+        q = next_point(n, q);
+        p += 1;
+    }
+    GridRead::Grid { inside: found }
+}
+
 // Whether the first P bytes of a buffer are a grid.
 pub fn is_grid(n: usize, grid: &[u8]) -> bool
     requires { ⌜ (n ≤ 32) × (pointCount n ≤ length (now grid)) ⌝ }
     ensures { λ r. ⌜ r ≡ isGrid n (now (grid .entry)) ⌝ }
 {
+    match read_grid(n, grid) {
+        GridRead::NoGrid => false,
+        GridRead::Grid { inside: _ } => true,
+    }
+}
+
+// Writes each byte of a grid anew without its sign.
+fn keep_marks(n: usize, grid: &mut [u8])
+    requires { ⌜ (n ≤ 32) × (pointCount n ≤ length (now grid)) × (isGrid n (now grid) ≡ true) ⌝ }
+    ensures { λ _. ⌜ now (grid .exit) ≡ unsigned n (now (grid .entry)) ⌝ }
+{
     let count = point_count(n);
-    let mut q = Point { i: 0, j: 0, k: 0 };
     let mut p: usize = 0;
     while p < count {
-        if !byte_fits(n, grid[p], q) {
-            return false;
-        }
-        q = next_point(n, q);
+        grid[p] = with_sign(grid[p], false);
         p += 1;
     }
+}
+
+// Takes the signs out of a grid, and answers whether the buffer is one; what is none is left as it is. A grid without signs is only looked at.
+pub fn clear_signs(n: usize, grid: &mut [u8]) -> bool
+    requires { ⌜ (n ≤ 32) × (pointCount n ≤ length (now grid)) ⌝ }
+    ensures { λ r. ⌜ (r ≡ isGrid n (now (grid .entry))) × (now (grid .exit) ≡ cond (isGrid n (now (grid .entry))) (unsigned n (now (grid .entry))) (now (grid .entry))) ⌝ }
+{
+    let GridRead::Grid { inside } = read_grid(n, grid) else {
+        return false;
+    };
+    if inside == 0 {
+        return true;
+    }
+    keep_marks(n, grid);
     true
 }
 

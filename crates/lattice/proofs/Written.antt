@@ -3,9 +3,10 @@ use mathlib.Core.Path.{_≡_, sym, ap, _∙_}
 use mathlib.Core.List.{List, [], _∷_, map, _++_}
 use Prim.Native.Nat.{ℕ, suc, _+_, _-_, _≤_, _<_}
 use native.Mathlib.Nat.{zero-add, add-zero}
+use native.Mathlib.Numerals.{add-one}
 use native.Mathlib.Omega.{arith}
-use lib.ListN.{length, drop, set}
-use lib.Seq.{sets, sets-eq}
+use lib.ListN.{length, getD, drop, set}
+use lib.Seq.{sets, sets-eq, getD-set-other}
 use Rattle.rules.specs.Lists.{upto}
 use Rattle.rules.proofs.Lists.{upto-more}
 
@@ -25,3 +26,17 @@ write-end f s p c h = ap (λ (m : ℕ). sets s p (map f (upto p m))) (let e : c 
 pub sets-append : {A : Type 0} (s : List A) (i : ℕ) (l m : List A) → sets (sets s i l) (i + length l) m ≡ sets s i (l ++ m)
 sets-append s i [] m = ap (λ (j : ℕ). sets s j m) (add-zero i)
 sets-append s i (x ∷ l) m = ap (λ (j : ℕ). sets (sets (set s i x) (suc i) l) j m) (let e : i + suc (length l) ≡ suc i + length l = omega arith in e) ∙ sets-append (set s i x) (suc i) l m
+
+-- ---- a buffer rewritten in place, each byte from the one that stood there
+module _ (s₀ s : List ℕ) (p : ℕ) where
+  -- the bytes from the next one on are as they came
+  pub rewrite-kept : (v : ℕ) → ((i : ℕ) → p ≤ i → getD s i 0 ≡ getD s₀ i 0) → (i : ℕ) → p + 1 ≤ i → getD (set s p v) i 0 ≡ getD s₀ i 0
+  rewrite-kept v h i l = getD-set-other s p i v 0 (λ (e : i ≡ p). let z : ⊥ = omega arith in z) ∙ h i (omega arith)
+
+-- with the others written there the buffer is as with all of them written
+pub rewrite-on : (f : ℕ → ℕ) (s : List ℕ) (p c v : ℕ) (whole : List ℕ) → p < c → v ≡ f p → sets s p (map f (upto p (c - p))) ≡ whole →
+    sets (set s p v) (p + 1) (map f (upto (p + 1) (c - (p + 1)))) ≡ whole
+rewrite-on f s p c v whole h e k =
+    ap (λ (i : ℕ). sets (set s p v) i (map f (upto i (c - i)))) (add-one p)
+    ∙ ap (λ (x : ℕ). sets (set s p x) (suc p) (map f (upto (suc p) (c - suc p)))) e
+    ∙ write-more f s p c h ∙ k

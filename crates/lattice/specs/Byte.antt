@@ -1,8 +1,8 @@
--- A byte of a buffer: its three parts, and what patch holds in each while it runs. Assumes nothing.
+-- A byte of a buffer: its three parts, and what they hold in a grid and, while patch runs, in both buffers. Assumes nothing.
 --
 --   values       a grid byte               a work byte
 --   1, 2, 4      the marks                 the working faces; until the walk leaves the cell, the way back
---   8            0, whatever came there    whether the cell has been seen
+--   8            the sign, 0 in patch      whether the cell has been seen
 --   16, 32, 64   the marks as they came    the odd faces
 --
 -- The lowest part is told and turned by `has` and `toggle` of rules, in both.
@@ -37,6 +37,10 @@ abbrev pub packed : ℕ → ℕ → ℕ → ℕ
 packed l f h = l + (8 * f + 16 * h)
 
 -- ---- the grid byte
+
+-- its marks with this sign; `saysInside` of rules tells the sign, as `flag` does
+abbrev pub withSign : Bool → ℕ → ℕ
+withSign inside b = low b + value inside 8
 
 -- the edge along an axis was marked as the grid came
 abbrev pub came : Axis → ℕ → Bool

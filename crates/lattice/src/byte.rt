@@ -1,17 +1,17 @@
-// A byte of a buffer: its marks, and what patch holds beside them while it runs. Nothing else reads or makes a part of a byte.
+// A byte of a buffer: its marks, its sign, and what patch holds beside the marks while it runs. Nothing else reads or makes a part of a byte.
 //
 //   values       a grid byte               a work byte
 //   1, 2, 4      the marks                 the working faces; until the walk leaves the cell, the way back
-//   8            0, whatever came there    whether the cell has been seen
+//   8            the sign, 0 in patch      whether the cell has been seen
 //   16, 32, 64   the marks as they came    the odd faces
 use crate::index;
 use rules::Axis;
 ghost use mathlib.Core.Path.{_≡_};
 ghost use Prim.Native.Nat.{_≤_, _<_};
 ghost use lib.ListN.{length};
-ghost use Rattle.rules.specs.Grid.{has, value, weight, toggle};
+ghost use Rattle.rules.specs.Grid.{has, value, weight, toggle, saysInside};
 ghost use Rattle.lattice.specs.Cells.{turnAt};
-ghost use Rattle.lattice.specs.Byte.{low, high, packed, marksPutBy, changes, odd, noneOdd, seen, wayBack, oddPutBy, entered, departed};
+ghost use Rattle.lattice.specs.Byte.{low, high, packed, withSign, marksPutBy, changes, odd, noneOdd, seen, wayBack, oddPutBy, entered, departed};
 
 // The value of an axis in a byte: 1 for x, 2 for y, 4 for z.
 fn weight_of(a: Axis) -> u8
@@ -71,6 +71,30 @@ fn packed(l: u8, f: u8, h: u8) -> u8
     ensures { λ r. ⌜ r ≡ packed l f h ⌝ }
 {
     l + (8 * f + 16 * h)
+}
+
+// Whether a grid byte says that its point is inside.
+pub fn is_inside(b: u8) -> bool
+    ensures { λ r. ⌜ r ≡ saysInside b ⌝ }
+{
+    b / 8 % 2 == 1
+}
+
+// 1 where a grid byte says that its point is inside, else 0.
+pub fn one_inside(b: u8) -> usize
+    ensures { λ r. ⌜ (r ≡ value (saysInside b) 1) × (r ≤ 1) ⌝ }
+{
+    (b / 8 % 2) as usize
+}
+
+// The marks of a grid byte with this sign, in place of whatever sign it had.
+pub fn with_sign(b: u8, inside: bool) -> u8
+    ensures { λ r. ⌜ r ≡ withSign inside b ⌝ }
+{
+    if inside {
+        return packed(low(b), 1, 0);
+    }
+    low(b)
 }
 
 // A grid byte with its marks put by: as they are now, and as they came.

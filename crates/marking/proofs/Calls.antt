@@ -11,10 +11,10 @@ use lib.IntN.{ℤ}
 use lib.ListN.{length, drop}
 use Rattle.rules.specs.declared.Axis.{Axis}
 use Rattle.rules.specs.declared.Point.{Point}
-use Rattle.rules.specs.Grid.{marks, isGrid}
+use Rattle.rules.specs.Grid.{marks, Unsigned, isGrid}
 use Rattle.lattice.specs.declared.level.Level.{Level}
 use Rattle.lattice.specs.Levels.{numberOf, cellsOf, pointsOf}
-use Rattle.grids.proofs.Ahead.{open-grid, open-marks}
+use Rattle.grids.proofs.Ahead.{open-grid, open-marks, open-unsigned}
 use Rattle.refusals.specs.Rows.{Row, answered, noneOf}
 use Rattle.refusals.specs.Columns.{levelAt}
 use Rattle.refusals.proofs.Answered.{none-clear, clear-none, answered-on, answered-part, answered-done}
@@ -28,7 +28,7 @@ use Rattle.marking.specs.Open.{opened, openRows, openCall}
 use Rattle.marking.specs.Mark.{Outcome, done, refused, markRows, markCall}
 use Rattle.marking.proofs.Ranges.{triangle-within}
 use Rattle.marking.proofs.OutOfRange.{none-told}
-use Rattle.meeting.proofs.Marks.{Unseparated, grid-after, marked-exactly, marked-twice, marked-swapped, marked-length}
+use Rattle.meeting.proofs.Marks.{Unseparated, grid-after, unsigned-after, marked-exactly, marked-twice, marked-swapped, marked-length}
 
 -- an outcome's number, place and axis
 abbrev pub answerOf : Outcome → Outcome
@@ -129,12 +129,13 @@ pub grid-stays : (k : ℕ) (g : List ℕ) (c : List ℤ) → isGrid (cellsOf (le
 grid-stays k g c = grid-kept k g c .1
 
 -- ---- the calls, where they are done
--- what a done open leaves: a grid without marks
+-- what a done open leaves: a grid without marks and signs
 pub record Opened (k : ℕ) (h : List ℕ) : Type 0 where
   pub level : Level
   pub known : k ≡ numberOf level
   pub grid : isGrid (cellsOf level) h ≡ true
   pub none : marks (cellsOf level) h ≡ (λ a p. false)
+  pub unsigned : Unsigned (cellsOf level) h
 
 pub open-done : (k : ℕ) (g : List ℕ) → openCall k g .number ≡ 0 → Opened k (openCall k g .grid)
 unfolding openCall openRows opened
@@ -143,7 +144,13 @@ open-done k g e =
     let rest = drop (pointsOf (levelAt k)) g in
     let r = answered-done (λ o. o .number) (Opening.refused g) (Opening.done (opened (levelAt k) g)) (λ i. refl) refl (openRows k g) refl e in
     let f = ap (λ (o : Opening.Outcome). o .grid) (r .1) in
-    record { level = levelAt k; known = good-number k (r .0 .0); grid = rw f (open-grid n rest); none = rw f (open-marks n rest) }
+    record {
+      level = levelAt k;
+      known = good-number k (r .0 .0);
+      grid = rw f (open-grid n rest);
+      none = rw f (open-marks n rest);
+      unsigned = rw f (open-unsigned n rest);
+    }
 
 -- what a done mark leaves
 pub record Marks (k : ℕ) (g : List ℕ) (c : List ℤ) (h : List ℕ) : Type 0 where
@@ -151,6 +158,8 @@ pub record Marks (k : ℕ) (g : List ℕ) (c : List ℤ) (h : List ℕ) : Type 0
   pub known : k ≡ numberOf level
   -- a grid
   pub grid : isGrid (cellsOf level) h ≡ true
+  -- without signs
+  pub unsigned : Unsigned (cellsOf level) h
   -- with an edge marked exactly when it was before or no axis separates it from the triangle
   pub exactly : (a : Axis) (p : Point) →
       (marks (cellsOf level) h a p ≡ true) ↔ ((marks (cellsOf level) g a p ≡ true) ⊎ Unseparated level (triangleOf c) a p)
@@ -162,4 +171,10 @@ mark-done k g c e =
     let r = answered-done (λ o. o .number) (refused l c g) (done (after k g c)) (λ i. refl) refl (markRows k g c) refl e in
     let h = taken k g c (clear-none (markRows k g c) (r .0)) in
     let f = ap (λ (o : Outcome). o .grid) (r .1) in
-    record { level = l; known = h .known; grid = rw f (grid-after l (triangleOf c) (h .within) g); exactly = rw f (marked-exactly l (triangleOf c) (h .within) g) }
+    record {
+      level = l;
+      known = h .known;
+      grid = rw f (grid-after l (triangleOf c) (h .within) g);
+      unsigned = rw f (unsigned-after l (triangleOf c) g);
+      exactly = rw f (marked-exactly l (triangleOf c) (h .within) g);
+    }

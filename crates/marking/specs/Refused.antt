@@ -21,9 +21,9 @@ first v k = pos v ∷ good k
 abbrev two : ℕ → ℕ → List ℤ
 two v w = good 5 ++ (first v 1 ++ first w 1)
 
--- 125 bytes with a byte 8: no grid
+-- 125 bytes with a byte 16: no grid
 abbrev noGrid : List ℕ
-noGrid = lone 0 8
+noGrid = lone 0 16
 
 unfoldable pub cases : List Case
 cases =
@@ -36,19 +36,21 @@ cases =
     ∷ openCall 2 (zeros 125) .number is 0
     ∷ openCall 3 (zeros 729) .number is 0
     -- mark. 1
-    ∷ markCall 1 (8 ∷ []) (first 0 9) .number is 1
-    ∷ markCall 6 (8 ∷ []) (first 0 9) .number is 1
+    ∷ markCall 1 (16 ∷ []) (first 0 9) .number is 1
+    ∷ markCall 6 (16 ∷ []) (first 0 9) .number is 1
     -- 2
-    ∷ markCall 2 (8 ∷ zeros 123) (first 0 9) .number is 2
+    ∷ markCall 2 (16 ∷ zeros 123) (first 0 9) .number is 2
     -- 3: not nine numbers, ten or eight
     ∷ markCall 2 noGrid (first 0 9) .number is 3
     ∷ markCall 2 noGrid (first 0 7) .number is 3
-    -- example 11: a byte 8 with a coordinate of 0, and with the coordinate mended
+    -- example 11: a byte 16 with a coordinate of 0, and with the coordinate mended
     ∷ markCall 2 noGrid (first 0 8) .number is 4
     ∷ markCall 2 noGrid (good 9) .number is 5
     -- 5: a mark on an edge that isn't inner, x(0,0,0), or doesn't exist, x(4,2,2)
     ∷ markCall 2 (lone 0 1) (good 9) .number is 5
     ∷ markCall 2 (lone 64 1) (good 9) .number is 5
+    -- a byte 15 is three marks and a sign
+    ∷ markCall 2 (lone 62 15) (good 9) .number is 0
     -- example 10: the ends of the range are taken
     ∷ markCall 2 (zeros 125) (first 131072 8) .number is 0
     ∷ markCall 2 (zeros 125) (first 131071 8) .number is 4

@@ -4,7 +4,7 @@ pub mod range;
 use crate::range::first_out;
 use crate::range::is_below;
 use crate::range::triangle_of;
-use grids::is_grid;
+use grids::clear_signs;
 use lattice::clear;
 use lattice::level::Level;
 use lattice::level::LevelRead;
@@ -70,8 +70,8 @@ pub fn out_of_range(l: Level, place: usize, v: i32) -> MarkAnswer
     MarkAnswer::Above { place: p, axis: a }
 }
 
-// The call mark: adds the marks of the edges that a triangle of nine numbers meets. It looks at every byte of the grid, to
-// see that it is one; `scan::mark_grid` is for callers that know it.
+// The call mark: adds the marks of the edges that a triangle of nine numbers meets, and clears all signs. It looks at every byte of the
+// grid, to see that it is one; `scan::mark_grid` is for callers that know it.
 pub fn mark(level: u32, grid: &mut [u8], triangle: &[i32]) -> MarkAnswer
     ensures { λ r. ⌜ markTold r (now (grid .exit)) ≡ markCall level (now (grid .entry)) (now (triangle .entry)) ⌝ }
 {
@@ -88,7 +88,7 @@ pub fn mark(level: u32, grid: &mut [u8], triangle: &[i32]) -> MarkAnswer
     if place < 9 {
         return out_of_range(l, place, triangle[place]);
     }
-    if !is_grid(l.cells(), grid) {
+    if !clear_signs(l.cells(), grid) {
         return MarkAnswer::Refused(Refusal::NoGrid);
     }
     mark_grid(l, grid, triangle_of(triangle));

@@ -151,10 +151,10 @@ fn show_examples() {
 
 fn show_byte_eight() {
     show_put(
-        b"a byte of 8, a coordinate of 0",
+        b"a byte of 16, a coordinate of 0",
         2,
         62,
-        8,
+        16,
         &[
             0,
             262_144,
@@ -167,8 +167,14 @@ fn show_byte_eight() {
             262_144,
         ],
     );
-    show_put(b"a byte of 8, a coordinate above", 2, 62, 8, &[393_216; 9]);
-    show_put(b"a byte of 8, mended", 2, 62, 8, &[262_144; 9]);
+    show_put(
+        b"a byte of 16, a coordinate above",
+        2,
+        62,
+        16,
+        &[393_216; 9],
+    );
+    show_put(b"a byte of 16, mended", 2, 62, 16, &[262_144; 9]);
 }
 
 fn show_points() {
@@ -251,7 +257,7 @@ fn show_refusals() {
     show_put(b"level 3, short, eight numbers", 3, 0, 0, &[262_144; 8]);
     show_put(b"a mark on the outside", 2, 0, 1, &nine);
     show_put(b"a mark beyond the grid", 2, 64, 1, &nine);
-    show_put(b"a byte of 8 behind the grid", 2, 125, 8, &nine);
+    show_put(b"a byte of 16 behind the grid", 2, 125, 16, &nine);
     show_put(b"a mark that is there", 2, 31, 1, &nine);
     let mut none = [0u8; 0];
     say_count(

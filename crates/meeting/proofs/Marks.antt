@@ -8,12 +8,12 @@ use lib.ListN.{length, getD, drop}
 use Rattle.rules.specs.declared.Axis.{Axis}
 use Rattle.rules.specs.declared.Point.{Point}
 use Rattle.rules.specs.Lattice.{Set, inner}
-use Rattle.rules.specs.Grid.{bytes, marks, isGrid}
+use Rattle.rules.specs.Grid.{bytes, marks, Unsigned, isGrid}
 use Rattle.rules.proofs.Bits.{and-left, and-right, or-cases}
 use Rattle.rules.proofs.Numbers.{marks-inner}
 use Rattle.lattice.specs.declared.level.Level.{Level}
 use Rattle.lattice.specs.Levels.{cellsOf, pointsOf}
-use Rattle.grids.proofs.Ahead.{bytes-are-grid, bytes-have-marks}
+use Rattle.grids.proofs.Ahead.{bytes-are-grid, bytes-have-marks, bytes-unsigned}
 use Rattle.triangles.specs.declared.Triangle.{Triangle}
 use Rattle.triangles.specs.Vectors.{nought}
 use Rattle.triangles.specs.Axes.{axes}
@@ -33,6 +33,11 @@ pub record Unseparated (l : Level) (t : Triangle) (a : Axis) (p : Point) : Type 
 pub marked-length : (l : Level) (t : Triangle) (g : List ℕ) → pointsOf l ≤ length g → length (marked l t g) ≡ length g
 unfolding marked
 marked-length l t g h = written-length (cellsOf l) (added (marks (cellsOf l) g) (met l t)) g h
+
+-- no sign is left
+pub unsigned-after : (l : Level) (t : Triangle) (g : List ℕ) → Unsigned (cellsOf l) (marked l t g)
+unfolding marked
+unsigned-after l t g = bytes-unsigned (cellsOf l) (added (marks (cellsOf l) g) (met l t)) (drop (pointsOf l) g)
 
 -- ---- marking a grid with a triangle in range
 module _ (l : Level) (t : Triangle) (w : TriangleWithin l t) where

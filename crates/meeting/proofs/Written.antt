@@ -1,5 +1,5 @@
 -- A grid with the marks of a set added, byte by byte. Assumes nothing.
-use mathlib.Core.Path.{_≡_, sym, ap, _∙_}
+use mathlib.Core.Path.{_≡_, sym, ap, ap₂, _∙_}
 use mathlib.Core.Bool.{Bool, true, _||_}
 use mathlib.Core.List.{List, _++_}
 use Prim.Native.Nat.{ℕ, _+_, _-_, _≤_, _<_}
@@ -11,12 +11,17 @@ use Rattle.rules.specs.declared.Axis.{Axis}
 use Rattle.rules.specs.declared.Axis.the-variants.{X, Y, Z}
 use Rattle.rules.specs.declared.Point.{Point}
 use Rattle.rules.specs.Lattice.{Set, OfGrid, pointNumber, pointCount, pointOf}
-use Rattle.rules.specs.Grid.{value, byteAt, bytes, has, marks, isGrid}
+use Rattle.rules.specs.Grid.{value, byteAt, bytes, has, marks, Unsigned, isGrid}
 use Rattle.rules.proofs.Numbers.{bytes-length, bytes-at, small-byte, byte-most}
 use Rattle.rules.proofs.PointOf.{number-pointOf, pointOf-grid}
 use Rattle.grids.proofs.Ahead.{byte-ahead}
-use Rattle.grids.proofs.GridFacts.{grid-byte, grid-marks}
-use Rattle.meeting.specs.Met.{added}
+use Rattle.grids.proofs.GridFacts.{unsigned-byte, grid-marks}
+use Rattle.lattice.specs.declared.level.Level.{Level}
+use Rattle.lattice.specs.Levels.{cellsOf}
+use Rattle.grids.specs.Scans.{unsigned}
+use Rattle.grids.proofs.Unsigning.{unsigned-marks, unsigned-rest}
+use Rattle.triangles.specs.declared.Triangle.{Triangle}
+use Rattle.meeting.specs.Met.{added, met, marked}
 use Rattle.meeting.specs.Adding.{Added}
 
 -- what stands in a buffer that holds the bytes of a set, with another's bytes from P on
@@ -39,8 +44,8 @@ module _ (n : ℕ) (E : Set) (g : List ℕ) where
   pub written-rest : drop (pointCount n) (bytes n E ++ drop (pointCount n) g) ≡ drop (pointCount n) g
   written-rest = drop-at (bytes n E) (drop (pointCount n) g) (pointCount n) (bytes-length n E)
 
--- a grid to which the marks of a set were added holds the bytes of both
-module _ (n : ℕ) (E : Set) (g h : List ℕ) (long : pointCount n ≤ length g) (grid : isGrid n g ≡ true) (a : Added n E g h) where
+-- a grid without signs to which the marks of a set were added holds the bytes of both
+module _ (n : ℕ) (E : Set) (g h : List ℕ) (long : pointCount n ≤ length g) (grid : isGrid n g ≡ true) (none : Unsigned n g) (a : Added n E g h) where
   abbrev now : List ℕ
   now = bytes n (added (marks n g) E) ++ drop (pointCount n) g
 
@@ -51,7 +56,7 @@ module _ (n : ℕ) (E : Set) (g h : List ℕ) (long : pointCount n ≤ length g)
   byte-at p o =
       let b = getD h (pointNumber n p) 0 in
       let m = byte-most (marks n g) p in
-      let e = grid-byte n g long grid p o in
+      let e = unsigned-byte n g long grid none p o in
       let f = a .high (pointNumber n p) in
       sym (small-byte b (omega arith))
       ∙ (λ i. value (mark-at X p o i) 1 + (value (mark-at Y p o i) 2 + value (mark-at Z p o i) 4))
@@ -65,3 +70,8 @@ module _ (n : ℕ) (E : Set) (g h : List ℕ) (long : pointCount n ≤ length g)
           ap (λ (k : ℕ). getD h k 0) (sym (number-pointOf n i)) ∙ byte-at (pointOf n i) o ∙ sym (written-at n (added (marks n g) E) g (pointOf n i) o)
           ∙ ap (λ (k : ℕ). getD now k 0) (number-pointOf n i)
       go i (no l) = let q : pointCount n ≤ i = omega arith in a .past i q ∙ sym (written-past n (added (marks n g) E) g i q)
+
+-- what is marked in a grid without its signs is what is marked in it
+pub marked-unsigned : (l : Level) (t : Triangle) (g : List ℕ) → marked l t (unsigned (cellsOf l) g) ≡ marked l t g
+unfolding marked
+marked-unsigned l t g = ap₂ (λ (E : Set) (r : List ℕ). bytes (cellsOf l) (added E (met l t)) ++ r) (unsigned-marks (cellsOf l) g) (unsigned-rest (cellsOf l) g)

@@ -8,14 +8,15 @@ use Rattle.patching.specs.Call.{patchCall}
 unfoldable pub cases : List Case
 cases =
     -- 1: level not 2 to 5
-    patchCall 1 (8 ∷ []) [] .number is 1
-    ∷ patchCall 6 (8 ∷ []) [] .number is 1
+    patchCall 1 (16 ∷ []) [] .number is 1
+    ∷ patchCall 6 (16 ∷ []) [] .number is 1
     -- 2: a grid or a work buffer of 124 bytes
-    ∷ patchCall 2 (8 ∷ zeros 123) (zeros 125) .number is 2
-    ∷ patchCall 2 (lone 0 8) (zeros 124) .number is 2
-    -- 5: a byte 8
-    ∷ patchCall 2 (lone 0 8) (zeros 125) .number is 5
-    -- done, x(2,2,2) marked or none
+    ∷ patchCall 2 (16 ∷ zeros 123) (zeros 125) .number is 2
+    ∷ patchCall 2 (lone 0 16) (zeros 124) .number is 2
+    -- 5: a byte 16
+    ∷ patchCall 2 (lone 0 16) (zeros 125) .number is 5
+    -- done, x(2,2,2) marked or none, and a byte 15, three marks and a sign
     ∷ patchCall 2 (lone 62 1) (zeros 125) .number is 0
+    ∷ patchCall 2 (lone 62 15) (zeros 125) .number is 0
     ∷ patchCall 2 (zeros 125) (zeros 125) .number is 0
     ∷ []

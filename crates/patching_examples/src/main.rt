@@ -174,9 +174,9 @@ fn main() {
     show_refusal(b"level 6", 6, 130, 130, 0);
     show_refusal(b"a grid byte short", 2, 124, 130, 0);
     show_refusal(b"a work byte short", 2, 130, 124, 0);
-    show_refusal(b"short, no grid", 2, 130, 124, 8);
+    show_refusal(b"short, no grid", 2, 130, 124, 16);
     show_refusal(b"level 3, short", 3, 130, 130, 0);
-    show_refusal(b"bytes of 8", 2, 130, 130, 8);
+    show_refusal(b"bytes of 16", 2, 130, 130, 16);
     show_refusal(b"marks on outer edges", 2, 130, 130, 7);
     show_refusal(b"nothing to patch", 2, 125, 125, 0);
 }

@@ -3,13 +3,12 @@ use mathlib.Core.Path.{_≡_, sym, ap, _∙_}
 use mathlib.Core.List.{List}
 use Prim.Native.Nat.{ℕ, _+_, _<_}
 use native.Mathlib.Numerals.{add-one}
-use lib.Dec.{eqb}
 use lib.ListN.{length, getD, set}
 use Rattle.rules.specs.declared.Point.{Point}
 use Rattle.rules.specs.Lists.{each}
 use Rattle.rules.specs.Lattice.{pointCount}
 use Rattle.grids.proofs.Points.{pointsFrom, At}
-use Rattle.rules.specs.Signs.{inside}
+use Rattle.rules.specs.Grid.{saysInside, inside}
 use Rattle.surfacing.proofs.Quads.{each-step}
 use Rattle.text.specs.Text.{Put}
 use Rattle.picture.specs.Picture.{character, lineEnd, pointText}
@@ -17,9 +16,9 @@ use Rattle.text.proofs.Texts.{put-both, put-byte}
 
 -- a point's text, and then that of the points behind it
 pub picture-next : (n : ℕ) (s : List ℕ) (p : ℕ) (q : Point) {b m a : List ℕ} {at k r v : ℕ} → At n p q → p < pointCount n → at < length b
-    → v ≡ character (eqb (getD s p 0) 1) → Put (set b at v) (at + 1) (lineEnd n q) m k
+    → v ≡ character (saysInside (getD s p 0)) → Put (set b at v) (at + 1) (lineEnd n q) m k
     → Put m k (each (pointText n (inside n s)) (pointsFrom n (p + 1))) a r
     → Put b at (each (pointText n (inside n s)) (pointsFrom n p)) a r
 picture-next n s p q {b} {m} {a} {at} {k} {r} {v} w h g e f t =
-    rw (each-step (pointText n (inside n s)) n p q w h, ← e ∙ ap (λ (i : ℕ). character (eqb (getD s i 0) 1)) (sym (w .is)))
+    rw (each-step (pointText n (inside n s)) n p q w h, ← e ∙ ap (λ (i : ℕ). character (saysInside (getD s i 0))) (sym (w .is)))
     (put-both (put-both (put-byte b at v g) f) (rw (add-one p) at t))

@@ -12,10 +12,10 @@ use Rattle.rules.specs.declared.Place.{Place}
 use Rattle.rules.specs.Lists.{parity, anyOf}
 use Rattle.rules.specs.Lattice.{up, OfGrid, Set, isIn, edgeIn, inner, pointCount}
 use Rattle.rules.specs.Cell.{oddFace}
-use Rattle.rules.specs.Grid.{marks, bytes, isGrid}
+use Rattle.rules.specs.Grid.{marks, inside, bytes, Unsigned, isGrid}
 use Rattle.rules.specs.Rims.{boxOf, rims}
 use Rattle.rules.specs.Patch.{patched}
-use Rattle.rules.specs.Signs.{sign, signBytes, inside}
+use Rattle.rules.specs.Signs.{sign, signBytes}
 use Rattle.rules.specs.Condition.{Route, stop, upward, downward}
 use Rattle.rules.proofs.Bits.{differ}
 use Rattle.rules.proofs.Signs.{route-parity}
@@ -23,11 +23,11 @@ use Rattle.rules.proofs.Numbers.{marks-inner, bytes-length}
 use Rattle.rules.proofs.OddList.{even-all}
 use Rattle.rules.proofs.Patched.{patched-inner}
 use Rattle.rules.proofs.Condition.{grid-repaired}
-use Rattle.grids.proofs.Ahead.{bytes-are-grid, bytes-have-marks}
+use Rattle.grids.proofs.Ahead.{bytes-are-grid, bytes-have-marks, bytes-unsigned}
 use Rattle.refusals.specs.Columns.{badLevel}
 use Rattle.patching.specs.Call.{Outcome as Patching, patchCall, patchDone}
 use Rattle.signing.specs.Call.{Outcome as Signing, done, signCall}
-use Rattle.signing.proofs.Only.{sign-inside}
+use Rattle.signing.proofs.Only.{sign-inside, signs-marks}
 use Rattle.promises.specs.Table.{cells, pointsAt}
 use Rattle.promises.specs.Stage.{Stage, promised, Keeps, Condition1, Condition2, Condition3}
 use Rattle.promises.proofs.Numbers.{promised-condition-1}
@@ -41,20 +41,24 @@ route-ends n p q l (downward {p = r} {l = m} a h w) = (h, route-ends n r q m w .
 
 -- ---- a grid without odd faces, at a known level
 module _ (L : ℕ) (good : badLevel L ≡ false) (h : List ℕ) (long : pointsAt L ≤ length h) (grid : isGrid (cells L) h ≡ true)
-    (even : (a : Axis) (p : Point) → oddFace (marks (cells L) h) a p ≡ false) (b : List ℕ) (room : pointsAt L ≤ length b) where
+    (even : (a : Axis) (p : Point) → oddFace (marks (cells L) h) a p ≡ false) where
   -- sign takes it
-  taken : signCall L h b ≡ done (signBytes (cells L) (marks (cells L) h) ++ drop (pointsAt L) b)
-  taken = sign-taken L good h b long room grid (even-all (cells L) (marks (cells L) h) (marks-inner (cells L) h) .1 even)
+  taken : signCall L h ≡ done (signBytes (cells L) (marks (cells L) h) ++ drop (pointsAt L) h)
+  taken = sign-taken L good h long grid (even-all (cells L) (marks (cells L) h) (marks-inner (cells L) h) .1 even)
+
+  -- leaves its marks
+  kept : marks (cells L) (signCall L h .grid) ≡ marks (cells L) h
+  kept = ap (λ (x : Signing). marks (cells L) (x .grid)) taken ∙ signs-marks (cells L) (marks (cells L) h) (marks-inner (cells L) h) (drop (pointsAt L) h)
 
   -- and its bytes say the signs
-  said : (p : Point) → OfGrid (cells L) p → inside (cells L) (signCall L h b .signs) p ≡ sign (marks (cells L) h) p
+  said : (p : Point) → OfGrid (cells L) p → inside (cells L) (signCall L h .grid) p ≡ sign (marks (cells L) h) p
   said p o =
-      ap (λ (x : Signing). inside (cells L) (x .signs) p) taken
-      ∙ sign-inside (cells L) (marks (cells L) h) (drop (pointsAt L) b) p o
+      ap (λ (x : Signing). inside (cells L) (x .grid) p) taken
+      ∙ sign-inside (cells L) (marks (cells L) h) (drop (pointsAt L) h) p o
 
   -- along any route the marks met are odd in number exactly when what is said of its ends differs
   route : (p q : Point) (r : List Place) → Route (cells L) p q r → (parity (isIn (marks (cells L) h)) r ≡ true)
-      ↔ (inside (cells L) (signCall L h b .signs) p ≢ inside (cells L) (signCall L h b .signs) q)
+      ↔ (inside (cells L) (signCall L h .grid) p ≢ inside (cells L) (signCall L h .grid) q)
   route p q r w =
       let E = marks (cells L) h in
       let ends = route-ends (cells L) p q r w in
@@ -65,27 +69,27 @@ module _ (L : ℕ) (good : badLevel L ≡ false) (h : List ℕ) (long : pointsAt
 -- condition 3's parity, of one grid
 pub record Parity (L : ℕ) (h : List ℕ) : Type 0 where
   pub even : (a : Axis) (p : Point) → oddFace (marks (cells L) h) a p ≡ false
-  pub signed : (b : List ℕ) → pointsAt L ≤ length b → signCall L h b .number ≡ 0
-  pub routed : (b : List ℕ) → pointsAt L ≤ length b → (p q : Point) (l : List Place) → Route (cells L) p q l →
+  pub signed : (signCall L h .number ≡ 0) × (marks (cells L) (signCall L h .grid) ≡ marks (cells L) h)
+  pub routed : (p q : Point) (l : List Place) → Route (cells L) p q l →
       (parity (isIn (marks (cells L) h)) l ≡ true)
-      ↔ (inside (cells L) (signCall L h b .signs) p ≢ inside (cells L) (signCall L h b .signs) q)
+      ↔ (inside (cells L) (signCall L h .grid) p ≢ inside (cells L) (signCall L h .grid) q)
 
 -- the bytes of marks on inner edges without odd faces have it, with anything behind them
 pub parity-of : (L : ℕ) → badLevel L ≡ false → (F : Set) → ((a : Axis) (p : Point) → F a p ≡ true → inner (cells L) a p ≡ true) →
     ((a : Axis) (p : Point) → oddFace F a p ≡ false) → (rest : List ℕ) → Parity L (bytes (cells L) F ++ rest)
-parity-of L good F inside even rest =
+parity-of L good F inner-only even rest =
     let n = cells L in
     let h = bytes n F ++ rest in
     let m = bytes-length n F in
     let k = length-append (bytes n F) rest in
     let long : pointsAt L ≤ length h = omega arith in
-    let grid = bytes-are-grid n F inside rest in
+    let grid = bytes-are-grid n F inner-only rest in
     let faces : (a : Axis) (p : Point) → oddFace (marks n h) a p ≡ false =
-    λ a p. ap (λ (E : Set). oddFace E a p) (bytes-have-marks n F inside rest) ∙ even a p in
+    λ a p. ap (λ (E : Set). oddFace E a p) (bytes-have-marks n F inner-only rest) ∙ even a p in
     record {
       even = faces;
-      signed = λ b room. ap (λ (o : Signing). o .number) (taken L good h long grid faces b room);
-      routed = λ b room. route L good h long grid faces b room;
+      signed = (ap (λ (o : Signing). o .number) (taken L good h long grid faces), kept L good h long grid faces);
+      routed = route L good h long grid faces;
     }
 
 -- ---- the promised stage
@@ -98,6 +102,11 @@ marks-left n g w = bytes-have-marks n (patched n (marks n g)) (patched-inner n (
 grid-left : (n : ℕ) (g w : List ℕ) → isGrid n (patchDone n g w .grid) ≡ true
 unfolding patchDone
 grid-left n g w = bytes-are-grid n (patched n (marks n g)) (patched-inner n (marks n g) (marks-inner n g)) (drop (pointCount n) g)
+
+-- without signs
+unsigned-left : (n : ℕ) (g w : List ℕ) → Unsigned n (patchDone n g w .grid)
+unfolding patchDone
+unsigned-left n g w = bytes-unsigned n (patched n (marks n g)) (drop (pointCount n) g)
 
 parity-left : (L : ℕ) → badLevel L ≡ false → (g w : List ℕ) → isGrid (cells L) g ≡ true → Parity L (patchDone (cells L) g w .grid)
 unfolding patchDone
@@ -122,7 +131,7 @@ module _ (L : ℕ) (g w : List ℕ) (e : patchCall L g w .number ≡ 0) where
   left-boxed a p d =
       grid-repaired (cells L) g (patch-done L g w e .grid) .boxed a p (λ q. d (q ∙ ap (λ (E : Set). E a p) (sym left-marks)))
 
--- whatever is lent, patch counts rims and flips and leaves a grid with the patched marks where it is done
+-- whatever is lent, patch counts rims and flips and leaves a grid with the patched marks and no sign where it is done
 pub promised-condition-2 : Condition2 promised
 unfolding patchDone
 promised-condition-2 = record {
@@ -130,6 +139,7 @@ promised-condition-2 = record {
   flipped = λ L g w e. ap (λ (o : Patching). o .flips) (patch-done L g w e .outcome);
   grid = left-grid;
   patched = λ L g w e a p. ap (λ (E : Set). E a p) (left-marks L g w e);
+  unsigned = λ L g w e. subst (λ (o : Patching). Unsigned (cells L) (o .grid)) (sym (patch-done L g w e .outcome)) (unsigned-left (cells L) g w);
 }
 
 -- whatever is lent, what patch leaves where it is done meets condition 3
@@ -148,8 +158,8 @@ keeps-same s k = λ i. record {
   opens = λ L g. k .opens L g i;
   marks = λ L g t. k .marks L g t i;
   patches = λ L g w. k .patches L g w i;
-  signs = λ L g b. k .signs L g b i;
-  surfaces = λ L g b q. k .surfaces L g b q i;
+  signs = λ L g. k .signs L g i;
+  surfaces = λ L g q. k .surfaces L g q i;
 }
 
 pub keeps-condition-1 : (s : Stage) → Keeps s → Condition1 s

@@ -34,8 +34,8 @@ patch-done L g w e =
     }
 
 -- sign takes a grid without odd faces
-pub sign-taken : (L : ℕ) → badLevel L ≡ false → (g b : List ℕ) → pointsAt L ≤ length g → pointsAt L ≤ length b →
+pub sign-taken : (L : ℕ) → badLevel L ≡ false → (g : List ℕ) → pointsAt L ≤ length g →
     isGrid (cells L) g ≡ true → evenFaces (cells L) (marks (cells L) g) ≡ true →
-    signCall L g b ≡ done (signBytes (cells L) (marks (cells L) g) ++ drop (pointsAt L) b)
+    signCall L g ≡ done (signBytes (cells L) (marks (cells L) g) ++ drop (pointsAt L) g)
 unfolding signRows signCall
-sign-taken L good g b long room grid even = rw (good, le-ltb (length g) (pointsAt L) long, le-ltb (length b) (pointsAt L) room, grid, even)
+sign-taken L good g long grid even = rw (good, le-ltb (length g) (pointsAt L) long, grid, even)

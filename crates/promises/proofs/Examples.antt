@@ -22,7 +22,7 @@ use Rattle.marking.specs.Open.{opened, openRows, openCall}
 use Rattle.marking.specs.Mark.{markRows, markCall}
 use Rattle.patching.specs.Call.{patchDone, patchRows, patchCall}
 use Rattle.signing.specs.Call.{signRows, signCall}
-use Rattle.surfacing.specs.Fit.{edgeFits, pointFits, signsFit, smallSigns}
+use Rattle.surfacing.specs.Fit.{edgeFits, pointFits, signsFit}
 use Rattle.surfacing.specs.Listing.{quadCount}
 use Rattle.surfacing.specs.Call.{surfaceDone, surfaceRows, surfaceCall}
 use Rattle.promises.specs.Examples.{run, edges, right, examples, ninth, listing}
@@ -35,7 +35,7 @@ unfolding
     along minus cross dot lesser greater apart units sides normal crossEach crossed axes
     triangleSpan edgeSpan separates noneSeparates edgeMet inRange latticeOf allInRange vertexAt triangleOf placeOf endsOf met marked
     badLevel levelAt opened openRows openCall markRows markCall patchDone patchRows patchCall signRows signCall
-    edgeFits pointFits signsFit smallSigns quadCount surfaceDone surfaceRows surfaceCall
+    edgeFits pointFits signsFit quadCount surfaceDone surfaceRows surfaceCall
 computed = (refl, refl, refl)
 
 -- the single claim: every example of the table is right

@@ -3,6 +3,7 @@ pub mod OneOutcome
 pub mod Done
 pub mod Condition
 pub mod Again
+pub mod Behind
 pub mod TurnedAway
 pub mod Examples
 pub mod Such

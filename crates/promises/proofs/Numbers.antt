@@ -30,24 +30,24 @@ unfolding openCall markCall patchCall patchDone signCall surfaceCall surfaceDone
 first-given L (Open g) = answered-number (λ o. o .number) (Opening.refused g) _ (λ i. refl) refl (openRows L g)
 first-given L (Mark g t) = answered-number (λ o. o .number) (Marking.refused (levelAt L) t g) _ (λ i. refl) refl (markRows L g t)
 first-given L (Patch g w) = answered-number (λ o. o .number) (Patching.refused g w) _ (λ i. refl) refl (patchRows L g w)
-first-given L (Sign g b) = answered-number (λ o. o .number) (Signing.refused b) _ (λ i. refl) refl (signRows L g b)
-first-given L (Surface g b q) = answered-number (λ o. o .number) (Surfacing.refused q) _ (λ i. refl) refl (surfaceRows L g b q)
+first-given L (Sign g) = answered-number (λ o. o .number) (Signing.refused g) _ (λ i. refl) refl (signRows L g)
+first-given L (Surface g q) = answered-number (λ o. o .number) (Surfacing.refused q) _ (λ i. refl) refl (surfaceRows L g q)
 
 -- the numbers of the rows rise for each call but mark, where 24 stands at 4's place
 abbrev pub NotMark : Call → Type 0
 NotMark (Open g) = Unit {0}
 NotMark (Mark g t) = ⊥
 NotMark (Patch g w) = Unit {0}
-NotMark (Sign g b) = Unit {0}
-NotMark (Surface g b q) = Unit {0}
+NotMark (Sign g) = Unit {0}
+NotMark (Surface g q) = Unit {0}
 
 pub rows-rise : (L : ℕ) (c : Call) → NotMark c → rising 0 (table L c) ≡ true
 unfolding openRows markRows patchRows signRows surfaceRows
 rows-rise L (Open g) m = refl
 rows-rise L (Mark g t) m = absurd m
 rows-rise L (Patch g w) m = refl
-rows-rise L (Sign g b) m = refl
-rows-rise L (Surface g b q) m = refl
+rows-rise L (Sign g) m = refl
+rows-rise L (Surface g q) m = refl
 
 -- any other number than 0 is a refusal, which keeps every buffer and returns counts of 0
 pub refusals-keep : (L : ℕ) (c : Call) → numberBy promised L c ≢ 0 → Untouched promised L c
@@ -64,10 +64,10 @@ refusals-keep L (Patch g w) n =
       ap (λ (o : Patching.Outcome). o .grid) e,
       ap (λ (o : Patching.Outcome). o .work) e,
     )
-refusals-keep L (Sign g b) n =
-    ap (λ (o : Signing.Outcome). o .signs) (answered-refused (λ o. o .number) (Signing.refused b) _ (λ i. refl) refl (signRows L g b) n)
-refusals-keep L (Surface g b q) n =
-    let e = answered-refused (λ o. o .number) (Surfacing.refused q) _ (λ i. refl) refl (surfaceRows L g b q) n in
+refusals-keep L (Sign g) n =
+    ap (λ (o : Signing.Outcome). o .grid) (answered-refused (λ o. o .number) (Signing.refused g) _ (λ i. refl) refl (signRows L g) n)
+refusals-keep L (Surface g q) n =
+    let e = answered-refused (λ o. o .number) (Surfacing.refused q) _ (λ i. refl) refl (surfaceRows L g q) n in
     (ap (λ (o : Surfacing.Outcome). o .quads) e, ap (λ (o : Surfacing.Outcome). o .list) e)
 
 -- whatever is lent

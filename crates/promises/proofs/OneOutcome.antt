@@ -88,12 +88,12 @@ pub patch-one : (L : ℕ) (g w : List ℕ) (x y : PatchAnswer × List ℕ × Lis
     patchTold x ≡ Patching.patchCall L g w → patchTold y ≡ Patching.patchCall L g w → x ≡ y
 patch-one L g w = settled patchTold patchRead (λ z. patch-back (z .0) (z .1) (z .2)) (Patching.patchCall L g w)
 
--- ---- sign: the answer and the sign buffer
-pub sign-one : (L : ℕ) (g s : List ℕ) (x y : Answer × List ℕ) →
-    Signing.told (x .0) (x .1) ≡ Signing.signCall L g s → Signing.told (y .0) (y .1) ≡ Signing.signCall L g s → x ≡ y
-sign-one L g s =
-    settled (λ x. Signing.told (x .0) (x .1)) (λ o. (readNumber (o .number) Done Refused, o .signs))
-    (λ x. ap (λ (a : Answer). (a, x .1)) (answer-back (x .0))) (Signing.signCall L g s)
+-- ---- sign: the answer and the grid
+pub sign-one : (L : ℕ) (g : List ℕ) (x y : Answer × List ℕ) →
+    Signing.told (x .0) (x .1) ≡ Signing.signCall L g → Signing.told (y .0) (y .1) ≡ Signing.signCall L g → x ≡ y
+sign-one L g =
+    settled (λ x. Signing.told (x .0) (x .1)) (λ o. (readNumber (o .number) Done Refused, o .grid))
+    (λ x. ap (λ (a : Answer). (a, x .1)) (answer-back (x .0))) (Signing.signCall L g)
 
 -- ---- surface: the answer and the list
 abbrev pub surfaceTold : SurfaceAnswer × List ℕ → Surfacing.Outcome
@@ -107,6 +107,6 @@ unfolding surfaceRead
 surface-back (Surface.Done k) q = refl
 surface-back (Surface.Refused r) q = ap (λ (a : SurfaceAnswer). (a, q)) (read-back (Surface.Done 0) Surface.Refused r)
 
-pub surface-one : (L : ℕ) (g s q : List ℕ) (x y : SurfaceAnswer × List ℕ) →
-    surfaceTold x ≡ Surfacing.surfaceCall L g s q → surfaceTold y ≡ Surfacing.surfaceCall L g s q → x ≡ y
-surface-one L g s q = settled surfaceTold surfaceRead (λ z. surface-back (z .0) (z .1)) (Surfacing.surfaceCall L g s q)
+pub surface-one : (L : ℕ) (g q : List ℕ) (x y : SurfaceAnswer × List ℕ) →
+    surfaceTold x ≡ Surfacing.surfaceCall L g q → surfaceTold y ≡ Surfacing.surfaceCall L g q → x ≡ y
+surface-one L g q = settled surfaceTold surfaceRead (λ z. surface-back (z .0) (z .1)) (Surfacing.surfaceCall L g q)

@@ -54,8 +54,8 @@ unfolding refusing
 refusing-refuses f never L (Open g) = never L (Open g)
 refusing-refuses f never L (Mark g t) = never L (Mark g t)
 refusing-refuses f never L (Patch g w) = never L (Patch g w)
-refusing-refuses f never L (Sign g b) = never L (Sign g b)
-refusing-refuses f never L (Surface g b q) = never L (Surface g b q)
+refusing-refuses f never L (Sign g) = never L (Sign g)
+refusing-refuses f never L (Surface g q) = never L (Surface g q)
 
 -- the wrong grid in the outcome
 abbrev put : (ℕ → List ℕ → Set) → ℕ → List ℕ → Patching.Outcome → Patching.Outcome
@@ -119,8 +119,8 @@ unfolding wiping
 same-number L (Open g) = number-kept (λ o. o .number) (Opening.refused (wiped g)) (λ k. refl) (openCall L g)
 same-number L (Mark g t) = number-kept (λ o. o .number) (Marking.refused (levelAt L) t (wiped g)) (λ k. refl) (markCall L g t)
 same-number L (Patch g w) = number-kept (λ o. o .number) (Patching.refused (wiped g) (wiped w)) (λ k. refl) (patchCall L g w)
-same-number L (Sign g b) = number-kept (λ o. o .number) (Signing.refused (wiped b)) (λ k. refl) (signCall L g b)
-same-number L (Surface g b q) = number-kept (λ o. o .number) (Surfacing.refused (wiped q)) (λ k. refl) (surfaceCall L g b q)
+same-number L (Sign g) = number-kept (λ o. o .number) (Signing.refused (wiped g)) (λ k. refl) (signCall L g)
+same-number L (Surface g q) = number-kept (λ o. o .number) (Surfacing.refused (wiped q)) (λ k. refl) (surfaceCall L g q)
 
 pub wiping-right-numbers : Exactly wiping
 wiping-right-numbers L c k =

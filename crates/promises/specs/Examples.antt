@@ -13,7 +13,6 @@ use Rattle.rules.specs.Lattice as Lattice
 use Rattle.rules.specs.Lattice.{Edge, Set, isIn, setOf, samePoint}
 use Rattle.rules.specs.Grid as Grid
 use Rattle.rules.specs.Rims as Rims
-use Rattle.rules.specs.Signs as Signs
 use Rattle.rules.specs.Examples as Drawn
 use Rattle.marking.specs.Mark as Marking
 use Rattle.marking.specs.Open.{openCall}
@@ -108,8 +107,8 @@ abbrev pub run : Given → Run
 run s =
     let m = begun s in
     let p = Patching.patchCall 2 (m .grid) lent in
-    let b = Signing.signCall 2 (p .grid) lent in
-    record { marking = m; patching = p; signing = b; surfacing = Surfacing.surfaceCall 2 (p .grid) (b .signs) (replicate 384 65535) }
+    let b = Signing.signCall 2 (p .grid) in
+    record { marking = m; patching = p; signing = b; surfacing = Surfacing.surfaceCall 2 (b .grid) (replicate 384 65535) }
 
 -- the two sets have the same edges of the level-2 grid
 abbrev sameEdges : Set → Set → Bool
@@ -123,7 +122,7 @@ holds r (rimFaces k) = allOf (λ l. eqb (length l) k) (Rims.rims 4 (Grid.marks 4
 holds r (flips k) = eqb (r .patching .flips) k
 holds r (marked l) = sameEdges (Grid.marks 4 (r .marking .grid)) (setOf l)
 holds r (result l) = sameEdges (Grid.marks 4 (r .patching .grid)) (setOf l)
-holds r (inside l) = allOf (λ q. Bool·beq (Signs.inside 4 (r .signing .signs) q) (anyOf (samePoint q) l)) (Lattice.points 5)
+holds r (inside l) = allOf (λ q. Bool·beq (Grid.inside 4 (r .signing .grid) q) (anyOf (samePoint q) l)) (Lattice.points 5)
 holds r (quads k) = eqb (r .surfacing .quads) k
 
 -- every call is done, and all that is stated is so

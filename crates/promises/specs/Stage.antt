@@ -3,7 +3,7 @@ use mathlib.Core.Path.{_≡_}
 use mathlib.Core.Bool.{true, false}
 use mathlib.Core.List.{List}
 use mathlib.Core.Logic.{_↔_, _≢_}
-use Prim.Native.Nat.{ℕ, _≤_}
+use Prim.Native.Nat.{ℕ}
 use lib.IntN.{ℤ}
 use lib.ListN.{length}
 use Rattle.rules.specs.declared.Axis.{Axis}
@@ -12,11 +12,10 @@ use Rattle.rules.specs.declared.Place.{Place}
 use Rattle.rules.specs.Lists.{parity, anyOf}
 use Rattle.rules.specs.Lattice.{Set, isIn, edgeIn}
 use Rattle.rules.specs.Cell.{oddFace}
-use Rattle.rules.specs.Grid.{marks, isGrid}
+use Rattle.rules.specs.Grid.{marks, inside, Unsigned, isGrid}
 use Rattle.rules.specs.Rims.{boxOf, rims}
 use Rattle.rules.specs.Patch.{patched, flipCount}
 use Rattle.rules.specs.Condition.{Route}
-use Rattle.rules.specs.Signs.{inside}
 use Rattle.marking.specs.Outcome.{Outcome as Opening}
 use Rattle.marking.specs.Open.{openCall}
 use Rattle.marking.specs.Mark.{Outcome as Marking, markCall}
@@ -24,15 +23,15 @@ use Rattle.patching.specs.Call.{Outcome as Patching, patchCall}
 use Rattle.signing.specs.Call.{Outcome as Signing, signCall}
 use Rattle.surfacing.specs.Call.{Outcome as Surfacing, surfaceCall}
 use Rattle.refusals.specs.Rows.{Given, Lowest, rising}
-use Rattle.promises.specs.Table.{cells, pointsAt, Call, Open, Mark, Patch, Sign, Surface, table}
+use Rattle.promises.specs.Table.{cells, Call, Open, Mark, Patch, Sign, Surface, table}
 
 -- a stage: the outcome of each of the five calls, whatever level and buffers it is lent
 pub record Stage : Type 0 where
   pub opens : ℕ → List ℕ → Opening
   pub marks : ℕ → List ℕ → List ℤ → Marking
   pub patches : ℕ → List ℕ → List ℕ → Patching
-  pub signs : ℕ → List ℕ → List ℕ → Signing
-  pub surfaces : ℕ → List ℕ → List ℕ → List ℕ → Surfacing
+  pub signs : ℕ → List ℕ → Signing
+  pub surfaces : ℕ → List ℕ → List ℕ → Surfacing
 
 -- the stage that is promised
 abbrev pub promised : Stage
@@ -43,16 +42,16 @@ pub record Keeps (s : Stage) : Type 0 where
   pub opens : (L : ℕ) (g : List ℕ) → s .opens L g ≡ openCall L g
   pub marks : (L : ℕ) (g : List ℕ) (t : List ℤ) → s .marks L g t ≡ markCall L g t
   pub patches : (L : ℕ) (g w : List ℕ) → s .patches L g w ≡ patchCall L g w
-  pub signs : (L : ℕ) (g b : List ℕ) → s .signs L g b ≡ signCall L g b
-  pub surfaces : (L : ℕ) (g b q : List ℕ) → s .surfaces L g b q ≡ surfaceCall L g b q
+  pub signs : (L : ℕ) (g : List ℕ) → s .signs L g ≡ signCall L g
+  pub surfaces : (L : ℕ) (g q : List ℕ) → s .surfaces L g q ≡ surfaceCall L g q
 
 -- the number that a stage gives
 abbrev pub numberBy : Stage → ℕ → Call → ℕ
 numberBy s L (Open g) = s .opens L g .number
 numberBy s L (Mark g t) = s .marks L g t .number
 numberBy s L (Patch g w) = s .patches L g w .number
-numberBy s L (Sign g b) = s .signs L g b .number
-numberBy s L (Surface g b q) = s .surfaces L g b q .number
+numberBy s L (Sign g) = s .signs L g .number
+numberBy s L (Surface g q) = s .surfaces L g q .number
 
 -- ---- condition 1
 -- each number is given exactly when its row applies and none before it does; 0 when none applies
@@ -64,8 +63,8 @@ abbrev pub Untouched : Stage → ℕ → Call → Type 0
 Untouched s L (Open g) = s .opens L g .grid ≡ g
 Untouched s L (Mark g t) = s .marks L g t .grid ≡ g
 Untouched s L (Patch g w) = let o = s .patches L g w in (o .rims ≡ 0) × (o .flips ≡ 0) × (o .grid ≡ g) × (o .work ≡ w)
-Untouched s L (Sign g b) = s .signs L g b .signs ≡ b
-Untouched s L (Surface g b q) = let o = s .surfaces L g b q in (o .quads ≡ 0) × (o .list ≡ q)
+Untouched s L (Sign g) = s .signs L g .grid ≡ g
+Untouched s L (Surface g q) = let o = s .surfaces L g q in (o .quads ≡ 0) × (o .list ≡ q)
 
 pub record Condition1 (s : Stage) : Type 0 where
   pub exactly : Exactly s
@@ -83,32 +82,34 @@ Done s L g w = s .patches L g w .number ≡ 0
 abbrev pub marksAfter : Stage → ℕ → List ℕ → List ℕ → Set
 marksAfter s L g w = marks (cells L) (s .patches L g w .grid)
 
--- what sign makes of the grid with the sign buffer b
-abbrev pub signAfter : Stage → ℕ → List ℕ → List ℕ → List ℕ → Signing
-signAfter s L g w b = s .signs L (s .patches L g w .grid) b
+-- what sign makes of the grid
+abbrev pub signAfter : Stage → ℕ → List ℕ → List ℕ → Signing
+signAfter s L g w = s .signs L (s .patches L g w .grid)
 
--- ---- condition 2, of patch: the number of rims and of flips is returned, and the grid is patched: it is a grid, with the patched marks
+-- ---- condition 2, of patch: the number of rims and of flips is returned, and the grid is patched: it is a grid, with the patched marks, and
+-- no sign is set
 pub record Condition2 (s : Stage) : Type 0 where
   pub counted : (L : ℕ) (g w : List ℕ) → Done s L g w → s .patches L g w .rims ≡ length (rims (cells L) (marks (cells L) g))
   pub flipped : (L : ℕ) (g w : List ℕ) → Done s L g w → s .patches L g w .flips ≡ flipCount (cells L) (marks (cells L) g)
   pub grid : (L : ℕ) (g w : List ℕ) → Done s L g w → isGrid (cells L) (s .patches L g w .grid) ≡ true
   pub patched : (L : ℕ) (g w : List ℕ) → Done s L g w → (a : Axis) (p : Point) →
       marksAfter s L g w a p ≡ patched (cells L) (marks (cells L) g) a p
+  pub unsigned : (L : ℕ) (g w : List ℕ) → Done s L g w → Unsigned (cells L) (s .patches L g w .grid)
 
 -- ---- condition 3
 -- every cell face has an even number of marked edges
 abbrev pub Even : Stage → Type 0
 Even s = (L : ℕ) (g w : List ℕ) → Done s L g w → (a : Axis) (p : Point) → oddFace (marksAfter s L g w) a p ≡ false
 
--- sign takes the grid, whatever buffer of at least P bytes it is lent for the signs
+-- sign takes the grid, and leaves its marks
 abbrev pub Signed : Stage → Type 0
-Signed s = (L : ℕ) (g w : List ℕ) → Done s L g w → (b : List ℕ) → pointsAt L ≤ length b → signAfter s L g w b .number ≡ 0
+Signed s = (L : ℕ) (g w : List ℕ) → Done s L g w → (signAfter s L g w .number ≡ 0) × (marks (cells L) (signAfter s L g w .grid) ≡ marksAfter s L g w)
 
 -- along any route between two grid points the marked edges met are odd in number exactly when one of the two is inside and the other is not
 abbrev pub Routed : Stage → Type 0
-Routed s = (L : ℕ) (g w : List ℕ) → Done s L g w → (b : List ℕ) → pointsAt L ≤ length b →
+Routed s = (L : ℕ) (g w : List ℕ) → Done s L g w →
     (p q : Point) (l : List Place) → Route (cells L) p q l → (parity (isIn (marksAfter s L g w)) l ≡ true)
-    ↔ (inside (cells L) (signAfter s L g w b .signs) p ≢ inside (cells L) (signAfter s L g w b .signs) q)
+    ↔ (inside (cells L) (signAfter s L g w .grid) p ≢ inside (cells L) (signAfter s L g w .grid) q)
 
 -- no edge is altered unless all four cells around it lie in the box of one rim of the grid as it came
 abbrev pub Boxed : Stage → Type 0

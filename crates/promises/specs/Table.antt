@@ -19,18 +19,18 @@ cells L = cellsOf (levelAt L)
 abbrev pub pointsAt : ℕ → ℕ
 pointsAt L = pointsOf (levelAt L)
 
--- a call, with what it is lent: a grid; grid and triangle; grid and work buffer; grid and signs; grid, signs and list
+-- a call, with what it is lent: a grid; grid and triangle; grid and work buffer; a grid; grid and list
 pub data Call : Type 0 where
   Open : List ℕ → Call
   Mark : List ℕ → List ℤ → Call
   Patch : List ℕ → List ℕ → Call
-  Sign : List ℕ → List ℕ → Call
-  Surface : List ℕ → List ℕ → List ℕ → Call
+  Sign : List ℕ → Call
+  Surface : List ℕ → List ℕ → Call
 
 -- the rows of a call
 abbrev pub table : ℕ → Call → List Row
 table L (Open g) = openRows L g
 table L (Mark g t) = markRows L g t
 table L (Patch g w) = patchRows L g w
-table L (Sign g b) = signRows L g b
-table L (Surface g b q) = surfaceRows L g b q
+table L (Sign g) = signRows L g
+table L (Surface g q) = surfaceRows L g q

@@ -91,8 +91,8 @@ refusing f = record {
   opens = λ L g. Opening.refused g (f L (Open g));
   marks = λ L g t. Marking.refused (levelAt L) t g (f L (Mark g t));
   patches = λ L g w. Patching.refused g w (f L (Patch g w));
-  signs = λ L g b. Signing.refused b (f L (Sign g b));
-  surfaces = λ L g b q. Surfacing.refused q (f L (Surface g b q));
+  signs = λ L g. Signing.refused g (f L (Sign g));
+  surfaces = λ L g q. Surfacing.refused q (f L (Surface g q));
 }
 
 -- the promised stage, but for what patch does where it is done
@@ -150,6 +150,6 @@ wiping = record {
   opens = λ L g. refusedAs (λ o. o .number) (Opening.refused (wiped g)) (openCall L g);
   marks = λ L g t. refusedAs (λ o. o .number) (Marking.refused (levelAt L) t (wiped g)) (markCall L g t);
   patches = λ L g w. refusedAs (λ o. o .number) (Patching.refused (wiped g) (wiped w)) (patchCall L g w);
-  signs = λ L g b. refusedAs (λ o. o .number) (Signing.refused (wiped b)) (signCall L g b);
-  surfaces = λ L g b q. refusedAs (λ o. o .number) (Surfacing.refused (wiped q)) (surfaceCall L g b q);
+  signs = λ L g. refusedAs (λ o. o .number) (Signing.refused (wiped g)) (signCall L g);
+  surfaces = λ L g q. refusedAs (λ o. o .number) (Surfacing.refused (wiped q)) (surfaceCall L g q);
 }

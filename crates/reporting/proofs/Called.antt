@@ -8,11 +8,11 @@ use lib.ListN.{length, drop}
 use borrow.Author.Tests.{le-ltb}
 use Rattle.rules.specs.declared.Axis.{Axis}
 use Rattle.rules.specs.declared.Point.{Point}
-use Rattle.rules.specs.Lattice.{pointCount, inner}
-use Rattle.rules.specs.Grid.{bytes, marks, isGrid}
+use Rattle.rules.specs.Lattice.{Set, pointCount, inner}
+use Rattle.rules.specs.Grid.{bytes, marks, inside, isGrid}
 use Rattle.rules.specs.Rims.{evenFaces}
 use Rattle.rules.specs.Patch.{patched}
-use Rattle.rules.specs.Signs.{signBytes, inside}
+use Rattle.rules.specs.Signs.{signBytes}
 use Rattle.rules.proofs.Numbers.{marks-inner}
 use Rattle.rules.proofs.Patched.{patched-even, patched-inner}
 use Rattle.rules.proofs.OddList.{even-all}
@@ -22,37 +22,36 @@ use Rattle.grids.proofs.Ahead.{bytes-are-grid, bytes-have-marks}
 use Rattle.refusals.specs.Columns.{badLevel, levelAt}
 use Rattle.patching.specs.Call.{Outcome as Patching, counted, patchRows, patchDone, patchCall}
 use Rattle.signing.specs.Call.{done, signRows, signCall}
-use Rattle.surfacing.specs.Fit.{signBytesFit}
+use Rattle.surfacing.specs.Fit.{signsFit}
 use Rattle.surfacing.specs.Call.{listed, surfaceRows, surfaceCall}
-use Rattle.surfacing.proofs.Misfit.{signs-fit as written-fit}
+use Rattle.signing.proofs.Only.{signs-grid, signs-marks}
+use Rattle.surfacing.proofs.Misfit.{signs-fit}
 use Rattle.feeding.specs.Feed.{Ready}
 use Rattle.feeding.proofs.Marked.{known}
 use Rattle.reporting.specs.Close.{Closed}
 
-module _ (l : Level) (g : List ℕ) (r : Ready l g) where
+module _ (l : Level) (g : List ℕ) (long : pointsOf l ≤ length g) (grid : isGrid (cellsOf l) g ≡ true) where
   good : badLevel (numberOf l) ≡ false
   good = known l .0
 
   level-is : levelAt (numberOf l) ≡ l
   level-is = known l .1
 
-  module _ (w : List ℕ) (long : pointsOf l ≤ length w) where
-    -- ---- patch is done
-    patch-done : patchCall (numberOf l) g w ≡ patchDone (cellsOf l) g w
-    unfolding patchRows patchCall
-    patch-done = rw (level-is, good, le-ltb (length g) (pointsOf l) (r .long), le-ltb (length w) (pointsOf l) long, r .grid)
+  -- ---- patch is done
+  patch-done : (w : List ℕ) → pointsOf l ≤ length w → patchCall (numberOf l) g w ≡ patchDone (cellsOf l) g w
+  unfolding patchRows patchCall
+  patch-done w room = rw (level-is, good, le-ltb (length g) (pointsOf l) long, le-ltb (length w) (pointsOf l) room, grid)
 
-    module _ (even : evenFaces (cellsOf l) (marks (cellsOf l) g) ≡ true) where
-      -- ---- sign is done where no face is odd
-      sign-done : signCall (numberOf l) g w ≡ done (signBytes (cellsOf l) (marks (cellsOf l) g) ++ drop (pointsOf l) w)
-      unfolding signRows signCall
-      sign-done = rw (level-is, good, le-ltb (length g) (pointsOf l) (r .long), le-ltb (length w) (pointsOf l) long, r .grid, even)
+  -- ---- sign is done where no face is odd
+  sign-done : evenFaces (cellsOf l) (marks (cellsOf l) g) ≡ true → signCall (numberOf l) g ≡ done (signBytes (cellsOf l) (marks (cellsOf l) g) ++ drop (pointsOf l) g)
+  unfolding signRows signCall
+  sign-done even = rw (level-is, good, le-ltb (length g) (pointsOf l) long, grid, even)
 
-    -- ---- surface of signs that fit: what is left is the room in the list
-    pub surface-listed : signBytesFit (cellsOf l) (marks (cellsOf l) g) w ≡ true → (q : List ℕ)
-        → surfaceCall (numberOf l) g w q ≡ listed (cellsOf l) (marks (cellsOf l) g) (inside (cellsOf l) w) q
-    unfolding surfaceRows surfaceCall listed
-    surface-listed fit q = rw (level-is, good, le-ltb (length g) (pointsOf l) (r .long), le-ltb (length w) (pointsOf l) long, r .grid, fit)
+  -- ---- surface of signs that fit: what is left is the room in the list
+  pub surface-listed : signsFit (cellsOf l) (marks (cellsOf l) g) (inside (cellsOf l) g) ≡ true → (q : List ℕ)
+      → surfaceCall (numberOf l) g q ≡ listed (cellsOf l) (marks (cellsOf l) g) (inside (cellsOf l) g) q
+  unfolding surfaceRows surfaceCall listed
+  surface-listed fit q = rw (level-is, good, le-ltb (length g) (pointsOf l) long, grid, fit)
 
 -- ---- what patch leaves: a grid with the patched marks, no face of which is odd
 module _ (n : ℕ) (g : List ℕ) where
@@ -80,21 +79,29 @@ module _ (l : Level) (g w : List ℕ) {r f : ℕ} {h v : List ℕ} (e : counted 
   pub patch-left : (isGrid (cellsOf l) h ≡ true) × (evenFaces (cellsOf l) (marks (cellsOf l) h) ≡ true) × (marks (cellsOf l) h ≡ patched (cellsOf l) (marks (cellsOf l) g))
   patch-left = rw is-left (left-grid (cellsOf l) g, left-even (cellsOf l) g, left-marks (cellsOf l) g)
 
--- the signs that sign writes fit, where no face is odd
-pub signs-fit : (n : ℕ) (g rest : List ℕ) {s : List ℕ} → evenFaces n (marks n g) ≡ true → s ≡ signBytes n (marks n g) ++ rest
-    → signBytesFit n (marks n g) s ≡ true
-signs-fit n g rest even e = ap (signBytesFit n (marks n g)) e ∙ written-fit n g even rest
+-- ---- what sign leaves: a grid whose signs fit
+module _ (n : ℕ) (h : List ℕ) (even : evenFaces n (marks n h) ≡ true) where
+  abbrev signed : List ℕ
+  signed = signBytes n (marks n h) ++ drop (pointCount n) h
+
+  signed-grid : isGrid n signed ≡ true
+  signed-grid = signs-grid n (marks n h) (marks-inner n h) (drop (pointCount n) h)
+
+  signed-fits : signsFit n (marks n signed) (inside n signed) ≡ true
+  signed-fits =
+      ap (λ (E : Set). signsFit n E (inside n signed)) (signs-marks n (marks n h) (marks-inner n h) (drop (pointCount n) h))
+      ∙ signs-fit n h even (drop (pointCount n) h)
 
 -- a grid that was patched, and then signed
 pub closing : (l : Level) (g w : List ℕ) {r f : ℕ} {h v s : List ℕ} → Ready l g → pointsOf l ≤ length w → counted r f h v ≡ patchDone (cellsOf l) g w
-    → pointsOf l ≤ length h → pointsOf l ≤ length v → s ≡ signBytes (cellsOf l) (marks (cellsOf l) h) ++ drop (pointsOf l) v → Closed l g w r f h s
-closing l g w {r} {f} {h} {v} {s} k long e h-long v-long d =
+    → pointsOf l ≤ length h → s ≡ signBytes (cellsOf l) (marks (cellsOf l) h) ++ drop (pointsOf l) h → pointsOf l ≤ length s → Closed l g w r f s v
+closing l g w {r} {f} {h} {v} {s} k room e h-long d s-long =
     let p = patch-left l g w e in
-    let i : Ready l h = record { long = h-long; grid = p .0 } in
     record {
-      work = v;
-      is-patch = e ∙ sym (patch-done l g k w long);
-      is-sign = ap done d ∙ sym (sign-done l h i v v-long (p .1));
-      ready = i;
-      fits = signs-fit (cellsOf l) h _ (p .1) d;
+      patched = h;
+      is-patch = e ∙ sym (patch-done l g (k .long) (k .grid) w room);
+      is-sign = ap done d ∙ sym (sign-done l h h-long (p .0) (p .1));
+      long = s-long;
+      grid = rw d (signed-grid (cellsOf l) h (p .1));
+      fits = rw d (signed-fits (cellsOf l) h (p .1));
     }

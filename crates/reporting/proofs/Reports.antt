@@ -10,15 +10,14 @@ use borrow.Author.Tests.{ltb-false}
 use Rattle.rules.specs.declared.Point.{Point}
 use Rattle.rules.specs.Lists.{count}
 use Rattle.rules.specs.Lattice.{Set, points}
-use Rattle.rules.specs.Grid.{marks}
+use Rattle.rules.specs.Grid.{marks, inside}
 use Rattle.lattice.specs.declared.level.Level.{Level}
-use Rattle.lattice.specs.Levels.{numberOf as levelNumber, cellsOf, pointsOf}
+use Rattle.lattice.specs.Levels.{numberOf as levelNumber, cellsOf}
 use Rattle.refusals.specs.declared.Refusal.{Refusal}
 use Rattle.refusals.specs.Reasons.{numberOf}
 use Rattle.refusals.proofs.Reasons.{refusal-some}
 use Rattle.patching.specs.Call.{Outcome as Patching, counted}
 use Rattle.signing.specs.Call.{Outcome as Signing, done}
-use Rattle.rules.specs.Signs.{inside}
 use Rattle.surfacing.specs.declared.SurfaceAnswer.{SurfaceAnswer}
 use Rattle.surfacing.specs.declared.SurfaceAnswer.the-variants.{Done, Refused}
 use Rattle.surfacing.specs.Call.{Outcome, told, refused, surfaceDone, listed, surfaceCall}
@@ -45,33 +44,33 @@ listed-room n E s l l′ q e = go (ltb (length l) (4 * quadCount n E)) refl (ap 
     go true f z k = absurd (omega arith)
     go false f z k = omega (arith, ltb-false (length l) (4 * quadCount n E) f)
 
-module _ (l : Level) (g : List ℕ) {rims flips : ℕ} {h s : List ℕ} (k : Closed l g lentBytes rims flips h s) where
+module _ (l : Level) (g : List ℕ) {rims flips : ℕ} {h v : List ℕ} (k : Closed l g lentBytes rims flips h v) where
   abbrev n : ℕ
   n = cellsOf l
 
   -- patch and sign are done, and what comes next is printed
-  pub closed-is : (next : Patching → Signing → List ℕ) → closed (levelNumber l) g next ≡ next (counted rims flips h (k .work)) (done s)
+  pub closed-is : (next : Patching → Signing → List ℕ) → closed (levelNumber l) g next ≡ next (counted rims flips (k .patched) v) (done h)
   unfolding closed
   closed-is next = rw (sym (k .is-patch), sym (k .is-sign))
 
   -- the layers
-  pub picture-is : picture n (inside n s) ≡ closed (levelNumber l) g (layered (levelNumber l))
+  pub picture-is : picture n (inside n h) ≡ closed (levelNumber l) g (layered (levelNumber l))
   unfolding layered
   picture-is = rw (closed-is (layered (levelNumber l)), known l .1)
 
-  module _ (t : ℕ) (long : pointsOf l ≤ length s) (list′ : List ℕ) where
-    surface-is : (a : SurfaceAnswer) → told a list′ ≡ listed n (marks n h) (inside n s) lentList → told a list′ ≡ surfaceCall (levelNumber l) h s lentList
-    surface-is a e = e ∙ sym (surface-listed l h (k .ready) s long (k .fits) lentList)
+  module _ (t : ℕ) (list′ : List ℕ) where
+    surface-is : (a : SurfaceAnswer) → told a list′ ≡ listed n (marks n h) (inside n h) lentList → told a list′ ≡ surfaceCall (levelNumber l) h lentList
+    surface-is a e = e ∙ sym (surface-listed l h (k .long) (k .grid) (k .fits) lentList)
 
     -- a surface that is refused
-    pub refused-is : (r : Refusal) → told (Refused r) list′ ≡ listed n (marks n h) (inside n s) lentList
+    pub refused-is : (r : Refusal) → told (Refused r) list′ ≡ listed n (marks n h) (inside n h) lentList
         → refusedLine (numberOf r) ≡ closed (levelNumber l) g (surfaced (levelNumber l) t)
     unfolding surfaced
     refused-is r e =
         rw (closed-is (surfaced (levelNumber l) t), sym (surface-is (Refused r) e)) (sym (unless-some (numberOf r) _ (refusal-some r)))
 
     -- one that is listed
-    pub listing-is : (q i : ℕ) → told (Done q) list′ ≡ listed n (marks n h) (inside n s) lentList → i ≡ count (inside n s) (points (suc n))
+    pub listing-is : (q i : ℕ) → told (Done q) list′ ≡ listed n (marks n h) (inside n h) lentList → i ≡ count (inside n h) (points (suc n))
         → listing (record { level = levelNumber l; triangles = t; rims = rims; flips = flips; inside = i; quads = q }) list′
         ≡ closed (levelNumber l) g (surfaced (levelNumber l) t)
     unfolding surfaced

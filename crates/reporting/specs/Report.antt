@@ -4,11 +4,11 @@ use Prim.Native.Nat.{ℕ, zero, suc}
 use lib.ListN.{replicate}
 use Rattle.rules.specs.Lists.{count}
 use Rattle.rules.specs.Lattice.{points}
+use Rattle.rules.specs.Grid.{inside}
 use Rattle.lattice.specs.Levels.{cellsOf}
 use Rattle.refusals.specs.Columns.{levelAt}
 use Rattle.patching.specs.Call.{Outcome as Patching, patchCall}
 use Rattle.signing.specs.Call.{Outcome as Signing, signCall}
-use Rattle.rules.specs.Signs.{inside}
 use Rattle.surfacing.specs.Call.{Outcome as Surfacing, surfaceCall}
 use Rattle.text.specs.declared.listing.Repaired.{Repaired}
 use Rattle.text.specs.Listing.{refusedLine, listing}
@@ -26,11 +26,11 @@ abbrev pub unless : ℕ → List ℕ → List ℕ
 unless zero next = next
 unless (suc k) next = refusedLine (suc k)
 
--- patch, then sign, and then what comes next: the bytes that are lent to patch as work bytes are lent to sign for the signs
+-- patch, then sign, and then what comes next
 unfoldable pub closed : ℕ → List ℕ → (Patching → Signing → List ℕ) → List ℕ
 closed level g next =
     let p = patchCall level g lentBytes in
-    let b = signCall level (p .grid) (p .work) in
+    let b = signCall level (p .grid) in
     unless (p .number) (unless (b .number) (next p b))
 
 -- level and triangle count; rims, flips, inside points, quads
@@ -42,16 +42,16 @@ countsOf level t p b q =
       triangles = t;
       rims = p .rims;
       flips = p .flips;
-      inside = count (inside n (b .signs)) (points (suc n));
+      inside = count (inside n (b .grid)) (points (suc n));
       quads = q .quads;
     }
 
 -- surface, and the listing
 unfoldable pub surfaced : ℕ → ℕ → Patching → Signing → List ℕ
 surfaced level t p b =
-    let q = surfaceCall level (p .grid) (b .signs) lentList in
+    let q = surfaceCall level (b .grid) lentList in
     unless (q .number) (listing (countsOf level t p b q) (q .list))
 
 -- the layers of points
 unfoldable pub layered : ℕ → Patching → Signing → List ℕ
-layered level p b = let n = cellsOf (levelAt level) in picture n (inside n (b .signs))
+layered level p b = let n = cellsOf (levelAt level) in picture n (inside n (b .grid))

@@ -19,14 +19,14 @@ ghost use Rattle.feeding.specs.Feed.{Ready};
 ghost use Rattle.reporting.specs.Report.{lentBytes, lentList, closed, surfaced, layered};
 ghost use Rattle.reporting.specs.Close.{Closed};
 
-// Patches a grid and gives its points their signs. The second buffer serves as work bytes first, and holds the signs then.
-fn close_grid(l: Level, grid: &mut [u8], second: &mut [u8]) -> Counts
-    requires { ⌜ Ready l (now grid) × (pointsOf l ≤ length (now second)) ⌝ }
-    ensures { λ r. ⌜ Closed l (now (grid .entry)) (now (second .entry)) (r .rims) (r .flips) (now (grid .exit)) (now (second .exit)) ⌝ }
+// Patches a grid and gives its points their signs.
+fn close_grid(l: Level, grid: &mut [u8], work: &mut [u8]) -> Counts
+    requires { ⌜ Ready l (now grid) × (pointsOf l ≤ length (now work)) ⌝ }
+    ensures { λ r. ⌜ Closed l (now (grid .entry)) (now (work .entry)) (r .rims) (r .flips) (now (grid .exit)) (now (work .exit)) ⌝ }
 {
     let n = l.cells();
-    let counts = patch_grid(n, grid, second);
-    sign_grid(n, grid, second);
+    let counts = patch_grid(n, grid, work);
+    sign_grid(n, grid);
     counts
 }
 
@@ -37,22 +37,22 @@ pub fn report(
     l: Level,
     triangles: u32,
     grid: &mut [u8],
-    second: &mut [u8],
+    work: &mut [u8],
     list: &mut [u16],
     out: &mut [u8],
 ) -> usize
-    requires { ⌜ (level ≡ numberOf l) × Ready l (now grid) × (now second ≡ lentBytes) × (now list ≡ lentList) × (213098 ≤ length (now out)) ⌝ }
+    requires { ⌜ (level ≡ numberOf l) × Ready l (now grid) × (now work ≡ lentBytes) × (now list ≡ lentList) × (213098 ≤ length (now out)) ⌝ }
     ensures { λ r. ⌜ Put (now (out .entry)) 0 (closed level (now (grid .entry)) (surfaced level triangles)) (now (out .exit)) r × (r ≤ length (now (out .exit))) ⌝ }
 {
-    let counts = close_grid(l, grid, second);
-    match list_quads(l.cells(), grid, second, list) {
+    let counts = close_grid(l, grid, work);
+    match list_quads(l.cells(), grid, list) {
         SurfaceAnswer::Done { quads } => {
             let done = Repaired {
                 level: level,
                 triangles: triangles,
                 rims: counts.rims,
                 flips: counts.flips,
-                inside: count_inside(l, second),
+                inside: count_inside(l, grid),
                 quads: quads,
             };
             put_listing(out, done, list)
@@ -62,10 +62,10 @@ pub fn report(
 }
 
 // Closes a grid and puts the picture of its layers; answers its length.
-pub fn show(l: Level, grid: &mut [u8], second: &mut [u8], out: &mut [u8]) -> usize
-    requires { ⌜ Ready l (now grid) × (now second ≡ lentBytes) × (107811 ≤ length (now out)) ⌝ }
+pub fn show(l: Level, grid: &mut [u8], work: &mut [u8], out: &mut [u8]) -> usize
+    requires { ⌜ Ready l (now grid) × (now work ≡ lentBytes) × (107811 ≤ length (now out)) ⌝ }
     ensures { λ r. ⌜ Put (now (out .entry)) 0 (closed (numberOf l) (now (grid .entry)) (layered (numberOf l))) (now (out .exit)) r × (r ≤ length (now (out .exit))) ⌝ }
 {
-    close_grid(l, grid, second);
-    put_picture(out, l.cells(), second)
+    close_grid(l, grid, work);
+    put_picture(out, l.cells(), grid)
 }

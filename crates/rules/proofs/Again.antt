@@ -28,11 +28,11 @@ inner-point n a p e =
     let k = inBox→ (whole n) (not (sameAxis a X)) (not (sameAxis a Y)) (not (sameAxis a Z)) p e in
     record { i = omega arith; j = omega arith; k = omega arith }
 
--- ---- a buffer without a byte above 7 that holds marks on inner edges
+-- ---- a buffer without a byte above 15 that holds marks on inner edges
 module _ (n : ℕ) (E : Set) (inside : (a : Axis) (p : Point) → E a p ≡ true → inner n a p ≡ true) (h : List ℕ)
-    (small : (p : Point) → OfGrid n p → getD h (pointNumber n p) 0 ≤ 7) (holds : (a : Axis) (p : Point) → OfGrid n p → stored n h a p ≡ E a p) where
+    (small : (p : Point) → OfGrid n p → getD h (pointNumber n p) 0 ≤ 15) (holds : (a : Axis) (p : Point) → OfGrid n p → stored n h a p ≡ E a p) where
   good-byte : (p : Point) → OfGrid n p → goodByte n h p ≡ true
-  good-byte p o = both _ _ (leb-yes _ 7 (small p o)) (both _ _ (marked X) (both _ _ (marked Y) (marked Z)))
+  good-byte p o = both _ _ (leb-yes _ 15 (small p o)) (both _ _ (marked X) (both _ _ (marked Y) (marked Z)))
     where
       marked : (a : Axis) → not (stored n h a p) || inner n a p ≡ true
       marked a = imp← (stored n h a p) (inner n a p) (λ e. inside a p (sym (holds a p o) ∙ e))
@@ -52,7 +52,7 @@ module _ (n : ℕ) (E : Set) (inside : (a : Axis) (p : Point) → E a p ≡ true
       go a p false e = sym (is-false (E a p) (λ t. true≢false (sym (inside a p t) ∙ e)))
 
 module _ (n : ℕ) (E : Set) (inside : (a : Axis) (p : Point) → E a p ≡ true → inner n a p ≡ true) where
-  bytes-small : (p : Point) → OfGrid n p → getD (bytes n E) (pointNumber n p) 0 ≤ 7
+  bytes-small : (p : Point) → OfGrid n p → getD (bytes n E) (pointNumber n p) 0 ≤ 15
   bytes-small p o = let e = bytes-at n E p (o .i) (o .j) (o .k) in let m = byte-most E p in omega arith
 
   bytes-hold : (a : Axis) (p : Point) → OfGrid n p → stored n (bytes n E) a p ≡ E a p

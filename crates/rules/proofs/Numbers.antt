@@ -10,8 +10,8 @@ use lib.ListN.{List·getD-append, getD, length, length-append, length-map, lengt
 use lib.Seq.{ext-getD, getD-append-add, getD-take}
 use Rattle.rules.specs.Lists.{allOf, each, upto}
 use Rattle.rules.specs.Lattice.{pointNumber, pointCount, points, Set, edgeIn, whole, inner, Axis, X, Y, Z, Point}
-use Rattle.rules.specs.Grid.{value, byteAt, bytes, has, marks, goodByte, isGrid}
-use Rattle.rules.proofs.Bits.{and-left, and-right, leb→}
+use Rattle.rules.specs.Grid.{value, byteAt, bytes, has, saysInside, signedByte, marks, goodByte, isGrid}
+use Rattle.rules.proofs.Bits.{and-left, and-right, eqb-no}
 use Rattle.rules.proofs.Lists.{each-map, map-each}
 
 length-upto : (i k : ℕ) → length (upto i k) ≡ k
@@ -157,6 +157,27 @@ zero-has X = refl
 zero-has Y = refl
 zero-has Z = refl
 
+-- a byte up to 7 says outside
+pub low-says : (b : ℕ) → b ≤ 7 → saysInside b ≡ false
+low-says b h = eqb-no (b / 8 % 2) 1 (λ (q : b / 8 % 2 ≡ 1). let z : ⊥ = omega arith in z)
+
+-- ---- a byte of marks and a sign
+module _ (E : Set) (s : Point → Bool) (p : Point) where
+  pub signed-most : signedByte E s p ≤ 15
+  signed-most = let m = byte-most E p in let v = value-most (s p) 8 in omega arith
+
+  pub signed-has : (a : Axis) → has a (signedByte E s p) ≡ E a p
+  signed-has a =
+      let v = value-cases (s p) 8 in
+      ap (has a) (let e : signedByte E s p ≡ byteAt E p + 8 * value (s p) 1 = omega arith in e)
+      ∙ has-high a (byteAt E p) (value (s p) 1) ∙ has-bit a (E X p) (E Y p) (E Z p) ∙ three-of a E p
+
+  pub signed-says : saysInside (signedByte E s p) ≡ s p
+  signed-says =
+      let v = value-cases (s p) 8 in
+      let m = byte-most E p in
+      ap (λ (k : ℕ). eqb k 1) (let e : signedByte E s p / 8 % 2 ≡ value (s p) 1 = omega arith in e) ∙ value-bit (s p)
+
 -- only inner edges are marked
 pub marks-inner : (n : ℕ) (g : List ℕ) (a : Axis) (p : Point) → marks n g a p ≡ true → inner n a p ≡ true
 unfolding marks
@@ -221,24 +242,24 @@ imp→ true y e = ap (λ (b : Bool). b && true) e
 imp→ false true e = refl
 imp→ false false e = refl
 
-good→ : (n : ℕ) (g : List ℕ) (p : Point) → goodByte n g p ≡ true → byteAt (marks n g) p ≡ getD g (pointNumber n p) 0
+good→ : (n : ℕ) (g : List ℕ) (p : Point) → goodByte n g p ≡ true → byteAt (marks n g) p ≡ getD g (pointNumber n p) 0 % 8
 unfolding marks
 good→ n g p e = go (getD g (pointNumber n p) 0) e
   where
     go : (b : ℕ) →
-        leb b 7 && ((not (has X b) || edgeIn (whole n) X p) &&
+        leb b 15 && ((not (has X b) || edgeIn (whole n) X p) &&
         ((not (has Y b) || edgeIn (whole n) Y p) && (not (has Z b) || edgeIn (whole n) Z p))) ≡ true →
         value (edgeIn (whole n) X p && has X b) 1 + (value (edgeIn (whole n) Y p && has Y b) 2 + value (edgeIn (whole n) Z p && has Z b) 4)
-        ≡ b
+        ≡ b % 8
     go b h =
-        let r = and-right (leb b 7) _ h in
+        let r = and-right (leb b 15) _ h in
         let x = imp→ (has X b) (edgeIn (whole n) X p) (and-left (not (has X b) || edgeIn (whole n) X p) _ r) in
         let r₂ = and-right (not (has X b) || edgeIn (whole n) X p) _ r in
         let y = imp→ (has Y b) (edgeIn (whole n) Y p)
         (and-left (not (has Y b) || edgeIn (whole n) Y p) (not (has Z b) || edgeIn (whole n) Z p) r₂) in
         let z = imp→ (has Z b) (edgeIn (whole n) Z p)
         (and-right (not (has Y b) || edgeIn (whole n) Y p) (not (has Z b) || edgeIn (whole n) Z p) r₂) in
-        rw (x, y, z) (small-byte b (leb→ b 7 (and-left (leb b 7) _ h)))
+        rw (x, y, z, ← has-low X b, ← has-low Y b, ← has-low Z b) (small-byte (b % 8) (omega arith))
 
 module _ {A : Type 0} where
   map-where : {B : Type 0} (w : A → Bool) (f g : A → B) → ((x : A) → w x ≡ true → f x ≡ g x) → (l : List A) → allOf w l ≡ true →
@@ -254,11 +275,12 @@ take-upto g k h = ext-getD 0 _ _
     getD-map< (λ j. getD g j 0) (upto 0 k) i 0 0 (omega arith) ∙ ap (λ j. getD g j 0) (getD-upto 0 k i 0 (omega arith) ∙ zero-add i)
     ∙ sym (getD-take k g i 0 (omega arith)))
 
--- what is read from a grid is written back
-pub bytes-marks : (n : ℕ) (g : List ℕ) → pointCount n ≤ length g → isGrid n g ≡ true → bytes n (marks n g) ≡ take (pointCount n) g
+-- what is read from a grid is written back, without the signs
+pub bytes-marks : (n : ℕ) (g : List ℕ) → pointCount n ≤ length g → isGrid n g ≡ true → bytes n (marks n g) ≡ map (λ b. b % 8) (take (pointCount n) g)
 unfolding bytes isGrid
 bytes-marks n g h e =
-    map-where (goodByte n g) (byteAt (marks n g)) (λ p. getD g (pointNumber n p) 0) (good→ n g) (points (suc n)) e
-    ∙ sym (map-map (λ i. getD g i 0) (pointNumber n) (points (suc n)))
-    ∙ ap (map (λ i. getD g i 0)) (rising n)
-    ∙ take-upto g (pointCount n) h
+    map-where (goodByte n g) (byteAt (marks n g)) (λ p. getD g (pointNumber n p) 0 % 8) (good→ n g) (points (suc n)) e
+    ∙ sym (map-map (λ i. getD g i 0 % 8) (pointNumber n) (points (suc n)))
+    ∙ ap (map (λ i. getD g i 0 % 8)) (rising n)
+    ∙ sym (map-map (λ b. b % 8) (λ i. getD g i 0) (upto 0 (pointCount n)))
+    ∙ ap (map (λ b. b % 8)) (take-upto g (pointCount n) h)

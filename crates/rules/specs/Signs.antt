@@ -3,11 +3,9 @@ use mathlib.Core.Path.{_≡_}
 use mathlib.Core.Bool.{Bool, false}
 use mathlib.Core.List.{List, map}
 use Prim.Native.Nat.{ℕ, suc}
-use lib.Dec.{eqb}
-use lib.ListN.{getD}
 use Rattle.rules.specs.Lists.{_⊕_, parityTo}
-use Rattle.rules.specs.Lattice.{Axis, X, Y, Z, Point, up, origin, OfGrid, points, pointNumber, Set}
-use Rattle.rules.specs.Grid.{value}
+use Rattle.rules.specs.Lattice.{Axis, X, Y, Z, Point, up, origin, OfGrid, points, Set}
+use Rattle.rules.specs.Grid.{signedByte}
 
 -- inside: an odd number of marks on the way from (0,0,0), which is outside, along x, then y, then z
 abbrev pub sign : Set → Point → Bool
@@ -21,14 +19,6 @@ pub record Consistent (n : ℕ) (E : Set) (s : Point → Bool) : Type 0 where
   pub outside : s origin ≡ false
   pub differ : (a : Axis) (p : Point) → OfGrid n (up a p) → s p ⊕ s (up a p) ≡ E a p
 
--- signs are one byte a point, 0 outside and 1 inside
+-- the bytes of the points, by rising number, with their signs
 unfoldable pub signBytes : ℕ → Set → List ℕ
-signBytes n E = map (λ p. value (sign E p) 1) (points (suc n))
-
--- the byte says inside
-abbrev pub saysInside : ℕ → Bool
-saysInside b = eqb b 1
-
--- the points that a buffer has inside
-abbrev pub inside : ℕ → List ℕ → Point → Bool
-inside n s p = saysInside (getD s (pointNumber n p) 0)
+signBytes n E = map (signedByte E (sign E)) (points (suc n))

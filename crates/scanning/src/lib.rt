@@ -13,7 +13,7 @@ ghost use mathlib.Core.Bool.{true};
 ghost use Prim.Native.Nat.{_+_, _≤_};
 ghost use lib.ListN.{length};
 ghost use Rattle.rules.specs.Lattice.{OfGrid};
-ghost use Rattle.rules.specs.Grid.{isGrid};
+ghost use Rattle.rules.specs.Grid.{isGrid, Unsigned};
 ghost use Rattle.lattice.specs.Levels.{cellsOf, pointsOf};
 ghost use Rattle.triangles.specs.Meets.{Inside};
 ghost use Rattle.meeting.specs.Within.{TriangleWithin};
@@ -84,10 +84,10 @@ fn mark_box(l: Level, grid: &mut [u8], t: Triangle, b: Box)
     }
 }
 
-// Adds the marks of the edges that a triangle meets to a buffer that is known to be a grid.
+// Adds the marks of the edges that a triangle meets to a buffer that is known to be a grid without signs.
 pub fn mark_grid(l: Level, grid: &mut [u8], t: Triangle)
     requires { ⌜ TriangleWithin l t ⌝ }
-    requires { ⌜ (pointsOf l ≤ length (now grid)) × (isGrid (cellsOf l) (now grid) ≡ true) ⌝ }
+    requires { ⌜ (pointsOf l ≤ length (now grid)) × (isGrid (cellsOf l) (now grid) ≡ true) × Unsigned (cellsOf l) (now grid) ⌝ }
     ensures { λ _. ⌜ now (grid .exit) ≡ marked l t (now (grid .entry)) ⌝ }
 {
     let b = box_of(l, t);

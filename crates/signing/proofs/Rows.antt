@@ -11,7 +11,7 @@ use lib.ListN.{length, getD, length-map}
 use Rattle.rules.specs.declared.Axis.the-variants.{X}
 use Rattle.rules.specs.Lists.{_⊕_, upto}
 use Rattle.rules.specs.Lattice.{up, pointNumber, pointCount, pointOf, OfGrid, points, Set, whole, origin}
-use Rattle.rules.specs.Grid.{value, has, marks, isGrid}
+use Rattle.rules.specs.Grid.{signedByte, has, marks, isGrid}
 use Rattle.rules.specs.Rims.{evenFaces}
 use Rattle.rules.specs.Signs.{sign, signBytes}
 use Rattle.rules.proofs.Bits.{is-false, ⊕-cancel}
@@ -23,13 +23,13 @@ use Rattle.rules.proofs.Consistent.{grid-outer}
 use Rattle.rules.proofs.OddList.{even-all}
 use Rattle.grids.proofs.GridFacts.{grid-marks}
 
--- the sign byte of a point, by its number
+-- the byte of a point, by its number
 abbrev pub signOf : ℕ → Set → ℕ → ℕ
-signOf n E p = value (sign E (pointOf n p)) 1
+signOf n E p = signedByte E (sign E) (pointOf n p)
 
 pub signs-by-number : (n : ℕ) (E : Set) → signBytes n E ≡ map (signOf n E) (upto 0 (pointCount n))
 unfolding signBytes
-signs-by-number n E = over-points n (map (λ p. value (sign E p) 1)) (map (signOf n E)) (map-map _ (pointOf n))
+signs-by-number n E = over-points n (map (signedByte E (sign E))) (map (signOf n E)) (map-map _ (pointOf n))
 
 pub signs-length : (n : ℕ) (E : Set) → length (signBytes n E) ≡ pointCount n
 unfolding signBytes

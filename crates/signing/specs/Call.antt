@@ -1,4 +1,4 @@
--- The call sign: what it answers and leaves in the sign buffer. Assumes nothing.
+-- The call sign: what it answers and leaves in the grid buffer. Assumes nothing.
 use mathlib.Core.Bool.{not}
 use mathlib.Core.List.{List, [], _∷_, _++_}
 use Prim.Native.Nat.{ℕ}
@@ -12,36 +12,36 @@ use Rattle.refusals.specs.declared.Answer.{Answer}
 use Rattle.refusals.specs.Reasons.{answerNumber}
 use Rattle.refusals.specs.Columns.{badLevel, levelAt, someShort}
 
--- what a caller has of the call: the number, and the sign buffer afterwards
+-- what a caller has of the call: the number, and the grid buffer afterwards
 pub record Outcome : Type 0 where
   pub number : ℕ
-  pub signs : List ℕ
+  pub grid : List ℕ
 
 -- 0: done
 abbrev pub done : List ℕ → Outcome
-done s = record { number = 0; signs = s }
+done g = record { number = 0; grid = g }
 
 -- a refusal changes no buffer
 abbrev pub refused : List ℕ → ℕ → Outcome
-refused s k = record { number = k; signs = s }
+refused g k = record { number = k; grid = g }
 
 -- the paper's number for each answer
 abbrev pub told : Answer → List ℕ → Outcome
-told r s = record { number = answerNumber r; signs = s }
+told r g = record { number = answerNumber r; grid = g }
 
 -- when it is refused, in the order judged
-unfoldable pub signRows : ℕ → List ℕ → List ℕ → List Row
-signRows level g s =
+unfoldable pub signRows : ℕ → List ℕ → List Row
+signRows level g =
     let l = levelAt level in
     let n = cellsOf l in
     1 when badLevel level
-    ∷ 2 when someShort (pointsOf l) (g ∷ s ∷ [])
+    ∷ 2 when someShort (pointsOf l) (g ∷ [])
     ∷ 5 when not (isGrid n g)
     ∷ 6 when not (evenFaces n (marks n g))
     ∷ []
 
--- sign (level, grid, signs): the P sign bytes are the signs, and bytes from P on are not changed
-unfoldable pub signCall : ℕ → List ℕ → List ℕ → Outcome
-signCall level g s =
+-- sign (level, grid): writes the signs of the P points and leaves the marks; bytes from P on are not changed
+unfoldable pub signCall : ℕ → List ℕ → Outcome
+signCall level g =
     let l = levelAt level in
-    answered (signRows level g s) (refused s) (done (signBytes (cellsOf l) (marks (cellsOf l) g) ++ drop (pointsOf l) s))
+    answered (signRows level g) (refused g) (done (signBytes (cellsOf l) (marks (cellsOf l) g) ++ drop (pointsOf l) g))

@@ -2,6 +2,7 @@
 use grids::all_even;
 use grids::is_grid;
 use lattice::byte::bit;
+use lattice::byte::with_sign;
 use lattice::level::Level;
 use lattice::level::LevelRead;
 use lattice::level::point_count;
@@ -16,27 +17,10 @@ ghost use lib.ListN.{length, drop};
 ghost use Rattle.rules.specs.Lists.{_⊕_};
 ghost use Rattle.rules.specs.declared.Axis.the-variants.{X};
 ghost use Rattle.rules.specs.Lattice.{pointCount};
-ghost use Rattle.rules.specs.Grid.{value, has, marks, isGrid};
+ghost use Rattle.rules.specs.Grid.{has, marks, isGrid};
 ghost use Rattle.rules.specs.Rims.{evenFaces};
-ghost use Rattle.rules.specs.Signs.{signBytes, saysInside};
+ghost use Rattle.rules.specs.Signs.{signBytes};
 ghost use Rattle.signing.specs.Call.{told, signCall};
-
-// The sign byte of a point: 0 outside, 1 inside.
-fn sign_byte(inside: bool) -> u8
-    ensures { λ r. ⌜ r ≡ value inside 1 ⌝ }
-{
-    if inside {
-        return 1;
-    }
-    0
-}
-
-// Whether a sign byte says inside.
-pub fn is_inside(b: u8) -> bool
-    ensures { λ r. ⌜ r ≡ saysInside b ⌝ }
-{
-    b == 1
-}
 
 // Answers whether the far end of an x edge is inside, b being the byte of its near end.
 fn across(inside: bool, b: u8) -> bool
@@ -45,26 +29,28 @@ fn across(inside: bool, b: u8) -> bool
     inside != bit(b, Axis::X)
 }
 
-// Writes the signs of a grid that has no odd face. A grid has no mark on its outside: each row of points along x begins and ends
-// outside, so that one run over the x marks of all rows, one behind another, meets every sign.
-pub fn sign_grid(n: usize, grid: &[u8], signs: &mut [u8])
-    requires { ⌜ (n ≤ 32) × (pointCount n ≤ length (now grid)) × (pointCount n ≤ length (now signs)) ⌝ }
+// Writes the signs of a grid that has no odd face, and leaves its marks. A grid has no mark on its outside: each row of points along x
+// begins and ends outside, so that one run over the x marks of all rows, one behind another, meets every sign.
+pub fn sign_grid(n: usize, grid: &mut [u8])
+    requires { ⌜ (n ≤ 32) × (pointCount n ≤ length (now grid)) ⌝ }
     requires { ⌜ (isGrid n (now grid) ≡ true) × (evenFaces n (marks n (now grid)) ≡ true) ⌝ }
-    ensures { λ _. ⌜ now (signs .exit) ≡ signBytes n (marks n (now (grid .entry))) ++ drop (pointCount n) (now (signs .entry)) ⌝ }
+    ensures { λ _. ⌜ now (grid .exit) ≡ signBytes n (marks n (now (grid .entry))) ++ drop (pointCount n) (now (grid .entry)) ⌝ }
 {
     let count = point_count(n);
     let mut inside = false;
     let mut p: usize = 0;
     while p < count {
-        signs[p] = sign_byte(inside);
-        inside = across(inside, grid[p]);
+        let b = grid[p];
+        grid[p] = with_sign(b, inside);
+        inside = across(inside, b);
         p += 1;
     }
 }
 
-// The call sign: fills the P sign bytes. Point (0,0,0) is outside, and signs differ across an edge exactly when it is marked.
-pub fn sign(level: u32, grid: &[u8], signs: &mut [u8]) -> Answer
-    ensures { λ r. ⌜ told r (now (signs .exit)) ≡ signCall level (now (grid .entry)) (now (signs .entry)) ⌝ }
+// The call sign: writes the signs of the P points and leaves the marks. Point (0,0,0) is outside, and signs differ across an edge exactly
+// when it is marked.
+pub fn sign(level: u32, grid: &mut [u8]) -> Answer
+    ensures { λ r. ⌜ told r (now (grid .exit)) ≡ signCall level (now (grid .entry)) ⌝ }
 {
     let LevelRead::Known(l) = Level::read(level) else {
         return Answer::Refused(Refusal::BadLevel);
@@ -74,15 +60,12 @@ pub fn sign(level: u32, grid: &[u8], signs: &mut [u8]) -> Answer
     if grid.len() < count {
         return Answer::Refused(Refusal::ShortBuffer);
     }
-    if signs.len() < count {
-        return Answer::Refused(Refusal::ShortBuffer);
-    }
     if !is_grid(n, grid) {
         return Answer::Refused(Refusal::NoGrid);
     }
     if !all_even(n, grid) {
         return Answer::Refused(Refusal::OddFace);
     }
-    sign_grid(n, grid, signs);
+    sign_grid(n, grid);
     Answer::Done
 }

@@ -74,27 +74,26 @@ pub extern "C" fn omphirun_patch(
     }
 }
 
-// Sign (level, grid, signs): fills the P sign bytes.
+// Sign (level, grid): writes the signs of the P points and leaves the marks.
 #[no_mangle]
-pub extern "C" fn omphirun_sign(level: u32, grid: &[u8], signs: &mut [u8]) -> u32
-    ensures { λ r. ⌜ _≡_ {A = SignOutcome} (record { number = r; signs = now (signs .exit) }) (signCall level (now (grid .entry)) (now (signs .entry))) ⌝ }
+pub extern "C" fn omphirun_sign(level: u32, grid: &mut [u8]) -> u32
+    ensures { λ r. ⌜ _≡_ {A = SignOutcome} (record { number = r; grid = now (grid .exit) }) (signCall level (now (grid .entry))) ⌝ }
 {
-    signing::sign(level, grid, signs).number()
+    signing::sign(level, grid).number()
 }
 
-// Surface (level, grid, signs, list of u16): writes four cell numbers a quad and returns the number of quads.
+// Surface (level, grid, list of u16): writes four cell numbers a quad and returns the number of quads.
 #[no_mangle]
 pub extern "C" fn omphirun_surface(
     level: u32,
     grid: &[u8],
-    signs: &[u8],
     list: &mut [u16],
     quads: &mut u32,
 ) -> u32
-    ensures { λ r. ⌜ _≡_ {A = SurfaceOutcome} (record { number = r; quads = now (quads .exit); list = now (list .exit) }) (surfaceCall level (now (grid .entry)) (now (signs .entry)) (now (list .entry))) ⌝ }
+    ensures { λ r. ⌜ _≡_ {A = SurfaceOutcome} (record { number = r; quads = now (quads .exit); list = now (list .exit) }) (surfaceCall level (now (grid .entry)) (now (list .entry))) ⌝ }
 {
     *quads = 0;
-    match surfacing::surface(level, grid, signs, list) {
+    match surfacing::surface(level, grid, list) {
         SurfaceAnswer::Done { quads: q } => {
             *quads = q;
             0

@@ -6,14 +6,14 @@ use mathlib.Core.Logic.{_↔_}
 use Prim.Native.Nat.{ℕ, zero, suc, _+_, _≤_, _<_}
 use native.Mathlib.Omega.{arith}
 use lib.Dec.{eqb, ltb}
-use lib.ListN.{length, drop, getD, replicate, length-append, length-replicate}
+use lib.ListN.{length, drop, getD, replicate, length-append}
 use borrow.Author.Tests.{eqb-false, ltb-true, ltb-false, le-ltb, ne-eqb}
 use Rattle.rules.specs.Lattice.{Set}
-use Rattle.rules.specs.Grid.{marks, bytes}
+use Rattle.rules.specs.Grid.{marks, inside, bytes}
 use Rattle.rules.specs.Rims.{rims}
 use Rattle.rules.specs.Patch.{patched, flipCount}
-use Rattle.rules.specs.Signs.{signBytes, inside}
-use Rattle.rules.proofs.Numbers.{bytes-length}
+use Rattle.rules.specs.Signs.{signBytes}
+use Rattle.rules.proofs.Numbers.{bytes-length, marks-inner}
 use Rattle.lattice.specs.declared.level.Level.{Level}
 use Rattle.lattice.specs.Levels.{numberOf, cellsOf, pointsOf}
 use Rattle.refusals.specs.Rows.{_when_, firstOf, Given}
@@ -28,6 +28,7 @@ use Rattle.marking.specs.Open.{openRows, openCall}
 use Rattle.marking.proofs.OutOfRange.{out-some, out-rows}
 use Rattle.patching.specs.Call.{patchDone}
 use Rattle.signing.proofs.Rows.{signs-length}
+use Rattle.signing.proofs.Only.{signs-marks}
 use Rattle.surfacing.specs.Call.{Outcome as Surfacing, shortList, refused, surfaceDone, listed, surfaceCall}
 use Rattle.text.specs.declared.listing.Repaired.{Repaired}
 use Rattle.text.specs.Listing.{refusedLine, listing}
@@ -73,27 +74,27 @@ module _ (l : Level) where
     v = replicate (pointsOf l) 0 ++ drop (pointsOf l) lentBytes
 
     abbrev s : List ℕ
-    s = signBytes n (marks n h) ++ drop (pointsOf l) v
+    s = signBytes n (marks n h) ++ drop (pointsOf l) h
 
     long : (a b : List ℕ) → length a ≡ pointsOf l → pointsOf l ≤ length (a ++ b)
     long a b e = omega (arith, length-append a b)
 
-    done : Closed l g lentBytes (length (rims n (marks n g))) (flipCount n (marks n g)) h s
+    done : Closed l g lentBytes (length (rims n (marks n g))) (flipCount n (marks n g)) s v
     unfolding patchDone
     done =
         closing l g lentBytes r (bytes-long l) refl (long (bytes n (patched n (marks n g))) (drop (pointsOf l) g) (bytes-length n (patched n (marks n g))))
-        (long (replicate (pointsOf l) 0) (drop (pointsOf l) lentBytes) (length-replicate {A = ℕ} (pointsOf l) 0)) refl
+        refl (long (signBytes n (marks n h)) (drop (pointsOf l) h) (signs-length n (marks n h)))
 
-    number-is : surfaceCall (numberOf l) h s lentList .number ≡ firstOf (surfaceRows l g)
+    number-is : surfaceCall (numberOf l) s lentList .number ≡ firstOf (surfaceRows l g)
     unfolding listed surfaceDone
     number-is =
-        ap (λ (o : Surfacing). o .number) (surface-listed l h (done .ready) s (long (signBytes n (marks n h)) (drop (pointsOf l) v) (signs-length n (marks n h))) (done .fits) lentList)
-        ∙ answered-number (λ o. o .number) (refused lentList) (surfaceDone n (marks n h) (inside n s) lentList) (λ i. refl) refl (8 when shortList n (marks n h) lentList ∷ [])
-        ∙ ap (λ (E : Set). firstOf (8 when shortList n E lentList ∷ [])) (left-marks n g)
+        ap (λ (o : Surfacing). o .number) (surface-listed l s (done .long) (done .grid) (done .fits) lentList)
+        ∙ answered-number (λ o. o .number) (refused lentList) (surfaceDone n (marks n s) (inside n s) lentList) (λ i. refl) refl (8 when shortList n (marks n s) lentList ∷ [])
+        ∙ ap (λ (E : Set). firstOf (8 when shortList n E lentList ∷ [])) (signs-marks n (marks n h) (marks-inner n h) (drop (pointsOf l) h) ∙ left-marks n g)
 
     says-closed : Says (closed (numberOf l) g (surfaced (numberOf l) t)) (firstOf (surfaceRows l g))
     unfolding surfaced
-    says-closed = rw (closed-is l g done (surfaced (numberOf l) t), sym number-is) (says-unless (surfaceCall (numberOf l) h s lentList .number) _ _)
+    says-closed = rw (closed-is l g done (surfaced (numberOf l) t), sym number-is) (says-unless (surfaceCall (numberOf l) s lentList .number) _ _)
 
   -- ---- the triangles: rows 9, 3, 4 and 24
   pub rows-some : (more : ℕ) (s g : List ℕ) → (length s ≡ 0 → ⊥) → triangleRows l (suc more) s g

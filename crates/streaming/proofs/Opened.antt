@@ -1,16 +1,16 @@
 -- Laws of a stream's beginning and end: what open makes of the bytes lent, and what is printed. Assumes nothing.
-use mathlib.Core.Path.{_≡_, refl, sym, ap, _∙_}
+use mathlib.Core.Path.{_≡_, refl, sym, ap, subst, _∙_}
 use mathlib.Core.List.{List, [], _∷_, _++_}
 use Prim.Native.Nat.{ℕ, _+_, _-_}
 use native.Mathlib.Omega.{arith}
 use lib.ListN.{length, drop, replicate, length-replicate, replicate-append-replicate}
 use lib.Seq.{drop-at}
 use borrow.Author.Tests.{le-ltb}
-use Rattle.rules.specs.Grid.{isGrid}
+use Rattle.rules.specs.Grid.{isGrid, Unsigned}
 use Rattle.lattice.specs.declared.level.Level.{Level}
 use Rattle.lattice.specs.declared.level.LevelRead.the-variants.{Known, Unknown}
 use Rattle.lattice.specs.Levels.{levelOf, numberOf, cellsOf, pointsOf}
-use Rattle.grids.proofs.Ahead.{open-grid}
+use Rattle.grids.proofs.Ahead.{open-grid, open-unsigned}
 use Rattle.refusals.proofs.Levels.{read-unknown, read-known, good-number}
 use Rattle.marking.specs.Outcome.{done}
 use Rattle.marking.specs.Open.{opened, openRows, openCall}
@@ -36,7 +36,11 @@ module _ (l : Level) where
 
   -- 35,937 bytes of 0 are a grid of any level
   pub lent-ready : Ready l lentBytes
-  lent-ready = record { long = bytes-long l; grid = ap (isGrid (cellsOf l)) split ∙ open-grid (cellsOf l) (replicate (35937 - pointsOf l) 0) }
+  lent-ready = record {
+    long = bytes-long l;
+    grid = ap (isGrid (cellsOf l)) split ∙ open-grid (cellsOf l) (replicate (35937 - pointsOf l) 0);
+    unsigned = subst (Unsigned (cellsOf l)) (sym split) (open-unsigned (cellsOf l) (replicate (35937 - pointsOf l) 0));
+  }
 
   -- and open leaves them as they are
   pub open-still : opened l lentBytes ≡ lentBytes

@@ -81,13 +81,13 @@ fn repair_at(wanted: Wanted, level: u32, l: Level, out: &mut [u8]) -> usize
     let mut grid = empty_grid();
     match feed_all(l, &mut grid) {
         Fed::Marked { triangles } => {
-            let mut second = empty_grid();
+            let mut work = empty_grid();
             match wanted {
                 Wanted::Listing => {
                     let mut list = empty_list();
-                    report(level, l, triangles, &mut grid, &mut second, &mut list, out)
+                    report(level, l, triangles, &mut grid, &mut work, &mut list, out)
                 }
-                Wanted::Layers => show(l, &mut grid, &mut second, out),
+                Wanted::Layers => show(l, &mut grid, &mut work, out),
             }
         }
         Fed::Refused { number } => put_refusal(out, number),

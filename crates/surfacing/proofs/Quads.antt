@@ -13,18 +13,18 @@ use Rattle.rules.specs.declared.Point.{Point}
 use Rattle.rules.specs.declared.Place.{Place}
 use Rattle.rules.specs.Lists.{count, keep, each, All}
 use Rattle.rules.specs.Lattice.{Set, isIn, pointCount, points, placesAt, places, OfGrid}
-use Rattle.rules.specs.Grid.{value, has, marks, isGrid, byteMarks}
+use Rattle.rules.specs.Grid.{value, has, saysInside, inside, marks, isGrid, byteMarks}
 use Rattle.rules.specs.Quads.{quad, quads}
-use Rattle.rules.specs.Signs.{inside, saysInside}
 use Rattle.rules.proofs.Lists.{each-append, all-weaken, all-each, all-keep}
 use Rattle.rules.proofs.Sums.{count-append}
 use Rattle.rules.proofs.Listed.{count-places}
+use Rattle.rules.proofs.Numbers.{has-low, zero-has}
 use Rattle.rules.proofs.Same.{each-same}
 use Rattle.rules.proofs.PointOf.{points-grid}
+use Rattle.lattice.specs.Byte.{low}
 use Rattle.grids.proofs.Points.{pointsFrom, points-start, points-more, points-end, At, at-grid}
 use Rattle.grids.proofs.GridFacts.{grid-marks}
 use Rattle.lattice.proofs.Written.{sets-append}
-use Rattle.surfacing.specs.Fit.{Grids}
 use Rattle.surfacing.specs.Listing.{quadCount, byteQuad, byteQuads}
 
 -- ---- lists
@@ -139,22 +139,25 @@ module _ (n : ℕ) (E : Set) (s : Point → Bool) where
   pub quads-end : (p : ℕ) → pointCount n ≤ p → quadsFrom p ≡ []
   quads-end p h = ap (each quadsAt) (points-end n p h)
 
--- the quads of a point, by its bytes; x tells whether it is inside
-pub quads-byte : (n : ℕ) (g s : List ℕ) (p : ℕ) (q : Point) (x : Bool) → Grids n g s → At n p q → p < pointCount n → x ≡ saysInside (getD s p 0) →
-    byteQuads n (getD g p 0) x q ≡ quadsAt n (marks n g) (inside n s) q
+-- the quads of a point, by its byte; x tells whether it is inside
+pub quads-byte : (n : ℕ) (g : List ℕ) (p : ℕ) (q : Point) (x : Bool) → pointCount n ≤ length g → isGrid n g ≡ true → At n p q → p < pointCount n →
+    x ≡ saysInside (getD g p 0) → byteQuads n (getD g p 0) x q ≡ quadsAt n (marks n g) (inside n g) q
 unfolding byteQuads
-quads-byte n g s p q x k a h e = ap₂ _++_ (one X) (ap₂ _++_ (one Y) (ap₂ _++_ (one Z) refl))
+quads-byte n g p q x long grid a h e = ap₂ _++_ (one X) (ap₂ _++_ (one Y) (ap₂ _++_ (one Z) refl))
   where
-    one : (b : Axis) → byteQuad n (getD g p 0) x b q ≡ cond (marks n g b q) (quad n (inside n s) (record { axis = b; at = q })) []
+    one : (b : Axis) → byteQuad n (getD g p 0) x b q ≡ cond (marks n g b q) (quad n (inside n g) (record { axis = b; at = q })) []
     one b =
         ap₂ (λ (c d : Bool). cond c (quad n (λ r. d) (record { axis = b; at = q })) [])
-        (ap (λ (i : ℕ). has b (getD g i 0)) (sym (a .is)) ∙ grid-marks n g (k .g-long) (k .grid) b q (at-grid n p q a h))
-        (e ∙ ap (λ (i : ℕ). saysInside (getD s i 0)) (sym (a .is)))
+        (ap (λ (i : ℕ). has b (getD g i 0)) (sym (a .is)) ∙ grid-marks n g long grid b q (at-grid n p q a h))
+        (e ∙ ap (λ (i : ℕ). saysInside (getD g i 0)) (sym (a .is)))
 
 -- no mark, no quad
-pub quads-none : (n b : ℕ) (inside : Bool) (q : Point) → b ≡ 0 → byteQuads n b inside q ≡ []
+pub quads-none : (n b : ℕ) (inside : Bool) (q : Point) → low b ≡ 0 → byteQuads n b inside q ≡ []
 unfolding byteQuads
-quads-none n b inside q e = rw e
+quads-none n b inside q e = rw (no X, no Y, no Z)
+  where
+    no : (a : Axis) → has a b ≡ false
+    no a = sym (has-low a b) ∙ ap (has a) e ∙ zero-has a
 
 -- ---- the quads of the three edges at a point, written one behind the other
 pub three-written : (l : List ℕ) (i : ℕ) (x y z : List ℕ) {j k h : ℕ} {m o r : List ℕ} →
@@ -191,11 +194,11 @@ module _ (n : ℕ) (E : Set) (s : Point → Bool) (p : ℕ) (q : Point) (a : At 
       )
 
 -- the room for the quads of a point, whether it is inside or outside
-pub byte-room : (n : ℕ) (g s : List ℕ) (p : ℕ) (q : Point) (x : Bool) (i : ℕ) (l : List ℕ) → Grids n g s → At n p q → p < pointCount n →
-    i + length (quadsFrom n (marks n g) (inside n s) p) ≤ length l → i + length (byteQuads n (getD g p 0) x q) ≤ length l
-byte-room n g s p q x i l k a h r =
-    let w = quads-room n (marks n g) (inside n s) p q a h i l r in
-    let e = ap length (quads-byte n g s p q (saysInside (getD s p 0)) k a h refl) in
-    let u = quads-long n (getD g p 0) (saysInside (getD s p 0)) q in
+pub byte-room : (n : ℕ) (g : List ℕ) (p : ℕ) (q : Point) (x : Bool) (i : ℕ) (l : List ℕ) → pointCount n ≤ length g → isGrid n g ≡ true → At n p q →
+    p < pointCount n → i + length (quadsFrom n (marks n g) (inside n g) p) ≤ length l → i + length (byteQuads n (getD g p 0) x q) ≤ length l
+byte-room n g p q x i l long grid a h r =
+    let w = quads-room n (marks n g) (inside n g) p q a h i l r in
+    let e = ap length (quads-byte n g p q (saysInside (getD g p 0)) long grid a h refl) in
+    let u = quads-long n (getD g p 0) (saysInside (getD g p 0)) q in
     let v = quads-long n (getD g p 0) x q in
     omega arith

@@ -6,14 +6,13 @@ use lib.Dec.{ltb}
 use lib.ListN.{length, drop}
 use Rattle.rules.specs.declared.Point.{Point}
 use Rattle.rules.specs.Lattice.{Set}
-use Rattle.rules.specs.Grid.{marks, isGrid}
+use Rattle.rules.specs.Grid.{marks, inside, isGrid}
 use Rattle.rules.specs.Quads.{quads}
-use Rattle.rules.specs.Signs.{inside}
 use Rattle.lattice.specs.Levels.{cellsOf, pointsOf}
 use Rattle.refusals.specs.Rows.{Row, _when_, answered}
 use Rattle.refusals.specs.Reasons.{numberOf}
 use Rattle.refusals.specs.Columns.{badLevel, levelAt, someShort}
-use Rattle.surfacing.specs.Fit.{signBytesFit}
+use Rattle.surfacing.specs.Fit.{signsFit}
 use Rattle.surfacing.specs.Listing.{quadCount}
 use Rattle.surfacing.specs.declared.SurfaceAnswer.{SurfaceAnswer}
 use Rattle.surfacing.specs.declared.SurfaceAnswer.the-variants.{Done, Refused}
@@ -46,19 +45,19 @@ unfoldable pub listed : ℕ → Set → (Point → Bool) → List ℕ → Outcom
 listed n E s l = answered (8 when shortList n E l ∷ []) (refused l) (surfaceDone n E s l)
 
 -- when it is refused, in the order judged
-unfoldable pub surfaceRows : ℕ → List ℕ → List ℕ → List ℕ → List Row
-surfaceRows level g s l =
+unfoldable pub surfaceRows : ℕ → List ℕ → List ℕ → List Row
+surfaceRows level g l =
     let v = levelAt level in
     let n = cellsOf v in
     1 when badLevel level
-    ∷ 2 when someShort (pointsOf v) (g ∷ s ∷ [])
+    ∷ 2 when someShort (pointsOf v) (g ∷ [])
     ∷ 5 when not (isGrid n g)
-    ∷ 7 when not (signBytesFit n (marks n g) s)
+    ∷ 7 when not (signsFit n (marks n g) (inside n g))
     ∷ 8 when shortList n (marks n g) l
     ∷ []
 
--- surface (level, grid, signs, list of u16)
-unfoldable pub surfaceCall : ℕ → List ℕ → List ℕ → List ℕ → Outcome
-surfaceCall level g s l =
+-- surface (level, grid, list of u16)
+unfoldable pub surfaceCall : ℕ → List ℕ → List ℕ → Outcome
+surfaceCall level g l =
     let n = cellsOf (levelAt level) in
-    answered (surfaceRows level g s l) (refused l) (surfaceDone n (marks n g) (inside n s) l)
+    answered (surfaceRows level g l) (refused l) (surfaceDone n (marks n g) (inside n g) l)

@@ -1,19 +1,11 @@
 -- Number 7, in the words of its line. Assumes nothing.
 use mathlib.Core.Path.{_≡_}
 use mathlib.Core.Bool.{true, false, Bool}
-use mathlib.Core.List.{List}
-use Prim.Native.Nat.{ℕ, _<_}
+use Prim.Native.Nat.{ℕ}
 use Rattle.rules.specs.declared.Axis.{Axis}
 use Rattle.rules.specs.declared.Point.{Point}
 use Rattle.rules.specs.Lists.{_⊕_}
 use Rattle.rules.specs.Lattice.{up, origin, OfGrid, Set}
-use Rattle.signing.specs.SignBytes.{signByte}
-
--- a sign above 1
-pub record Above (n : ℕ) (s : List ℕ) : Type 0 where
-  pub point : Point
-  pub of-grid : OfGrid n point
-  pub above : 1 < signByte n s point
 
 -- point (0,0,0) inside, an edge with a sign change and no mark, or one with a mark and no sign change
 pub data Misfit (n : ℕ) (E : Set) (s : Point → Bool) : Type 0 where

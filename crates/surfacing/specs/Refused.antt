@@ -6,39 +6,38 @@ use Prim.Native.Nat.{ℕ}
 use lib.ListN.{take, set, replicate}
 use Rattle.rules.specs.Lattice.{setOf}
 use Rattle.rules.specs.Grid.{bytes}
+use Rattle.rules.specs.Signs.{signBytes}
 use Rattle.rules.specs.Examples.{single}
 use Rattle.refusals.specs.Cases.{Case, _is_, zeros, lone}
 use Rattle.surfacing.specs.Call.{surfaceCall}
 
--- the grid of example 2, the same with a byte 8, and its signs
+-- the grid of example 2, the same with a byte 16, and the same with its sign
 abbrev drawn : List ℕ
 drawn = bytes 4 (setOf single)
 
 abbrev noGrid : List ℕ
-noGrid = set drawn 0 8
+noGrid = set drawn 0 16
 
-abbrev signs : List ℕ
-signs = lone 62 1
+abbrev signed : List ℕ
+signed = signBytes 4 (setOf single)
 
 unfoldable pub cases : List Case
 cases =
     -- 1: level not 2 to 5
-    surfaceCall 1 (take 124 noGrid) (zeros 124) [] .number is 1
-    ∷ surfaceCall 6 (take 124 noGrid) (zeros 124) [] .number is 1
-    -- 2: a grid or a sign buffer of 124 bytes
-    ∷ surfaceCall 2 (take 124 noGrid) (zeros 125) [] .number is 2
-    ∷ surfaceCall 2 noGrid (zeros 124) [] .number is 2
-    -- 5: a byte 8
-    ∷ surfaceCall 2 noGrid (zeros 125) [] .number is 5
-    -- 7: an edge with a mark and no sign change
-    ∷ surfaceCall 2 drawn (zeros 125) [] .number is 7
-    -- an edge with a sign change and no mark; a sign above 1; point (0,0,0) inside, with all others
-    ∷ surfaceCall 2 (zeros 125) signs [] .number is 7
-    ∷ surfaceCall 2 (zeros 125) (lone 62 2) [] .number is 7
-    ∷ surfaceCall 2 (zeros 125) (replicate 125 1) [] .number is 7
+    surfaceCall 1 (take 124 noGrid) [] .number is 1
+    ∷ surfaceCall 6 (take 124 noGrid) [] .number is 1
+    -- 2: a grid buffer of 124 bytes
+    ∷ surfaceCall 2 (take 124 noGrid) [] .number is 2
+    -- 5: a byte 16
+    ∷ surfaceCall 2 noGrid [] .number is 5
+    -- 7: edges with a mark and no sign change
+    ∷ surfaceCall 2 drawn [] .number is 7
+    -- edges with a sign change and no mark; point (0,0,0) inside, with all others
+    ∷ surfaceCall 2 (lone 62 8) [] .number is 7
+    ∷ surfaceCall 2 (replicate 125 8) [] .number is 7
     -- 8: six quads, and room for 23 numbers (example 12); done with room for 24
-    ∷ surfaceCall 2 drawn signs (replicate 23 0) .number is 8
-    ∷ surfaceCall 2 drawn signs (replicate 24 0) .number is 0
+    ∷ surfaceCall 2 signed (replicate 23 0) .number is 8
+    ∷ surfaceCall 2 signed (replicate 24 0) .number is 0
     -- done: no marks, nothing inside, and no room
-    ∷ surfaceCall 2 (zeros 125) (zeros 125) [] .number is 0
+    ∷ surfaceCall 2 (zeros 125) [] .number is 0
     ∷ []

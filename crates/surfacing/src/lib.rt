@@ -10,10 +10,11 @@ use listing::count_quads;
 use listing::write_quads;
 use refusals::Refusal;
 ghost use mathlib.Core.Path.{_≡_};
+ghost use mathlib.Core.Bool.{true};
 ghost use Prim.Native.Nat.{_≤_};
-ghost use Rattle.rules.specs.Grid.{marks};
-ghost use Rattle.rules.specs.Signs.{inside};
-ghost use Rattle.surfacing.specs.Fit.{Grids};
+ghost use lib.ListN.{length};
+ghost use Rattle.rules.specs.Lattice.{pointCount};
+ghost use Rattle.rules.specs.Grid.{marks, inside, isGrid};
 ghost use Rattle.surfacing.specs.Call.{told, listed, surfaceCall};
 
 // What the call answers: done, with the number of quads, or why not.
@@ -23,23 +24,23 @@ pub enum SurfaceAnswer {
 }
 
 // Lists the quads of a grid, if the list has room for them.
-pub fn list_quads(n: usize, grid: &[u8], signs: &[u8], list: &mut [u16]) -> SurfaceAnswer
-    requires { ⌜ (n ≤ 32) × Grids n (now grid) (now signs) ⌝ }
-    ensures { λ r. ⌜ told r (now (list .exit)) ≡ listed n (marks n (now (grid .entry))) (inside n (now (signs .entry))) (now (list .entry)) ⌝ }
+pub fn list_quads(n: usize, grid: &[u8], list: &mut [u16]) -> SurfaceAnswer
+    requires { ⌜ (n ≤ 32) × (pointCount n ≤ length (now grid)) × (isGrid n (now grid) ≡ true) ⌝ }
+    ensures { λ r. ⌜ told r (now (list .exit)) ≡ listed n (marks n (now (grid .entry))) (inside n (now (grid .entry))) (now (list .entry)) ⌝ }
 {
     let quads = count_quads(n, grid);
     if list.len() < 4 * quads {
         return SurfaceAnswer::Refused(Refusal::ShortList);
     }
-    write_quads(n, grid, signs, list);
+    write_quads(n, grid, list);
     SurfaceAnswer::Done {
         quads: quads as u32,
     }
 }
 
 // The call surface: writes four cell numbers a quad and returns the number of quads. Entries after the last quad keep their contents.
-pub fn surface(level: u32, grid: &[u8], signs: &[u8], list: &mut [u16]) -> SurfaceAnswer
-    ensures { λ r. ⌜ told r (now (list .exit)) ≡ surfaceCall level (now (grid .entry)) (now (signs .entry)) (now (list .entry)) ⌝ }
+pub fn surface(level: u32, grid: &[u8], list: &mut [u16]) -> SurfaceAnswer
+    ensures { λ r. ⌜ told r (now (list .exit)) ≡ surfaceCall level (now (grid .entry)) (now (list .entry)) ⌝ }
 {
     let LevelRead::Known(l) = Level::read(level) else {
         return SurfaceAnswer::Refused(Refusal::BadLevel);
@@ -49,14 +50,11 @@ pub fn surface(level: u32, grid: &[u8], signs: &[u8], list: &mut [u16]) -> Surfa
     if grid.len() < count {
         return SurfaceAnswer::Refused(Refusal::ShortBuffer);
     }
-    if signs.len() < count {
-        return SurfaceAnswer::Refused(Refusal::ShortBuffer);
-    }
     if !is_grid(n, grid) {
         return SurfaceAnswer::Refused(Refusal::NoGrid);
     }
-    if !signs_fit(n, grid, signs) {
+    if !signs_fit(n, grid) {
         return SurfaceAnswer::Refused(Refusal::SignsMisfit);
     }
-    list_quads(n, grid, signs, list)
+    list_quads(n, grid, list)
 }

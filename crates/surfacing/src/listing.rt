@@ -1,10 +1,11 @@
 // The list of quads: the four cells around each marked edge, by rising point number, x before y before z at one point.
 use grids::next_point;
 use lattice::byte::bit;
+use lattice::byte::is_inside;
+use lattice::byte::low;
 use lattice::level::point_count;
 use rules::Axis;
 use rules::Point;
-use signing::is_inside;
 ghost use mathlib.Core.Path.{_≡_};
 ghost use mathlib.Core.Bool.{true};
 ghost use mathlib.Core.List.{[], _∷_, _++_};
@@ -12,11 +13,9 @@ ghost use Prim.Native.Nat.{_+_, _*_, _≤_, _<_};
 ghost use lib.ListN.{length, drop};
 ghost use lib.Seq.{sets};
 ghost use Rattle.rules.specs.Lattice.{inner, cellNumber, pointCount};
-ghost use Rattle.rules.specs.Grid.{has, marks, isGrid, byteMarks};
+ghost use Rattle.rules.specs.Grid.{has, marks, inside, isGrid, byteMarks};
 ghost use Rattle.rules.specs.Quads.{next, quads};
-ghost use Rattle.rules.specs.Signs.{inside};
 ghost use Rattle.lattice.specs.Cells.{Cell};
-ghost use Rattle.surfacing.specs.Fit.{Grids};
 ghost use Rattle.surfacing.specs.Listing.{quadCount, cellStep, byteQuad, byteQuads, MarksInner};
 
 // The axis after an axis, round: for x the pair is (y,z), for y it is (z,x), for z it is (x,y).
@@ -85,12 +84,12 @@ fn put_quad(n: usize, b: u8, inside: bool, a: Axis, q: Point, list: &mut [u16], 
     at + 4
 }
 
-// Writes the quads of the three edges at the point q, b being its byte, and answers where the next one goes.
+// Writes the quads of the three edges at the point q, b being its byte, and answers where the next one goes. Most points have no mark.
 fn put_quads(n: usize, b: u8, inside: bool, q: Point, list: &mut [u16], at: usize) -> usize
     requires { ⌜ (n ≤ 32) × MarksInner n b q × (at + length (byteQuads n b inside q) ≤ length (now list)) ⌝ }
     ensures { λ r. ⌜ (r ≡ at + length (byteQuads n b inside q)) × (now (list .exit) ≡ sets (now (list .entry)) at (byteQuads n b inside q)) ⌝ }
 {
-    if b == 0 {
+    if low(b) == 0 {
         return at;
     }
     let on_x = put_quad(n, b, inside, Axis::X, q, list, at);
@@ -122,16 +121,16 @@ pub fn count_quads(n: usize, grid: &[u8]) -> usize
 }
 
 // Writes the quads into a list that has room for them.
-pub fn write_quads(n: usize, grid: &[u8], signs: &[u8], list: &mut [u16])
-    requires { ⌜ (n ≤ 32) × Grids n (now grid) (now signs) × (4 * quadCount n (marks n (now grid)) ≤ length (now list)) ⌝ }
-    ensures { λ _. ⌜ now (list .exit) ≡ quads n (marks n (now (grid .entry))) (inside n (now (signs .entry))) ++ drop (4 * quadCount n (marks n (now (grid .entry)))) (now (list .entry)) ⌝ }
+pub fn write_quads(n: usize, grid: &[u8], list: &mut [u16])
+    requires { ⌜ (n ≤ 32) × (pointCount n ≤ length (now grid)) × (isGrid n (now grid) ≡ true) × (4 * quadCount n (marks n (now grid)) ≤ length (now list)) ⌝ }
+    ensures { λ _. ⌜ now (list .exit) ≡ quads n (marks n (now (grid .entry))) (inside n (now (grid .entry))) ++ drop (4 * quadCount n (marks n (now (grid .entry)))) (now (list .entry)) ⌝ }
 {
     let count = point_count(n);
     let mut q = Point { i: 0, j: 0, k: 0 };
     let mut p: usize = 0;
     let mut at: usize = 0;
     while p < count {
-        at = put_quads(n, grid[p], is_inside(signs[p]), q, list, at);
+        at = put_quads(n, grid[p], is_inside(grid[p]), q, list, at);
         q = next_point(n, q);
         p += 1;
     }

@@ -102,7 +102,7 @@ mark-grid-requires : tie.Need-mark-grid-requires
 mark-grid-requires c κs =
     let s = c .before .before .before .before .before .before .before .before .before in
     let p = passed (s .args .l) (bytesAt s) _ _ (nine s) (c .before .before .before .before .before .before .numbers-at .ensures) (c .before .before .before .before .first-out .ensures) _ (c .before .before .before .if1 .left) (c .triangle-of .ensures) in
-    (p .lies, (s .pre .1 .long, s .pre .1 .grid))
+    (p .lies, (s .pre .1 .long, s .pre .1 .grid, s .pre .1 .unsigned))
 
 same-length : tie.Need-same-length
 same-length c = search needs

@@ -14,8 +14,8 @@ use Rattle.lattice.proofs.Tests.{fails, holds}
 use Rattle.grids.proofs.byte_fits.Statement.{statement}
 use Rattle.grids.proofs.byte_fits.Tie as tie
 
--- any byte up to 7 may stand at a deep point
-deep-fits : (n b : ℕ) (p : Point) → leb b 7 ≡ true → deep n p ≡ true → byteFits n b p ≡ true
+-- any byte up to 15 may stand at a deep point
+deep-fits : (n b : ℕ) (p : Point) → leb b 15 ≡ true → deep n p ≡ true → byteFits n b p ≡ true
 deep-fits n b p l d = rw (l, deep-inner n p d X, deep-inner n p d Y, deep-inner n p d Z) (every (has X b) (has Y b) (has Z b))
   where
     any : (x : Bool) → not x || true ≡ true
@@ -29,11 +29,11 @@ returns : tie.Need-returns
 returns c = rw (c .if1 .taken)
 
 returns-2 : tie.Need-returns-2
-returns-2 c = rw (leb-no (c .before .before .args .b) 7 (omega (arith, c .if2 .taken)))
+returns-2 c = rw (leb-no (c .before .before .args .b) 15 (omega (arith, c .if2 .taken)))
 
--- a byte above 7 is not let through
-at-most : (c : tie.Else2) → leb (c .before .before .args .b) 7 ≡ true
-at-most c = leb-yes (c .before .before .args .b) 7 (c .if2 .left)
+-- a byte above 15 is not let through
+at-most : (c : tie.Else2) → leb (c .before .before .args .b) 15 ≡ true
+at-most c = leb-yes (c .before .before .args .b) 15 (c .if2 .left)
 
 is-deep-requires : tie.Need-is-deep-requires
 is-deep-requires c κs = search needs

@@ -1,6 +1,7 @@
 -- `mark` meets its contract. Assumes nothing.
 use mathlib.Core.Path.{_≡_, sym, ap, _∙_}
 use mathlib.Core.Bool.{true, false}
+use mathlib.Core.List.{List}
 use Prim.Native.Nat.{ℕ, _≤_, _<_}
 use native.Mathlib.Omega.{arith}
 use borrow.Author.Tests.{lt-ltb, le-ltb, eq-eqb, ne-eqb}
@@ -8,18 +9,22 @@ use borrow.Author.Needs.{needs}
 use lib.IntN.{pos}
 use lib.ListN.{length, getD}
 use mir.Syntax.{w32}
-use Rattle.rules.specs.Grid.{isGrid}
 use Rattle.lattice.specs.Levels.{cellsOf, pointsOf}
 use Rattle.lattice.proofs.LevelFacts.{cells-most}
 use Rattle.lattice.proofs.Tests.{fails, holds}
+use Rattle.grids.proofs.Unsigning.{cleared-none, cleared-grid, cleared-ready}
 use Rattle.refusals.specs.Columns.{badLevel, levelAt}
 use Rattle.refusals.proofs.Levels.{read-unknown, read-known}
-use Rattle.marking.specs.Ranges.{allInRange}
+use Rattle.refusals.specs.declared.Refusal.the-variants.{NoGrid}
+use Rattle.marking.specs.declared.MarkAnswer.the-variants.{Refused}
+use Rattle.meeting.specs.Met.{marked}
+use Rattle.marking.specs.Ranges.{allInRange, triangleOf}
 use Rattle.marking.specs.OutOfRange.{firstOut, outNumber}
-use Rattle.marking.specs.Mark.{done, refusedAt, markRows, markCall}
+use Rattle.marking.specs.Mark.{done, refusedAt, told as markTold, markRows, markCall}
 use Rattle.marking.proofs.Ranges.{triangle-within}
 use Rattle.marking.proofs.OutOfRange.{some-out, none-out, out-told}
 use Rattle.meeting.proofs.Positive.{Plain}
+use Rattle.meeting.proofs.Written.{marked-unsigned}
 use Rattle.marking.proofs.mark.Statement.{statement}
 use Rattle.marking.proofs.mark.Tie as tie
 
@@ -34,9 +39,6 @@ long c = rw (c .before .points .ensures) at (c .if1 .left)
 
 ranged : (c : tie.Else3) → allInRange (c .before .before .before .before .before .before .l .given .0 .0) (c .before .before .before .before .before .before .before .before .before .before .args .triangle .now) ≡ true
 ranged c = none-out (c .before .before .before .before .before .before .l .given .0 .0) (c .before .before .before .before .before .before .before .before .before .before .args .triangle .now) (omega (arith, c .before .first-out .ensures))
-
-a-grid : (c : tie.Else4) → isGrid (cellsOf (c .before .before .before .before .before .before .before .before .before .before .l .given .0 .0)) (c .before .before .before .before .before .before .before .before .before .before .before .before .before .before .args .grid .now) ≡ true
-a-grid c = holds (rw (c .before .before .before .cells .ensures) at (c .before .is-grid .ensures)) (c .if4 .left)
 
 read-requires : tie.Need-read-requires
 read-requires c κs = search needs
@@ -91,8 +93,8 @@ returns-4 c =
 cells-requires : tie.Need-cells-requires
 cells-requires c κs = search needs
 
-is-grid-requires : tie.Need-is-grid-requires
-is-grid-requires c κs = rw (c .before .cells .ensures) (cells-most (c .before .before .before .before .before .before .before .before .l .given .0 .0), long (c .before .before .before .before .before))
+clear-signs-requires : tie.Need-clear-signs-requires
+clear-signs-requires c κs = rw (c .before .cells .ensures) (cells-most (c .before .before .before .before .before .before .before .before .l .given .0 .0), long (c .before .before .before .before .before))
 
 same-length : tie.Need-same-length
 same-length c = search needs
@@ -100,16 +102,19 @@ same-length c = search needs
 returns-5 : tie.Need-returns-5
 unfolding markRows markCall
 returns-5 c =
-    let none = fails (rw (c .before .before .before .cells .ensures) at (c .before .is-grid .ensures)) (c .if4 .taken) in
-    simp (level-read (c .before .before .before .before .before .before .before .before) .0, level-read (c .before .before .before .before .before .before .before .before) .1, le-ltb _ _ (long (c .before .before .before .before .before .before .before)), eq-eqb _ _ (c .before .before .before .before .before .before .if2 .left), ranged (c .before .before .before .before), none)
+    let r = rw (c .before .before .before .before .before .cells .ensures) at (c .before .before .before .clear-signs .ensures) in
+    let none = fails (r .0) (c .if4 .taken) in
+    simp (level-read (c .before .before .before .before .before .before .before .before .before .before) .0, level-read (c .before .before .before .before .before .before .before .before .before .before) .1, le-ltb _ _ (long (c .before .before .before .before .before .before .before .before .before)), eq-eqb _ _ (c .before .before .before .before .before .before .before .before .if2 .left), ranged (c .before .before .before .before .before .before), none) (ap (λ (h : List ℕ). markTold (Refused NoGrid) h) (cleared-none _ (c .before .before .before .before .before .before .before .before .before .before .before .before .before .before .before .before .args .grid .now) _ (r .1) none))
 
 triangle-of-requires : tie.Need-triangle-of-requires
 triangle-of-requires c κs = search needs
 
 mark-grid-requires : tie.Need-mark-grid-requires
 mark-grid-requires c κs =
-    let w = triangle-within (c .before .before .before .before .before .before .before .before .before .before .before .before .l .given .0 .0) (c .before .before .before .before .before .before .before .before .before .before .before .before .before .before .before .before .args .triangle .now) (c .before .before .before .before .before .before .before .before .if2 .left) (ranged (c .before .before .before .before .before .before)) in
-    (rw (c .triangle-of .ensures) w, (long (c .before .before .before .before .before .before .before .before .before), a-grid (c .before .before)))
+    let l = c .before .before .before .before .before .before .before .before .before .before .before .before .before .before .l .given .0 .0 in
+    let w = triangle-within l (c .before .before .before .before .before .before .before .before .before .before .before .before .before .before .before .before .before .before .args .triangle .now) (c .before .before .before .before .before .before .before .before .before .before .if2 .left) (ranged (c .before .before .before .before .before .before .before .before)) in
+    let r = rw (c .before .before .before .before .before .before .before .cells .ensures) at (c .before .before .before .before .before .clear-signs .ensures) in
+    (rw (c .triangle-of .ensures) w, cleared-ready (cellsOf l) (c .before .before .before .before .before .before .before .before .before .before .before .before .before .before .before .before .before .before .args .grid .now) _ (r .1) (long (c .before .before .before .before .before .before .before .before .before .before .before)) (holds (r .0) (c .before .before .if4 .left)))
 
 same-length-2 : tie.Need-same-length-2
 same-length-2 c = search needs
@@ -117,8 +122,13 @@ same-length-2 c = search needs
 returns-6 : tie.Need-returns-6
 unfolding markRows markCall
 returns-6 c =
+    let l = c .before .before .before .before .before .before .before .before .before .before .before .before .before .before .before .before .before .l .given .0 .0 in
+    let r = rw (c .before .before .before .before .before .before .before .before .before .before .cells .ensures) at (c .before .before .before .before .before .before .before .before .clear-signs .ensures) in
+    let a = holds (r .0) (c .before .before .before .before .before .if4 .left) in
     let m = rw (c .before .before .before .triangle-of .ensures) at (c .before .before .mark-grid .ensures) in
-    simp (level-read (c .before .before .before .before .before .before .before .before .before .before .before .before .before) .0, level-read (c .before .before .before .before .before .before .before .before .before .before .before .before .before) .1, le-ltb _ _ (long (c .before .before .before .before .before .before .before .before .before .before .before .before)), eq-eqb _ _ (c .before .before .before .before .before .before .before .before .before .before .before .if2 .left), ranged (c .before .before .before .before .before .before .before .before .before), a-grid (c .before .before .before .before .before)) (ap done m)
+    let u = cleared-grid (cellsOf l) (c .before .before .before .before .before .before .before .before .before .before .before .before .before .before .before .before .before .before .before .before .before .args .grid .now) _ (r .1) a in
+    simp (level-read (c .before .before .before .before .before .before .before .before .before .before .before .before .before .before .before) .0, level-read (c .before .before .before .before .before .before .before .before .before .before .before .before .before .before .before) .1, le-ltb _ _ (long (c .before .before .before .before .before .before .before .before .before .before .before .before .before .before)), eq-eqb _ _ (c .before .before .before .before .before .before .before .before .before .before .before .before .before .if2 .left), ranged (c .before .before .before .before .before .before .before .before .before .before .before), a)
+    (ap done (m ∙ ap (marked l (triangleOf (c .before .before .before .before .before .before .before .before .before .before .before .before .before .before .before .before .before .before .before .before .before .args .triangle .now))) u ∙ marked-unsigned l _ (c .before .before .before .before .before .before .before .before .before .before .before .before .before .before .before .before .before .before .before .before .before .args .grid .now)))
 
 pub mark-spec : {M : Type 1} → statement M
 mark-spec =
@@ -137,7 +147,7 @@ mark-spec =
     out-of-range-requires
     returns-4
     cells-requires
-    is-grid-requires
+    clear-signs-requires
     same-length
     returns-5
     triangle-of-requires

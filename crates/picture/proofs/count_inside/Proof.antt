@@ -9,10 +9,10 @@ use Rattle.picture.proofs.count_inside.Statement.{statement}
 use Rattle.picture.proofs.count_inside.Tie as tie
 
 abbrev Inv-loop : tie.InvT-loop
-Inv-loop signs end found₀ p₀ found p = (p ≤ end) × (found ≤ p) × (found + insideFrom signs p end ≡ insideFrom signs 0 end)
+Inv-loop grid end found₀ p₀ found p = (p ≤ end) × (found ≤ p) × (found + insideFrom grid p end ≡ insideFrom grid 0 end)
 
 abbrev μ-loop : tie.MeasureT-loop
-μ-loop signs end found₀ p₀ found p = end - p
+μ-loop grid end found₀ p₀ found p = end - p
 
 points-requires : tie.Need-points-requires Inv-loop μ-loop
 points-requires c κs = search needs
@@ -42,16 +42,19 @@ loop-again c =
     let o = c .one-inside in (
       omega arith,
       omega (arith, o .ensures .1),
-      inside-next (c .before .before .before .before .before .before .args .signs .now) (l .p) _ (l .found) (o .result) (c .before .before .loop-test .taken) (o .ensures .0) ∙ l .inv .2,
+      inside-next (c .before .before .before .before .before .before .args .grid .now) (l .p) _ (l .found) (o .result) (c .before .before .loop-test .taken) (o .ensures .0) ∙ l .inv .2,
     )
+
+cast-result : tie.Need-cast-result Inv-loop μ-loop
+cast-result c = omega (arith, c .before .loop .inv .0, c .before .loop .inv .1, c .before .before .points .ensures, points-most (c .before .before .before .before .args .l))
 
 returns : tie.Need-returns Inv-loop μ-loop
 returns c =
     let l = c .before .loop in
     let s = c .before .before .before .before .args in
-    let z : insideFrom (s .signs .now) (l .p) (c .before .before .points .result) ≡ 0 = inside-end (s .signs .now) (l .p) _ (c .loop-test .left) in
-    let e : l .found ≡ insideFrom (s .signs .now) 0 (c .before .before .points .result) = omega (arith, l .inv .2) in
-    e ∙ ap (insideFrom (s .signs .now) 0) (c .before .before .points .ensures) ∙ inside-all (cellsOf (s .l)) (s .signs .now)
+    let z : insideFrom (s .grid .now) (l .p) (c .before .before .points .result) ≡ 0 = inside-end (s .grid .now) (l .p) _ (c .loop-test .left) in
+    let e : l .found ≡ insideFrom (s .grid .now) 0 (c .before .before .points .result) = omega (arith, l .inv .2) in
+    e ∙ ap (insideFrom (s .grid .now) 0) (c .before .before .points .ensures) ∙ inside-all (cellsOf (s .l)) (s .grid .now)
 
 pub count-inside-spec : {M : Type 1} → statement M
 count-inside-spec =
@@ -67,4 +70,5 @@ count-inside-spec =
     add-p
     loop-less
     loop-again
+    cast-result
     returns)

@@ -7,7 +7,7 @@ use native.Mathlib.Omega.{arith}
 use lib.ListN.{length, length-set}
 use Rattle.rules.specs.Lists.{each}
 use Rattle.rules.specs.Lattice.{pointCount}
-use Rattle.rules.specs.Signs.{inside}
+use Rattle.rules.specs.Grid.{inside}
 use Rattle.grids.proofs.Points.{pointsFrom, points-start, points-end, At, at-start, at-grid, at-next}
 use Rattle.text.specs.Text.{Put}
 use Rattle.picture.specs.Picture.{pointText, picture}
@@ -17,17 +17,17 @@ use Rattle.picture.proofs.put_picture.Statement.{statement}
 use Rattle.picture.proofs.put_picture.Tie as tie
 
 abbrev Inv-loop : tie.InvT-loop
-Inv-loop out₀ n signs count q₀ at₀ p₀ out q at p =
+Inv-loop out₀ n grid count q₀ at₀ p₀ out q at p =
     (count ≡ pointCount n)
     × (p ≤ count)
     × (at ≤ 3 * p)
     × (length out ≡ length out₀)
     × At n p q
-    × ((x : List ℕ) (r : ℕ) → Put out at (each (pointText n (inside n signs)) (pointsFrom n p)) x r
-    → Put out₀ 0 (picture n (inside n signs)) x r)
+    × ((x : List ℕ) (r : ℕ) → Put out at (each (pointText n (inside n grid)) (pointsFrom n p)) x r
+    → Put out₀ 0 (picture n (inside n grid)) x r)
 
 abbrev μ-loop : tie.MeasureT-loop
-μ-loop out₀ n signs count q₀ at₀ p₀ out q at p = count - p
+μ-loop out₀ n grid count q₀ at₀ p₀ out q at p = count - p
 
 point-count-requires : tie.Need-point-count-requires Inv-loop μ-loop
 point-count-requires c κs = c .before .before .pre .0
@@ -73,7 +73,7 @@ loop-again c =
       omega (arith, l .inv .2, f .ensures .1),
       f .kept .0 ∙ length-set (l .out) (l .at) (c .before .before .before .before .before .character-of .result) ∙ l .inv .3,
       rw (c .next-point .ensures, add-one (l .p)) (at-next (a .n) (l .p) (l .q) (l .inv .4) h),
-      λ x r t. l .inv .5 x r (picture-next (a .n) (a .signs .now) (l .p) (l .q) (l .inv .4) h g (c .before .before .before .before .before .character-of .ensures) (f .ensures .0) t),
+      λ x r t. l .inv .5 x r (picture-next (a .n) (a .grid .now) (l .p) (l .q) (l .inv .4) h g (c .before .before .before .before .before .character-of .ensures) (f .ensures .0) t),
     )
 
 same-length : tie.Need-same-length Inv-loop μ-loop

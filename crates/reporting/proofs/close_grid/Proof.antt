@@ -15,11 +15,10 @@ patch-grid-requires c κs =
 
 sign-grid-requires : tie.Need-sign-grid-requires
 sign-grid-requires c κs =
-    let s = c .before .before .before .before .before .before .before .before .before .before .before .before in
-    let p = c .before .before .before .before .before .before .patch-grid in
-    let h = patch-left (s .args .l) _ _ (rw (c .before .before .before .before .before .before .before .before .before .cells .ensures) at (p .ensures)) in
-    rw (c .before .before .before .before .before .before .before .before .before .cells .ensures)
-    ((cells-most (s .args .l), rw (p .kept .1 .0) (s .pre .0 .long), rw (p .kept .1 .1 .0) (s .pre .1)), (h .0, h .1))
+    let s = c .before .before .before .before .before .before .before .before .before .before .before in
+    let p = c .before .before .before .before .before .patch-grid in
+    let h = patch-left (s .args .l) _ _ (rw (c .before .before .before .before .before .before .before .before .cells .ensures) at (p .ensures)) in
+    rw (c .before .before .before .before .before .before .before .before .cells .ensures) ((cells-most (s .args .l), rw (p .kept .1 .0) (s .pre .0 .long)), (h .0, h .1))
 
 same-length : tie.Need-same-length
 same-length c = search needs
@@ -29,10 +28,11 @@ same-length-2 c = search needs
 
 returns : tie.Need-returns
 returns c =
-    let s = c .before .before .before .before .before .before .before .before .before .before .before .before .before .before .before in
-    let p = c .before .before .before .before .before .before .before .before .before .patch-grid in
-    let e = c .before .before .before .before .before .before .before .before .before .before .before .before .cells .ensures in
-    closing (s .args .l) _ _ (s .pre .0) (s .pre .1) (rw e at (p .ensures)) (rw (p .kept .1 .0) (s .pre .0 .long)) (rw (p .kept .1 .1 .0) (s .pre .1)) (rw e at (c .before .before .sign-grid .ensures))
+    let s = c .before .before .before .before .before .before .before .before .before .before .before .before .before .before in
+    let p = c .before .before .before .before .before .before .before .before .patch-grid in
+    let e = c .before .before .before .before .before .before .before .before .before .before .before .cells .ensures in
+    let long = rw (p .kept .1 .0) (s .pre .0 .long) in
+    closing (s .args .l) _ _ (s .pre .0) (s .pre .1) (rw e at (p .ensures)) long (rw e at (c .before .before .sign-grid .ensures)) (rw (c .before .before .sign-grid .kept .1 .0) long)
 
 pub close-grid-spec : {M : Type 1} → statement M
 close-grid-spec =

@@ -11,38 +11,35 @@ use Rattle.reporting.proofs.Reports.{listed-room, refused-is, listing-i
 use Rattle.reporting.proofs.report.Statement.{statement}
 use Rattle.reporting.proofs.report.Tie as tie
 
--- the second buffer is long enough
-second-long : (c : tie.Start) → pointsOf (c .args .l) ≤ length (c .args .second .now)
-second-long c = rw (c .pre .2) (bytes-long (c .args .l))
+-- the work buffer is long enough
+work-long : (c : tie.Start) → pointsOf (c .args .l) ≤ length (c .args .work .now)
+work-long c = rw (c .pre .2) (bytes-long (c .args .l))
 
 close-grid-requires : tie.Need-close-grid-requires
-close-grid-requires c κs = (c .before .before .before .before .before .before .pre .1, second-long (c .before .before .before .before .before .before))
+close-grid-requires c κs = (c .before .before .before .before .before .before .pre .1, work-long (c .before .before .before .before .before .before))
 
 cells-requires : tie.Need-cells-requires
 cells-requires c κs = search needs
 
 list-quads-requires : tie.Need-list-quads-requires
 list-quads-requires c κs =
-    let s = c .before .before .before .before .before .before .before .before .before .before .before .before .before .before .before in
-    let k = c .before .before .before .before .before .before .before .before .close-grid in
-    rw (c .before .before .before .cells .ensures) (
-      cells-most (s .args .l),
-      record { g-long = k .ensures .ready .long; s-long = rw (k .kept .1 .1 .0) (second-long s); grid = k .ensures .ready .grid },
-    )
+    let s = c .before .before .before .before .before .before .before .before .before .before .before .before .before .before in
+    let k = c .before .before .before .before .before .before .before .close-grid in
+    rw (c .before .before .cells .ensures) (cells-most (s .args .l), k .ensures .long, k .ensures .grid)
 
 enum-known-quads : tie.Need-enum-known-quads
 enum-known-quads c = search needs
 
 count-inside-requires : tie.Need-count-inside-requires
-count-inside-requires c κs = rw (c .before .before .before .before .before .before .before .before .before .before .before .before .before .before .before .close-grid .kept .1 .1 .0) (second-long (c .before .before .before .before .before .before .before .before .before .before .before .before .before .before .before .before .before .before .before .before .before .before))
+count-inside-requires c κs = c .before .before .before .before .before .before .before .before .before .before .before .before .before .before .close-grid .ensures .long
 
 put-listing-requires : tie.Need-put-listing-requires
 put-listing-requires c κs =
-    let s = c .before .before .before .before .before .before .before .before .before .before .before .before .before .before .before .before .before .before .before .before .before .before .before .before .before in
+    let s = c .before .before .before .before .before .before .before .before .before .before .before .before .before .before .before .before .before .before .before .before .before .before .before .before in
     let q = c .before .before .before .before .before .before .before .before .before .list-quads in
     let r = listed-room _ _ _ _ _ _ (rw (c .before .before .before .before .before .quads .given .1) at (q .ensures)) in
     let e : length (s .args .list .now) ≡ 32768 = ap length (s .pre .3) ∙ list-long in
-    (omega (arith, r, e, s .pre .4), omega (arith, r, q .kept .1 .1 .1 .0))
+    (omega (arith, r, e, s .pre .4), omega (arith, r, q .kept .1 .1 .0))
 
 number-requires : tie.Need-number-requires
 number-requires c κs = search needs
@@ -67,11 +64,11 @@ same-length-4 c = search needs
 
 returns : tie.Need-returns
 returns c =
-    let s = c .before .before .before .before .before .before .before .before .before .before .before .before .before .before .before .before .before .before .before .before .before .before .before .before .before .before .before .before in
-    let k = c .before .before .before .before .before .before .before .before .before .before .before .before .before .before .before .before .before .before .before .before .before .close-grid in
+    let s = c .before .before .before .before .before .before .before .before .before .before .before .before .before .before .before .before .before .before .before .before .before .before .before .before .before .before .before in
+    let k = c .before .before .before .before .before .before .before .before .before .before .before .before .before .before .before .before .before .before .before .before .close-grid in
     let p = c .before .before .put-listing .ensures in
-    let e = rw (c .before .before .before .before .before .before .before .before .quads .given .1, c .before .before .before .before .before .before .before .before .before .before .before .before .before .before .before .before .cells .ensures, s .pre .3) at (c .before .before .before .before .before .before .before .before .before .before .before .before .list-quads .ensures) in
-    let i = listing-is (s .args .l) _ (rw (s .pre .2) at (k .ensures)) (s .args .triangles) (rw (k .kept .1 .1 .0) (second-long s)) _ _ _ e (c .before .before .before .before .before .count-inside .ensures) in
+    let e = rw (c .before .before .before .before .before .before .before .before .quads .given .1, c .before .before .before .before .before .before .before .before .before .before .before .before .before .before .before .cells .ensures, s .pre .3) at (c .before .before .before .before .before .before .before .before .before .before .before .before .list-quads .ensures) in
+    let i = listing-is (s .args .l) _ (rw (s .pre .2) at (k .ensures)) (s .args .triangles) _ _ _ e (c .before .before .before .before .before .count-inside .ensures) in
     (rw (s .pre .0, ← i) (rw (s .pre .0) at (p .0)), p .1)
 
 same-length-5 : tie.Need-same-length-5
@@ -88,11 +85,11 @@ same-length-8 c = search needs
 
 returns-2 : tie.Need-returns-2
 returns-2 c =
-    let s = c .before .before .before .before .before .before .before .before .before .before .before .before .before .before .before .before .before .before .before .before .before .before .before .before .before .before in
-    let k = c .before .before .before .before .before .before .before .before .before .before .before .before .before .before .before .before .before .before .before .close-grid in
+    let s = c .before .before .before .before .before .before .before .before .before .before .before .before .before .before .before .before .before .before .before .before .before .before .before .before .before in
+    let k = c .before .before .before .before .before .before .before .before .before .before .before .before .before .before .before .before .before .before .close-grid in
     let p = c .before .before .put-refusal .ensures in
-    let e = rw (c .before .before .before .before .before .before .why .given .1, c .before .before .before .before .before .before .before .before .before .before .before .before .before .before .cells .ensures, s .pre .3) at (c .before .before .before .before .before .before .before .before .before .before .list-quads .ensures) in
-    let i = refused-is (s .args .l) _ (rw (s .pre .2) at (k .ensures)) (s .args .triangles) (rw (k .kept .1 .1 .0) (second-long s)) _ (c .before .before .before .before .before .before .why .given .0 .0) e in
+    let e = rw (c .before .before .before .before .before .before .why .given .1, c .before .before .before .before .before .before .before .before .before .before .before .before .before .cells .ensures, s .pre .3) at (c .before .before .before .before .before .before .before .before .before .before .list-quads .ensures) in
+    let i = refused-is (s .args .l) _ (rw (s .pre .2) at (k .ensures)) (s .args .triangles) _ (c .before .before .before .before .before .before .why .given .0 .0) e in
     (rw (s .pre .0, ← i, ← c .before .before .before .number .ensures) (p .0), p .1)
 
 pub report-spec : {M : Type 1} → statement M

@@ -12,21 +12,21 @@ use Rattle.reporting.proofs.Reports.{picture-is}
 use Rattle.reporting.proofs.show.Statement.{statement}
 use Rattle.reporting.proofs.show.Tie as tie
 
--- the second buffer is long enough
-second-long : (c : tie.Start) → pointsOf (c .args .l) ≤ length (c .args .second .now)
-second-long c = rw (c .pre .1) (bytes-long (c .args .l))
+-- the work buffer is long enough
+work-long : (c : tie.Start) → pointsOf (c .args .l) ≤ length (c .args .work .now)
+work-long c = rw (c .pre .1) (bytes-long (c .args .l))
 
 close-grid-requires : tie.Need-close-grid-requires
-close-grid-requires c κs = (c .before .before .before .before .before .pre .0, second-long (c .before .before .before .before .before))
+close-grid-requires c κs = (c@S .pre .0, work-long c@S)
 
 cells-requires : tie.Need-cells-requires
 cells-requires c κs = search needs
 
 put-picture-requires : tie.Need-put-picture-requires
 put-picture-requires c κs =
-    let s = c .before .before .before .before .before .before .before .before .before .before .before .before .before in
-    rw (c .before .cells .ensures)
-    (cells-most (s .args .l), rw (c .before .before .before .before .before .before .before .close-grid .kept .1 .1 .0) (second-long s), omega (arith, points-most (s .args .l), s .pre .2))
+    let s = c@S in
+    rw (c@cells .ensures)
+    (cells-most (s .args .l), c@close-grid .ensures .long, omega (arith, points-most (s .args .l), s .pre .2))
 
 same-length : tie.Need-same-length
 same-length c = search needs
@@ -39,9 +39,9 @@ same-length-3 c = search needs
 
 returns : tie.Need-returns
 returns c =
-    let s = c .before .before .before .before .before .before .before .before .before .before .before .before .before .before .before .before in
-    let p = rw (c .before .before .before .before .cells .ensures) at (c .before .before .put-picture .ensures) in
-    (rw (sym (picture-is (s .args .l) _ (rw (s .pre .1) at (c .before .before .before .before .before .before .before .before .before .before .close-grid .ensures)))) (p .0), p .1)
+    let s = c@S in
+    let p = rw (c@cells .ensures) at (c@put-picture .ensures) in
+    (rw (sym (picture-is (s .args .l) _ (rw (s .pre .1) at (c@close-grid .ensures)))) (p .0), p .1)
 
 pub show-spec : {M : Type 1} → statement M
 show-spec =

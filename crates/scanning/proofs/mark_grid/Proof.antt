@@ -29,7 +29,7 @@ returns c =
     let s = c .before .before .before .before in
     let g = s .args .grid .now in
     let a = bare-none (s .args .l) (s .args .t) (c .before .before .box-of .result) (c .before .before .box-of .ensures) (sym (c .before .is-bare .ensures) ∙ c .if1 .taken) g in
-    added-written (cellsOf (s .args .l)) (met (s .args .l) (s .args .t)) g g (s .pre .1 .0) (s .pre .1 .1) a
+    added-written (cellsOf (s .args .l)) (met (s .args .l) (s .args .t)) g g (s .pre .1 .0) (s .pre .1 .1) (s .pre .1 .2) a
 
 mark-box-requires : tie.Need-mark-box-requires
 mark-box-requires c κs =
@@ -43,7 +43,7 @@ returns-2 : tie.Need-returns-2
 unfolding marked
 returns-2 c =
     let s = c .before .before .before .before .before .before .before .before in
-    added-written (cellsOf (s .args .l)) (met (s .args .l) (s .args .t)) (s .args .grid .now) _ (s .pre .1 .0) (s .pre .1 .1) (c .before .before .mark-box .ensures)
+    added-written (cellsOf (s .args .l)) (met (s .args .l) (s .args .t)) (s .args .grid .now) _ (s .pre .1 .0) (s .pre .1 .1) (s .pre .1 .2) (c .before .before .mark-box .ensures)
 
 pub mark-grid-spec : {M : Type 1} → statement M
 mark-grid-spec =

@@ -15,28 +15,24 @@ use Rattle.refusals.specs.Columns.{badLevel, levelAt}
 use Rattle.refusals.proofs.Levels.{read-unknown, read-known}
 use Rattle.signing.specs.Call.{done, signRows, signCall}
 use Rattle.signing.proofs.sign.Statement.{statement}
-use native.Mathlib.Omega.{arith}
 use Rattle.signing.proofs.sign.Tie as tie
 
 -- the tests passed on the way
 level-read : (c : tie.After-points) →
-    let s = c .before .before .before .before .before .before .before .before in
+    let s = c .before .before .before .before .before .before .before in
     (badLevel (s .args .level) ≡ false) × (levelAt (s .args .level) ≡ c .before .before .before .l .given .0 .0)
 level-read c = read-known _ _ (sym (c .before .before .before .before .before .read .ensures) ∙ c .before .before .before .l .given .1)
 
-grid-long : (c : tie.Else1) → pointsOf (c .before .before .before .before .l .given .0 .0) ≤ length (c .before .before .before .before .before .before .before .before .before .args .grid .now)
+grid-long : (c : tie.Else1) → pointsOf (c .before .before .before .before .l .given .0 .0) ≤ length (c .before .before .before .before .before .before .before .before .args .grid .now)
 grid-long c = rw (c .before .points .ensures) at (c .if1 .left)
 
-signs-long : (c : tie.Else2) → pointsOf (c .before .before .before .before .before .l .given .0 .0) ≤ length (c .before .before .before .before .before .before .before .before .before .before .args .signs .now)
-signs-long c = let h = rw (c .before .before .points .ensures) at (c .if2 .left) in omega arith
+a-grid : (c : tie.Else2) → isGrid (cellsOf (c .before .before .before .before .before .before .before .l .given .0 .0)) (c .before .before .before .before .before .before .before .before .before .before .before .args .grid .now) ≡ true
+a-grid c = holds (rw (c .before .before .before .before .before .cells .ensures) at (c .before .is-grid .ensures)) (c .if2 .left)
 
-a-grid : (c : tie.Else3) → isGrid (cellsOf (c .before .before .before .before .before .before .before .l .given .0 .0)) (c .before .before .before .before .before .before .before .before .before .before .before .before .args .grid .now) ≡ true
-a-grid c = holds (rw (c .before .before .before .before .before .cells .ensures) at (c .before .is-grid .ensures)) (c .if3 .left)
-
-even : (c : tie.Else4) →
-    let n = cellsOf (c .before .before .before .before .before .before .before .before .before .l .given .0 .0) in
+even : (c : tie.Else3) →
+    let n = cellsOf (c .before .before .before .before .before .before .before .before .before .before .l .given .0 .0) in
     evenFaces n (marks n (c .before .before .before .before .before .before .before .before .before .before .before .before .before .before .args .grid .now)) ≡ true
-even c = holds (rw (c .before .before .before .before .before .before .before .cells .ensures) at (c .before .all-even .ensures)) (c .if4 .left)
+even c = holds (rw (c .before .before .before .before .before .before .before .before .cells .ensures) at (c .before .all-even .ensures)) (c .if3 .left)
 
 read-requires : tie.Need-read-requires
 read-requires c κs = search needs
@@ -61,42 +57,41 @@ returns-2 : tie.Need-returns-2
 unfolding signRows signCall
 returns-2 c = simp (level-read (c .before) .0, level-read (c .before) .1, lt-ltb _ _ (rw (c .before .points .ensures) at (c .if1 .taken)))
 
-returns-3 : tie.Need-returns-3
-unfolding signRows signCall
-returns-3 c = simp (level-read (c .before .before) .0, level-read (c .before .before) .1, le-ltb _ _ (grid-long (c .before)), lt-ltb _ _ (rw (c .before .before .points .ensures) at (c .if2 .taken)))
-
 is-grid-requires : tie.Need-is-grid-requires
 is-grid-requires c κs = rw (c .before .before .before .cells .ensures) (cells-most (c .before .before .before .before .before .l .given .0 .0), grid-long (c .before))
-
-returns-4 : tie.Need-returns-4
-unfolding signRows signCall
-returns-4 c =
-    let none = fails (rw (c .before .before .before .before .before .cells .ensures) at (c .before .is-grid .ensures)) (c .if3 .taken) in
-    simp (level-read (c .before .before .before .before) .0, level-read (c .before .before .before .before) .1, le-ltb _ _ (grid-long (c .before .before .before)), le-ltb _ _ (signs-long (c .before .before)), none)
-
-all-even-requires : tie.Need-all-even-requires
-all-even-requires c κs =
-    rw (c .before .before .before .before .before .cells .ensures) (cells-some (c .before .before .before .before .before .before .before .l .given .0 .0), cells-most (c .before .before .before .before .before .before .before .l .given .0 .0), grid-long (c .before .before .before), a-grid c)
-
-returns-5 : tie.Need-returns-5
-unfolding signRows signCall
-returns-5 c =
-    let some = fails (rw (c .before .before .before .before .before .before .before .cells .ensures) at (c .before .all-even .ensures)) (c .if4 .taken) in
-    simp (level-read (c .before .before .before .before .before .before) .0, level-read (c .before .before .before .before .before .before) .1, le-ltb _ _ (grid-long (c .before .before .before .before .before)), le-ltb _ _ (signs-long (c .before .before .before .before)), a-grid (c .before .before), some)
-
-sign-grid-requires : tie.Need-sign-grid-requires
-sign-grid-requires c κs =
-    rw (c .before .before .before .before .before .before .before .before .cells .ensures)
-    ((cells-most (c .before .before .before .before .before .before .before .before .before .before .l .given .0 .0), grid-long (c .before .before .before .before .before .before), signs-long (c .before .before .before .before .before)), (a-grid (c .before .before .before), even (c .before)))
 
 same-length : tie.Need-same-length
 same-length c = search needs
 
-returns-6 : tie.Need-returns-6
+returns-3 : tie.Need-returns-3
 unfolding signRows signCall
-returns-6 c =
-    simp (level-read (c .before .before .before .before .before .before .before .before .before .before) .0, level-read (c .before .before .before .before .before .before .before .before .before .before) .1, le-ltb _ _ (grid-long (c .before .before .before .before .before .before .before .before .before)), le-ltb _ _ (signs-long (c .before .before .before .before .before .before .before .before)), a-grid (c .before .before .before .before .before .before), even (c .before .before .before .before))
-    (ap done (rw (c .before .before .before .before .before .before .before .before .before .before .before .cells .ensures) at (c .before .before .sign-grid .ensures)))
+returns-3 c =
+    let none = fails (rw (c .before .before .before .before .before .cells .ensures) at (c .before .is-grid .ensures)) (c .if2 .taken) in
+    simp (level-read (c .before .before .before .before) .0, level-read (c .before .before .before .before) .1, le-ltb _ _ (grid-long (c .before .before .before)), none)
+
+all-even-requires : tie.Need-all-even-requires
+all-even-requires c κs = rw (c .before .before .before .before .before .before .cells .ensures) (cells-some (c .before .before .before .before .before .before .before .before .l .given .0 .0), cells-most (c .before .before .before .before .before .before .before .before .l .given .0 .0), grid-long (c .before .before .before .before), a-grid (c .before))
+
+same-length-2 : tie.Need-same-length-2
+same-length-2 c = search needs
+
+returns-4 : tie.Need-returns-4
+unfolding signRows signCall
+returns-4 c =
+    let some = fails (rw (c .before .before .before .before .before .before .before .before .cells .ensures) at (c .before .all-even .ensures)) (c .if3 .taken) in
+    simp (level-read (c .before .before .before .before .before .before .before) .0, level-read (c .before .before .before .before .before .before .before) .1, le-ltb _ _ (grid-long (c .before .before .before .before .before .before)), a-grid (c .before .before .before), some)
+
+sign-grid-requires : tie.Need-sign-grid-requires
+sign-grid-requires c κs = rw (c .before .before .before .before .before .before .before .before .before .cells .ensures) ((cells-most (c .before .before .before .before .before .before .before .before .before .before .before .l .given .0 .0), grid-long (c .before .before .before .before .before .before .before)), (a-grid (c .before .before .before .before), even (c .before)))
+
+same-length-3 : tie.Need-same-length-3
+same-length-3 c = search needs
+
+returns-5 : tie.Need-returns-5
+unfolding signRows signCall
+returns-5 c =
+    simp (level-read (c .before .before .before .before .before .before .before .before .before .before .before) .0, level-read (c .before .before .before .before .before .before .before .before .before .before .before) .1, le-ltb _ _ (grid-long (c .before .before .before .before .before .before .before .before .before .before)), a-grid (c .before .before .before .before .before .before .before), even (c .before .before .before .before))
+    (ap done (rw (c .before .before .before .before .before .before .before .before .before .before .before .before .cells .ensures) at (c .before .before .sign-grid .ensures)))
 
 pub sign-spec : {M : Type 1} → statement M
 sign-spec =
@@ -109,11 +104,12 @@ sign-spec =
     cells-requires
     points-requires
     returns-2
-    returns-3
     is-grid-requires
-    returns-4
-    all-even-requires
-    returns-5
-    sign-grid-requires
     same-length
-    returns-6)
+    returns-3
+    all-even-requires
+    same-length-2
+    returns-4
+    sign-grid-requires
+    same-length-3
+    returns-5)

@@ -1,4 +1,4 @@
--- `say_inside` reads within its signs and ends. Assumes nothing.
+-- `say_inside` reads within its grid and ends. Assumes nothing.
 use borrow.Author.Needs.{needs}
 use Prim.Native.Nat.{_-_}
 use lib.ListN.{length}
@@ -6,19 +6,19 @@ use Rattle.surface_examples.proofs.say_inside.Statement.{statement}
 use Rattle.surface_examples.proofs.say_inside.Tie as tie
 
 abbrev Inv-loop : tie.InvT-loop
-Inv-loop signs p₀ p = Unit
+Inv-loop grid p₀ p = Unit
 
 abbrev μ-loop : tie.MeasureT-loop
-μ-loop signs p₀ p = length signs - p
+μ-loop grid p₀ p = length grid - p
 
 loop-holds : tie.Need-loop-holds Inv-loop μ-loop
 loop-holds c = search needs
 
-shared-slice-read-if1 : tie.Need-shared-slice-read-if1 Inv-loop μ-loop
-shared-slice-read-if1 c = search needs
+shared-slice-read-say-sign : tie.Need-shared-slice-read-say-sign Inv-loop μ-loop
+shared-slice-read-say-sign c = search needs
 
-say-place-requires : tie.Need-say-place-requires Inv-loop μ-loop
-say-place-requires c κs = search needs
+say-sign-requires : tie.Need-say-sign-requires Inv-loop μ-loop
+say-sign-requires c κs = search needs
 
 add-p : tie.Need-add-p Inv-loop μ-loop
 add-p c = search needs
@@ -39,8 +39,8 @@ say-inside-spec =
     Inv-loop
     μ-loop
     loop-holds
-    shared-slice-read-if1
-    say-place-requires
+    shared-slice-read-say-sign
+    say-sign-requires
     add-p
     loop-less
     loop-again

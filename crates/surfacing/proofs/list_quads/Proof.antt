@@ -22,8 +22,8 @@ returns c = simp (sym (c .before .count-quads .ensures .0), lt-ltb _ _ (c .if1 .
 write-quads-requires : tie.Need-write-quads-requires
 write-quads-requires c κs = search needs
 
-cast-t13 : tie.Need-cast-t13
-cast-t13 c = search needs
+cast-t12 : tie.Need-cast-t12
+cast-t12 c = search needs
 
 same-length : tie.Need-same-length
 same-length c = search needs
@@ -42,6 +42,6 @@ list-quads-spec =
     mul-if1
     returns
     write-quads-requires
-    cast-t13
+    cast-t12
     same-length
     returns-2)

@@ -1,6 +1,6 @@
 -- `surfacing::listing::put_quads` meets its contract: the quads of the three edges stand one behind the other. Assumes nothing.
 use borrow.Author.Needs.{needs}
-use mathlib.Core.Path.{refl, _≡_}
+use mathlib.Core.Path.{refl, sym, _≡_, _∙_}
 use mathlib.Core.List.{List}
 use Prim.Native.Nat.{ℕ, _+_, _*_, _≤_}
 use native.Mathlib.Nat.{add-zero}
@@ -14,10 +14,13 @@ use Rattle.surfacing.proofs.Quads.{quad-long, quads-long, quads-none, t
 use lib.ListN.{length}
 use Rattle.surfacing.proofs.listing.put_quads.Tie as tie
 
+low-requires : tie.Need-low-requires
+low-requires c κs = search needs
+
 returns : tie.Need-returns
 returns c =
-    let s = c .before .before in
-    simp (quads-none (s .args .n) (s .args .b) (s .args .inside) (s .args .q) (c .if1 .taken), add-zero) (refl, refl)
+    let s = c .before .before .before in
+    simp (quads-none (s .args .n) (s .args .b) (s .args .inside) (s .args .q) (sym (c .before .low .ensures .0) ∙ c .if1 .taken), add-zero) (refl, refl)
 
 -- four numbers for each mark, and so for all of them
 long : (s : tie.Start) (a : Axis) → length (byteQuad (s .args .n) (s .args .b) (s .args .inside) a (s .args .q)) ≡ 4 * value (has a (s .args .b)) 1
@@ -29,19 +32,19 @@ room s = rw (quads-long (s .args .n) (s .args .b) (s .args .inside) (s .args .q)
 -- the marks are on inner edges, and there is room for the quad of each
 put-quad-requires : tie.Need-put-quad-requires
 put-quad-requires c κs =
-    let s = c .before .before .before in
+    let s = c .before .before .before .before in
     let f = long s in
     (s .pre .0, search (needs, s .pre .1), omega (arith, f X, f Y, f Z, room s))
 
 put-quad-requires-2 : tie.Need-put-quad-requires-2
 put-quad-requires-2 c κs =
-    let s = c .before .before .before .before .before .before .before in
+    let s = c .before .before .before .before .before .before .before .before in
     let f = long s in
     (s .pre .0, search (needs, s .pre .1), omega (arith, f X, f Y, f Z, room s))
 
 put-quad-requires-3 : tie.Need-put-quad-requires-3
 put-quad-requires-3 c κs =
-    let s = c .before .before .before .before .before .before .before .before .before .before .before in
+    let s = c .before .before .before .before .before .before .before .before .before .before .before .before in
     let f = long s in
     (s .pre .0, search (needs, s .pre .1), omega (arith, f X, f Y, f Z, room s))
 
@@ -51,7 +54,7 @@ same-length c = search needs
 returns-2 : tie.Need-returns-2
 unfolding byteQuads
 returns-2 c =
-    let s = c .before .before .before .before .before .before .before .before .before .before .before .before .before .before in
+    let s = c .before .before .before .before .before .before .before .before .before .before .before .before .before .before .before in
     let f : Axis → List ℕ = λ a. byteQuad (s .args .n) (s .args .b) (s .args .inside) a (s .args .q) in
     three-written (s .args .list .now) (s .args .at) (f X) (f Y) (f Z) (c .before .before .before .before .before .before .before .before .before .before .put-quad .ensures)
     (c .before .before .before .before .before .before .put-quad2 .ensures) (c .before .before .put-quad3 .ensures)
@@ -60,6 +63,7 @@ pub put-quads-spec : {M : Type 1} → statement M
 put-quads-spec =
     tie.close
     (tie.spec
+    low-requires
     returns
     put-quad-requires
     put-quad-requires-2

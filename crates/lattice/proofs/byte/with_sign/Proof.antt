@@ -1,0 +1,25 @@
+-- `with_sign` meets its contract. Assumes nothing.
+use mathlib.Core.Path.{sym}
+use native.Mathlib.Nat.{add-zero}
+use native.Mathlib.Omega.{arith}
+use borrow.Author.Needs.{needs}
+use Rattle.lattice.proofs.byte.with_sign.Statement.{statement}
+use Rattle.lattice.proofs.byte.with_sign.Tie as tie
+
+low-requires : tie.Need-low-requires
+low-requires c κs = search needs
+
+packed-requires : tie.Need-packed-requires
+packed-requires c κs = search needs
+
+returns : tie.Need-returns
+returns c = rw (c .before .before .if1 .taken, c .packed .ensures, c .before .low .ensures .0)
+
+low-requires-2 : tie.Need-low-requires-2
+low-requires-2 c κs = search needs
+
+returns-2 : tie.Need-returns-2
+returns-2 c = rw (c .before .if1 .left, c .low2 .ensures .0) (sym (add-zero _))
+
+pub with-sign-spec : {M : Type 1} → statement M
+with-sign-spec = tie.close (tie.spec low-requires packed-requires returns low-requires-2 returns-2)
