@@ -23,7 +23,7 @@ static uint8_t came[MOST_POINTS], grid[MOST_POINTS], other[MOST_POINTS];
 static uint16_t list[LIST_ROOM];
 static int32_t triangles[MOST_TIMED][9];
 static int triangle_count;
-static uint32_t counts[2];
+static uint32_t counts[4];
 static uint8_t file[STL_BYTES];
 static int32_t numbers[9 * STL_TRIANGLES];
 
@@ -67,7 +67,7 @@ static void run_mark(const struct calls *calls)
 
 static void run_patch(const struct calls *calls)
 {
-    hold(calls->patch(level, grid, sizeof grid, other, sizeof other, &counts[0], &counts[1]));
+    hold(calls->patch(level, grid, sizeof grid, other, sizeof other, &counts[0], &counts[1], &counts[2], &counts[3]));
 }
 
 static void run_sign(const struct calls *calls)

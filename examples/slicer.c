@@ -55,10 +55,11 @@ int main(int words, char **word)
     }
     fclose(model);
 
-    uint32_t rims, flips, quads;
-    done("patch", omphirun_patch((uint32_t)level, grid, sizeof grid, work, sizeof work, &rims, &flips));
+    uint32_t rims, flips, ones, threes, quads;
+    done("patch", omphirun_patch((uint32_t)level, grid, sizeof grid, work, sizeof work, &rims, &flips, &ones, &threes));
     done("sign", omphirun_sign((uint32_t)level, grid, sizeof grid));
     printf("%u rims closed by %u flips\n", (unsigned)rims, (unsigned)flips);
+    printf("%u faces with one mark, where the model lacks faces; %u with three, where extra walls meet\n", (unsigned)ones, (unsigned)threes);
 
     /* A layer of points is a run of (n+1)^2 bytes. */
     size_t row = OMPHIRUN_CELLS(level) + 1, layer = row * row;

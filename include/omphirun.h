@@ -49,7 +49,7 @@
    What the caller owes, and no call can check:
    - each pointer to a buffer is valid for as many elements as its length says, and aligned for them; lengths are in elements. A null
      pointer is fine where the length is 0: that is an empty buffer;
-   - each pointer to a count (place, axis, rims, flips, quads, triangles) is valid: it is written in every case, so it is never null;
+   - each pointer to a count (place, axis, rims, flips, ones, threes, quads, triangles) is valid: it is written in every case, so it is never null;
    - no buffer or count that a call writes overlaps another one of that call. Two that it only reads may;
    - OMPHIRUN_STACK bytes of stack are left. The calls take no memory but that and what is lent, and keep no state.
    Every other misuse is a refusal. Each promise here is a theorem about the code behind it, under these conditions. That calls with
@@ -66,7 +66,7 @@ extern "C" {
 #endif
 
 /* The version: the first number rises when a caller has to change, the second when there is something new. It stands here alone. */
-#define OMPHIRUN_MAJOR 4
+#define OMPHIRUN_MAJOR 5
 #define OMPHIRUN_MINOR 0
 #define OMPHIRUN_PATCH 0
 
@@ -128,10 +128,12 @@ uint32_t omphirun_mark(uint32_t level, uint8_t *grid, size_t grid_len, const int
 /* Patch. Marks are added and taken away until every face of every cell has an even number of marked edges, and all signs are cleared. The first P work bytes
    are 0 afterwards, whatever they held. *rims is the number of rims, which are the faces with an odd number of marks, taken
    together where they touch by a cell; *flips is the number of edges whose mark differs between entry and exit. No edge is altered
-   unless all four cells around it lie in the box of one rim.
-   Refusals: 1, 2, 5, with *rims and *flips 0. */
+   unless all four cells around it lie in the box of one rim. *ones and *threes are the numbers of faces with one marked edge and with
+   three, as the grid came in: where the marked surface ends, because the model lacks faces, and where three sheets of it meet, because
+   it has extra walls. Together they are the odd faces, and both are 0 exactly when *rims is.
+   Refusals: 1, 2, 5, with all four counts 0. */
 uint32_t omphirun_patch(uint32_t level, uint8_t *grid, size_t grid_len, uint8_t *work, size_t work_len, uint32_t *rims,
-                        uint32_t *flips);
+                        uint32_t *flips, uint32_t *ones, uint32_t *threes);
 
 /* Sign. Value 8 of the first P bytes is set inside and taken away outside, whatever signs there were; the marks stay. Point (0,0,0) is
    outside, and two ends of an edge differ exactly when the edge is marked. There is exactly one such assignment when no face is odd, as

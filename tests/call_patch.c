@@ -12,13 +12,16 @@ static void make(struct random *r, const struct measures *m, struct input *in)
 
 static uint32_t run(const struct calls *calls, const struct input *lent, uint64_t *counts)
 {
-    uint32_t rims = untouched, flips = untouched;
-    uint32_t answer = calls->patch(lent->level, lent->buffer[GRID], lent->len[GRID], lent->buffer[WORK], lent->len[WORK], &rims, &flips);
+    uint32_t rims = untouched, flips = untouched, ones = untouched, threes = untouched;
+    uint32_t answer = calls->patch(lent->level, lent->buffer[GRID], lent->len[GRID], lent->buffer[WORK], lent->len[WORK], &rims, &flips,
+                                   &ones, &threes);
     counts[0] = rims;
     counts[1] = flips;
+    counts[2] = ones;
+    counts[3] = threes;
     return answer;
 }
 
 const struct call call_patch = {.name = "patch", .share = 250, .buffers = 1u << GRID | 1u << WORK,
-                                .answers = 1u << 0 | 1u << 1 | 1u << 2 | 1u << 5, .counts = {"rims", "flips"},
+                                .answers = 1u << 0 | 1u << 1 | 1u << 2 | 1u << 5, .counts = {"rims", "flips", "ones", "threes"},
                                 .make = make, .run = run};

@@ -11,7 +11,7 @@ struct calls {
     uint32_t (*mark)(uint32_t level, uint8_t *grid, size_t grid_len, const int32_t *triangle, size_t triangle_len, uint32_t *place,
                      uint32_t *axis);
     uint32_t (*patch)(uint32_t level, uint8_t *grid, size_t grid_len, uint8_t *work, size_t work_len, uint32_t *rims,
-                      uint32_t *flips);
+                      uint32_t *flips, uint32_t *ones, uint32_t *threes);
     uint32_t (*sign)(uint32_t level, uint8_t *grid, size_t grid_len);
     uint32_t (*surface)(uint32_t level, const uint8_t *grid, size_t grid_len, uint16_t *list, size_t list_len, uint32_t *quads);
     uint32_t (*read_stl)(const uint8_t *file, size_t file_len, int32_t e, int32_t *list, size_t list_len, uint32_t *triangles,

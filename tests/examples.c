@@ -11,7 +11,7 @@ enum { POINTS = 125, MOST_QUADS = 125 * 3 };
 /* Marks and points are written by their coordinates: x(1,2,2) is x122, point (2,2,2) is 222. */
 struct example {
     const char *name, *marks;
-    uint32_t rims, flips;
+    uint32_t rims, flips, ones, threes;
     const char *patched, *inside;
 };
 
@@ -19,20 +19,22 @@ static const char six[] = "x122 x222 y212 y222 z221 z222";
 static const char ten[] = "x122 x322 y212 y222 y312 y322 z221 z222 z321 z322";
 
 static const struct example examples[] = {
-    {"example 1", "", 0, 0, "", ""},
-    {"example 2", six, 0, 0, six, "222"},
-    {"example 3", "x122 y212 y222 z221 z222", 1, 1, six, "222"},
-    {"example 4", "x222", 1, 1, "", ""},
-    {"example 5", "x011 x233", 2, 2, "", ""},
-    {"example 6", "x222 x233", 1, 2, "", ""},
-    {"example 7", "x122 x322 y212 y312 z221 z222 z321 z322", 1, 2, ten, "222 322"},
-    {"a sheet without its middle", "x211 x221 x231 x212 x232 x213 x223 x233", 2, 8, "", ""},
-    {"two rims in one plane", "y101 y111", 2, 2, "", ""},
-    {"equal sides cut y before z", "x122 x123 z122 z133", 1, 6, "x022 x122 y112 y122 z121 z122", "122"},
-    {"equal sides cut x first", "x232 y232", 1, 2, "", ""},
-    {"the cut plane rounded down", "y222 y311 z321", 1, 3, "", ""},
-    {"pairs by rising number", "y321 y331 z230", 1, 5, "x231 x331 y321 y331 z330 z331", "331"},
-    {"the earlier axis first", "z211 y211", 1, 4, "x111 x211 y201 y211 z210 z211", "211"},
+    {"example 1", "", 0, 0, 0, 0, "", ""},
+    {"example 2", six, 0, 0, 0, 0, six, "222"},
+    {"example 3", "x122 y212 y222 z221 z222", 1, 1, 4, 0, six, "222"},
+    {"example 4", "x222", 1, 1, 4, 0, "", ""},
+    {"example 5", "x011 x233", 2, 2, 8, 0, "", ""},
+    {"example 6", "x222 x233", 1, 2, 8, 0, "", ""},
+    {"example 7", "x122 x322 y212 y312 z221 z222 z321 z322", 1, 2, 6, 0, ten, "222 322"},
+    {"a sheet without its middle", "x211 x221 x231 x212 x232 x213 x223 x233", 2, 8, 16, 0, "", ""},
+    {"two rims in one plane", "y101 y111", 2, 2, 8, 0, "", ""},
+    {"equal sides cut y before z", "x122 x123 z122 z133", 1, 6, 13, 1, "x022 x122 y112 y122 z121 z122", "122"},
+    {"equal sides cut x first", "x232 y232", 1, 2, 6, 0, "", ""},
+    {"the cut plane rounded down", "y222 y311 z321", 1, 3, 10, 0, "", ""},
+    {"pairs by rising number", "y321 y331 z230", 1, 5, 12, 0, "x231 x331 y321 y331 z330 z331", "331"},
+    {"three edges of a face", "x222 x232 y222", 1, 3, 9, 1, "", ""},
+    {"four edges of a face", "x222 x232 y222 y322", 1, 4, 12, 0, "", ""},
+    {"the earlier axis first", "z211 y211", 1, 4, 6, 0, "x111 x211 y201 y211 z210 z211", "211"},
 };
 
 static const uint16_t listing[24] = {21, 25, 26, 22, 21, 22, 38, 37, 21, 37, 41, 25,
@@ -68,14 +70,15 @@ static void run_example(const struct calls *calls, const struct example *e)
 {
     uint8_t grid[POINTS], work[POINTS], patched[POINTS], none[POINTS] = {0};
     uint16_t list[4 * MOST_QUADS];
-    uint32_t rims, flips, quads, marks = 0;
+    uint32_t rims, flips, ones, threes, quads, marks = 0;
     read_names(e->marks, grid);
     read_names(e->patched, patched);
     for (int p = 0; p < POINTS; p++)
         marks += (uint32_t)((patched[p] & 1) + (patched[p] >> 1 & 1) + (patched[p] >> 2));
     memset(work, 255, POINTS);
-    hold(calls->patch(2, grid, POINTS, work, POINTS, &rims, &flips) == 0, e->name, "patch is done");
+    hold(calls->patch(2, grid, POINTS, work, POINTS, &rims, &flips, &ones, &threes) == 0, e->name, "patch is done");
     hold(rims == e->rims && flips == e->flips, e->name, "rims and flips");
+    hold(ones == e->ones && threes == e->threes, e->name, "faces with one mark and with three");
     hold(!memcmp(grid, patched, POINTS) && !memcmp(work, none, POINTS), e->name, "the patched grid, work bytes 0");
     add_names(e->inside, patched);
     hold(calls->sign(2, grid, POINTS) == 0 && !memcmp(grid, patched, POINTS), e->name, "the points inside, and the marks as they were");
@@ -174,8 +177,8 @@ static void run_refusals(const struct calls *calls)
 static void run_clearing(const struct calls *calls, const char *name)
 {
     uint8_t grid[POINTS], came[POINTS], work[POINTS], expected[POINTS];
-    uint32_t one, two;
-    int32_t nothing[9] = {400000, 400000, 400000, 400000, 400000, 400000, 400000, 400000, 400000};
+    uint32_t one, two, three, four;
+    int32_t nothing[9] = {200000, 200000, 200000, 200000, 200000, 200000, 200000, 200000, 200000};
     read_names(six, expected);
     read_names(six, came);
     add_names("222 000 444", came);
@@ -183,8 +186,8 @@ static void run_clearing(const struct calls *calls, const char *name)
     hold(calls->mark(2, grid, POINTS, nothing, 9, &one, &two) == 0 && !memcmp(grid, expected, POINTS), name, "mark clears signs where it adds nothing");
     memcpy(grid, came, POINTS);
     hold(calls->mark(2, grid, POINTS, nothing, 8, &one, &two) == 3 && !memcmp(grid, came, POINTS), name, "a refused mark clears none");
-    hold(calls->patch(2, grid, POINTS, work, POINTS, &one, &two) == 0 && one + two == 0 && !memcmp(grid, expected, POINTS), name,
-         "patch clears signs, which are no marks");
+    hold(calls->patch(2, grid, POINTS, work, POINTS, &one, &two, &three, &four) == 0 && one + two + three + four == 0 && !memcmp(grid, expected, POINTS),
+         name, "patch clears signs, which are no marks");
     memset(grid, 15, POINTS);
     hold(calls->open(2, grid, POINTS) == 0 && !memchr(grid, 15, POINTS), name, "open clears signs");
     memcpy(grid, came, POINTS);

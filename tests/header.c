@@ -40,7 +40,7 @@ static void hold_place(uint32_t place, uint32_t axis, uint32_t expected)
 int main(void)
 {
     uint8_t grid[OMPHIRUN_POINTS(2)];
-    uint32_t one = 9, two = 9;
+    uint32_t one = 9, two = 9, three = 9, four = 9;
     const int32_t low[9] = {262144, 0}, high[9] = {262144, 262144, 262144, 262144, 262144, 524287};
     memset(grid, 0, sizeof grid);
     hold(omphirun_open(1, NULL, 0), OMPHIRUN_BAD_LEVEL, "open");
@@ -52,10 +52,10 @@ int main(void)
     hold_place(one, two, 1);
     hold(omphirun_mark(2, grid, sizeof grid, high, 9, &one, &two), OMPHIRUN_ABOVE_RANGE, "mark");
     hold_place(one, two, 5);
-    one = two = 9;
-    hold(omphirun_patch(2, NULL, 0, NULL, 0, &one, &two), OMPHIRUN_SHORT_BUFFER, "patch");
-    hold(one + two, OMPHIRUN_DONE, "patch's counts");
-    hold(omphirun_patch(2, grid, sizeof grid, NULL, 0, &one, &two), OMPHIRUN_SHORT_BUFFER, "patch");
+    one = two = three = four = 9;
+    hold(omphirun_patch(2, NULL, 0, NULL, 0, &one, &two, &three, &four), OMPHIRUN_SHORT_BUFFER, "patch");
+    hold(one + two + three + four, OMPHIRUN_DONE, "patch's counts");
+    hold(omphirun_patch(2, grid, sizeof grid, NULL, 0, &one, &two, &three, &four), OMPHIRUN_SHORT_BUFFER, "patch");
     hold(omphirun_sign(2, NULL, 0), OMPHIRUN_SHORT_BUFFER, "sign");
     hold(omphirun_surface(2, NULL, 0, NULL, 0, &one), OMPHIRUN_SHORT_BUFFER, "surface");
     hold(omphirun_surface(2, grid, sizeof grid, NULL, 0, &one), OMPHIRUN_DONE, "surface without quads");

@@ -91,8 +91,8 @@ void make_signs(struct random *r, const struct measures *m, uint32_t level, uint
 void patch_grid(struct input *in)
 {
     static uint8_t work[POINT_ROOM];
-    uint32_t level = known_level(in->level) ? in->level : 2, unused[2];
-    reference_patch(level, in->buffer[GRID], POINT_ROOM, work, POINT_ROOM, &unused[0], &unused[1]);
+    uint32_t level = known_level(in->level) ? in->level : 2, unused[4];
+    reference_patch(level, in->buffer[GRID], POINT_ROOM, work, POINT_ROOM, &unused[0], &unused[1], &unused[2], &unused[3]);
 }
 
 static const struct call *choose(struct random *r)

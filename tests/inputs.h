@@ -12,7 +12,7 @@
 #include "reference_grid.h"
 
 enum buffer { GRID, WORK, TRIANGLE, LIST, STL, NUMBERS, BUFFERS };
-enum { POINT_ROOM = 40000, TRIANGLE_ROOM = 24, LIST_ROOM = 4 * 3 * 31 * 31 * 32 + 1000, MOST_COUNTS = 2 };
+enum { POINT_ROOM = 40000, TRIANGLE_ROOM = 24, LIST_ROOM = 4 * 3 * 31 * 31 * 32 + 1000, MOST_COUNTS = 4 };
 enum { MOST_STL = 40, STL_ROOM = 84 + 50 * (MOST_STL + 2), NUMBERS_ROOM = 9 * MOST_STL + 40 };
 enum { MOST_CALLS = 32, MOST_ANSWERS = 32 };
 

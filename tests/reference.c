@@ -22,8 +22,8 @@ static int some_face_is_odd(const struct measures *m, const uint8_t *grid)
         for (int j = 0; j <= m->n; j++)
             for (int i = 0; i <= m->n; i++, p++) {
                 int inside_i = i < m->n, inside_j = j < m->n, inside_k = k < m->n;
-                if ((inside_j && inside_k && odd_face(m, grid, X, p)) || (inside_i && inside_k && odd_face(m, grid, Y, p)) ||
-                    (inside_i && inside_j && odd_face(m, grid, Z, p)))
+                if ((inside_j && inside_k && is_odd(face_marks(m, grid, X, p))) || (inside_i && inside_k && is_odd(face_marks(m, grid, Y, p))) ||
+                    (inside_i && inside_j && is_odd(face_marks(m, grid, Z, p))))
                     return 1;
             }
     return 0;

@@ -10,7 +10,7 @@ uint32_t reference_open(uint32_t level, uint8_t *grid, size_t grid_len);
 uint32_t reference_mark(uint32_t level, uint8_t *grid, size_t grid_len, const int32_t *triangle, size_t triangle_len, uint32_t *place,
                         uint32_t *axis);
 uint32_t reference_patch(uint32_t level, uint8_t *grid, size_t grid_len, uint8_t *work, size_t work_len, uint32_t *rims,
-                         uint32_t *flips);
+                         uint32_t *flips, uint32_t *ones, uint32_t *threes);
 uint32_t reference_sign(uint32_t level, uint8_t *grid, size_t grid_len);
 uint32_t reference_surface(uint32_t level, const uint8_t *grid, size_t grid_len, uint16_t *list, size_t list_len, uint32_t *quads);
 

@@ -95,11 +95,17 @@ static inline int is_grid(const struct measures *m, const uint8_t *grid)
     return 1;
 }
 
-/* Whether the face square to an axis at point p has one or three marks; its four edges exist. */
-static inline int odd_face(const struct measures *m, const uint8_t *grid, int axis, int p)
+/* How many edges of the face square to an axis at point p are marked; its four edges exist. */
+static inline int face_marks(const struct measures *m, const uint8_t *grid, int axis, int p)
 {
     int b = earlier(axis), c = later(axis);
-    return has(grid, b, p) ^ has(grid, b, p + m->step[c]) ^ has(grid, c, p) ^ has(grid, c, p + m->step[b]);
+    return has(grid, b, p) + has(grid, b, p + m->step[c]) + has(grid, c, p) + has(grid, c, p + m->step[b]);
+}
+
+/* Whether a face with so many marks is odd. */
+static inline int is_odd(int marks)
+{
+    return marks == 1 || marks == 3;
 }
 
 /* Takes all signs out of a grid. */

@@ -22,19 +22,30 @@ struct spot {
 static uint8_t odd[MOST_POINTS], working[MOST_POINTS], flipped[MOST_POINTS], queued[MOST_POINTS];
 static struct cell queue[MOST_CELLS];
 
+/* How many faces of the grid have 0 to 4 marks. */
+static uint32_t faces_with[5];
+
+static void test_face(const struct measures *m, const uint8_t *grid, int axis, int p)
+{
+    int marks = face_marks(m, grid, axis, p);
+    faces_with[marks]++;
+    odd[p] |= (uint8_t)(is_odd(marks) << axis);
+}
+
 static void find_odd_faces(const struct measures *m, const uint8_t *grid)
 {
     memset(odd, 0, (size_t)m->points);
+    memset(faces_with, 0, sizeof faces_with);
     for (int k = 0, p = 0; k <= m->n; k++)
         for (int j = 0; j <= m->n; j++)
             for (int i = 0; i <= m->n; i++, p++) {
                 int inside_i = i < m->n, inside_j = j < m->n, inside_k = k < m->n;
                 if (inside_j && inside_k)
-                    odd[p] |= (uint8_t)(odd_face(m, grid, X, p) << X);
+                    test_face(m, grid, X, p);
                 if (inside_i && inside_k)
-                    odd[p] |= (uint8_t)(odd_face(m, grid, Y, p) << Y);
+                    test_face(m, grid, Y, p);
                 if (inside_i && inside_j)
-                    odd[p] |= (uint8_t)(odd_face(m, grid, Z, p) << Z);
+                    test_face(m, grid, Z, p);
             }
 }
 
@@ -174,9 +185,9 @@ static uint32_t apply_flips(const struct measures *m, uint8_t *grid)
 }
 
 uint32_t reference_patch(uint32_t level, uint8_t *grid, size_t grid_len, uint8_t *work, size_t work_len, uint32_t *rims,
-                         uint32_t *flips)
+                         uint32_t *flips, uint32_t *ones, uint32_t *threes)
 {
-    *rims = *flips = 0;
+    *rims = *flips = *ones = *threes = 0;
     if (!known_level(level))
         return 1;
     struct measures m = measures_of(level);
@@ -187,6 +198,8 @@ uint32_t reference_patch(uint32_t level, uint8_t *grid, size_t grid_len, uint8_t
     clear_signs(&m, grid);
     memset(flipped, 0, (size_t)m.points);
     *rims = each_rim(&m, grid, halve);
+    *ones = faces_with[1];
+    *threes = faces_with[3];
     *flips = apply_flips(&m, grid);
     memset(work, 0, (size_t)m.points);
     return 0;

@@ -81,6 +81,19 @@ def reports():
     hold(status == 0 and len(layers) == 33 * 33 and sum(row.count("#") for row in layers) == int(numbers[4]), "--picture prints the layers")
 
 
+def gaps_and_membranes():
+    """A model that lacks faces is told from one with an extra wall, and both from one that is closed."""
+    def told(model):
+        _, out, _ = run([os.path.join(ROOT, "models", f"{model}.bin")])
+        return [int(re.search(rf"^  {word} +(\d+)", out, re.M).group(1)) for word in ("missing", "walls")]
+
+    missing, walls = told("sphere_with_hole")
+    hold(missing > walls, f"a sphere with a hole lacks faces: {missing} missing, {walls} walls")
+    missing, walls = told("box_with_membrane")
+    hold(walls > missing, f"a box with a membrane has an extra wall: {missing} missing, {walls} walls")
+    hold(told("overlapping_boxes") == [0, 0], "two whole boxes lack nothing")
+
+
 def options():
     with open(os.path.join(ROOT, "include", "omphirun.h")) as file:
         version = ".".join(re.findall(r"^#define OMPHIRUN_(?:MAJOR|MINOR|PATCH) (\d+)", file.read(), re.M))
@@ -223,7 +236,7 @@ def hold_all(tests):
 
 if __name__ == "__main__":
     import script_build
-    failures = hold_all((reports, options, refusals, bad_coordinates, without_end, what_goes_wrong, early_reader, symlinks, interrupts))
+    failures = hold_all((reports, gaps_and_membranes, options, refusals, bad_coordinates, without_end, what_goes_wrong, early_reader, symlinks, interrupts))
     failures += hold_all(script_build.TESTS)
     print(f"tests/script: ./repair in {runs + script_build.runs()} runs, {failures} failures")
     sys.exit(1 if failures else 0)

@@ -1,4 +1,5 @@
 pub mod Points
+pub mod Wraps
 pub mod GridFacts
 pub mod Ahead
 pub mod Unsigning

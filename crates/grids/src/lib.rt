@@ -1,11 +1,13 @@
 // What every scan of the points needs: the point after a point, inner edges, "is a grid", signs taken out, "no face is odd".
+pub mod face;
+
+use crate::face::is_odd;
+use crate::face::lower_marks;
 use lattice::byte::bit;
 use lattice::byte::one_inside;
 use lattice::byte::with_sign;
-use lattice::cell::edge_rule;
 use lattice::level::point_count;
 use lattice::number_of;
-use lattice::odd;
 use rules::Axis;
 use rules::Point;
 ghost use mathlib.Core.Path.{_≡_};
@@ -13,8 +15,7 @@ ghost use mathlib.Core.Bool.{true, not, _||_, cond};
 ghost use Prim.Native.Nat.{_≤_};
 ghost use lib.ListN.{length};
 ghost use Rattle.rules.specs.Lists.{between};
-ghost use Rattle.rules.specs.Lattice.{inner, pointCount, pointOf};
-ghost use Rattle.rules.specs.Cell.{oddFace};
+ghost use Rattle.rules.specs.Lattice.{inner, pointCount};
 ghost use Rattle.rules.specs.Grid.{has, byteFits, isGrid, marks};
 ghost use Rattle.rules.specs.Lattice.{OfGrid};
 ghost use Rattle.rules.specs.Rims.{evenFaces};
@@ -191,55 +192,19 @@ pub fn clear_signs(n: usize, grid: &mut [u8]) -> bool
     true
 }
 
-// Whether the lower face square to a of the cell at point number `at` is odd. By literals, since a table read by a variable is laid out at each use.
-fn lower_odd(n: usize, grid: &[u8], at: usize, a: Axis) -> bool
-    requires { ⌜ (n ≤ 32) × (pointCount n ≤ length (now grid)) × (isGrid n (now grid) ≡ true) × Cell n (pointOf n at) ⌝ }
-    ensures { λ r. ⌜ r ≡ oddFace (marks n (now (grid .entry))) a (pointOf n at) ⌝ }
-{
-    match a {
-        Axis::X => odd(
-            n,
-            grid,
-            at,
-            edge_rule(4),
-            edge_rule(6),
-            edge_rule(8),
-            edge_rule(10),
-        ),
-        Axis::Y => odd(
-            n,
-            grid,
-            at,
-            edge_rule(0),
-            edge_rule(2),
-            edge_rule(8),
-            edge_rule(9),
-        ),
-        Axis::Z => odd(
-            n,
-            grid,
-            at,
-            edge_rule(0),
-            edge_rule(1),
-            edge_rule(4),
-            edge_rule(5),
-        ),
-    }
-}
-
 // Whether none of a cell's three lower faces is odd.
 fn lower_even(n: usize, grid: &[u8], c: Point) -> bool
     requires { ⌜ (n ≤ 32) × (pointCount n ≤ length (now grid)) × (isGrid n (now grid) ≡ true) × Cell n c ⌝ }
     ensures { λ r. ⌜ r ≡ lowerEven (marks n (now (grid .entry))) c ⌝ }
 {
     let at = number_of(n, c);
-    if lower_odd(n, grid, at, Axis::X) {
+    if is_odd(lower_marks(n, grid, at, Axis::X)) {
         return false;
     }
-    if lower_odd(n, grid, at, Axis::Y) {
+    if is_odd(lower_marks(n, grid, at, Axis::Y)) {
         return false;
     }
-    !lower_odd(n, grid, at, Axis::Z)
+    !is_odd(lower_marks(n, grid, at, Axis::Z))
 }
 
 // Whether no face of a grid is odd. Each face that can be is a lower face of one cell.

@@ -52,7 +52,7 @@ fn turn_face(n: usize, work: &mut [u8], at: usize, f: Place)
 
 // Reverses membership of the four faces of an inner edge in the working set: two lower ones of the cell above it, and two upper ones of the
 // cell below it. The edge is told by its axis and its point's number.
-pub fn turn_faces(n: usize, work: &mut [u8], at: usize, a: Axis)
+fn turn_faces(n: usize, work: &mut [u8], at: usize, a: Axis)
     requires { ⌜ (n ≤ 32) × (pointCount n ≤ length (now work)) × (at < pointCount n) × Edged n (record { axis = a; at = pointOf n at }) ⌝ }
     ensures { λ _. ⌜ now (work .exit) ≡ works n (record { axis = a; at = pointOf n at } ∷ []) (now (work .entry)) ⌝ }
 {

@@ -45,10 +45,6 @@ pub face-small : (f : ℕ) (e : Place) → e ≡ faceRule f → OfGrid 1 (e .at)
 unfolding faceRule
 face-small f e q = subst (λ (x : Place). OfGrid 1 (x .at)) (sym q) (small (axisOf (f % 3)) (f / 3 % 2) 0 0 (omega arith) (omega arith) (omega arith))
 
-pub edge-small : (k : ℕ) (e : Place) → e ≡ edgeRule k → OfGrid 1 (e .at)
-unfolding edgeRule
-edge-small k e q = subst (λ (x : Place). OfGrid 1 (x .at)) (sym q) (small (axisOf (k / 4)) 0 (k % 2) (k % 4 / 2) (omega arith) (omega arith) (omega arith))
-
 -- each of the twelve edges lies in exactly two of the six faces
 pub in-two-faces :
     allOf (λ k. eqb (count (samePlace (edgeRule k)) (each (λ f. faceEdges (faceRule f .axis) (faceRule f .at)) (upto 0 6))) 2) (upto 0 12) ≡ true

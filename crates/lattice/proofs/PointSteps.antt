@@ -77,11 +77,3 @@ number-down n a p h = sym (number-up n a (down a p)) ∙ ap (pointNumber n) (up-
 -- a place of the cell at (0,0,0), moved to another cell
 pub number-moved : (n : ℕ) (c : Point) (e : Place) → pointNumber n (moved c e .at) ≡ pointNumber n c + pointNumber n (e .at)
 number-moved n c e = omega arith
-
--- what lies that many points on from the cell at point number p is a point of the grid
-pub place-below : (n p : ℕ) (e : Place) → Cell n (pointOf n p) → OfGrid 1 (e .at) → p + pointNumber n (e .at) < pointCount n
-place-below n p e c h =
-    let m = number-moved n (pointOf n p) e in
-    let q = number-pointOf n p in
-    let b = num-below n (moved (pointOf n p) e .at) (omega arith) in
-    omega arith

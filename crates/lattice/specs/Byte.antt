@@ -76,9 +76,9 @@ seen b = flag b
 abbrev pub wayBack : ℕ → ℕ
 wayBack b = low b
 
--- the odd faces put by, as they were found in the lowest part: no working face, and the cell not seen
-abbrev pub oddPutBy : ℕ → ℕ
-oddPutBy b = packed 0 0 (low b)
+-- the odd faces of a cell, x, y and z, put by: no working face, and the cell not seen
+abbrev pub oddPutBy : Bool → Bool → Bool → ℕ
+oddPutBy x y z = packed 0 0 (value x 1 + (value y 2 + value z 4))
 
 -- the walk comes by face f: the cell is seen, and its odd faces stay
 abbrev pub entered : ℕ → ℕ → ℕ

@@ -1,14 +1,13 @@
 -- A cell's faces and edges, and turns of members of a set that a buffer's lowest three bits hold. Assumes nothing.
-use mathlib.Core.Bool.{Bool}
 use mathlib.Core.List.{List, [], _∷_}
 use Prim.Native.Nat.{ℕ, zero, suc, _+_, _*_, _/_, _%_, _<_}
 use lib.ListN.{getD, set}
-use Rattle.rules.specs.Lists.{_⊕_, each}
+use Rattle.rules.specs.Lists.{count, each}
 use Rattle.rules.specs.declared.Axis.{Axis}
 use Rattle.rules.specs.declared.Axis.the-variants.{X, Y, Z}
 use Rattle.rules.specs.declared.Point.{Point}
 use Rattle.rules.specs.declared.Place.{Place}
-use Rattle.rules.specs.Lattice.{earlier, later, up, down, origin, pointAt, Set, isIn, pointNumber}
+use Rattle.rules.specs.Lattice.{earlier, later, up, down, origin, pointAt, Set, isIn, OfGrid, pointNumber, pointCount}
 use Rattle.rules.specs.Grid.{has, toggle}
 use Rattle.lattice.specs.Byte.{high}
 
@@ -75,9 +74,14 @@ pub record Cell (n : ℕ) (p : Point) : Type 0 where
 abbrev pub bitsFrom : ℕ → List ℕ → ℕ → Set
 bitsFrom n g p a o = has a (getD g (p + pointNumber n o) 0)
 
--- an odd number of four edges is in the set
-abbrev pub oddOf : Set → Place → Place → Place → Place → Bool
-oddOf E e f g h = (isIn E e ⊕ isIn E f) ⊕ (isIn E g ⊕ isIn E h)
+-- an edge of the table exists as far on from point number p as it lies from (0,0,0)
+pub record Reached (n p : ℕ) (e : Place) : Type 0 where
+  pub is-point : OfGrid n (e .at)
+  pub below : p + pointNumber n (e .at) < pointCount n
+
+-- how many of four edges are in the set
+abbrev pub marksOf : Set → Place → Place → Place → Place → ℕ
+marksOf E e f g h = count (isIn E) (e ∷ (f ∷ (g ∷ (h ∷ []))))
 
 -- the set that the highest part of each byte holds, beside the one in its lowest part
 abbrev pub aside : ℕ → List ℕ → Set

@@ -35,6 +35,17 @@ pub fn bit(b: u8, a: Axis) -> bool
     }
 }
 
+// 1 where a byte has the mark of an axis, else 0.
+pub fn mark_bit(b: u8, a: Axis) -> u8
+    ensures { λ r. ⌜ (r ≡ value (has a b) 1) × (r ≤ 1) ⌝ }
+{
+    match a {
+        Axis::X => b % 2,
+        Axis::Y => b / 2 % 2,
+        Axis::Z => b / 4 % 2,
+    }
+}
+
 // A byte with the mark, or the working face, of an axis turned.
 fn turned(b: u8, a: Axis) -> u8
     ensures { λ r. ⌜ r ≡ toggle a b ⌝ }
@@ -112,11 +123,11 @@ pub fn changes(b: u8) -> u32
     (d % 2 + (d / 2 % 2 + d / 4 % 2)) as u32
 }
 
-// A work byte whose odd faces, found in its lowest part, are put by.
-pub fn odd_put_by(b: u8) -> u8
-    ensures { λ r. ⌜ r ≡ oddPutBy b ⌝ }
+// The work byte of a cell not yet seen, given which of its lower faces are odd.
+pub fn odd_put_by(x: bool, y: bool, z: bool) -> u8
+    ensures { λ r. ⌜ r ≡ oddPutBy x y z ⌝ }
 {
-    packed(0, 0, low(b))
+    packed(0, 0, (x as u8) + (2 * (y as u8) + 4 * (z as u8)))
 }
 
 // 1 where a work byte says that its cell's lower face on an axis is odd, else 0.

@@ -1,4 +1,4 @@
-// A point's number and its neighbours, the face test, and the small tools of every scan.
+// A point's number and its neighbours, and the small tools of every scan.
 pub mod byte;
 pub mod cell;
 pub mod level;
@@ -12,10 +12,9 @@ ghost use mathlib.Core.Path.{_≡_};
 ghost use Prim.Native.Nat.{_≤_, _<_, min, max};
 ghost use mathlib.Core.List.{_++_};
 ghost use lib.ListN.{length, getD, drop, replicate};
-ghost use Rattle.rules.specs.Lists.{_⊕_};
-ghost use Rattle.rules.specs.Lattice.{coord, earlier, later, up, isIn, pointNumber, pointCount, pointOf, OfGrid};
+ghost use Rattle.rules.specs.Lattice.{coord, earlier, later, up, pointNumber, pointCount, OfGrid};
 ghost use Rattle.rules.specs.Grid.{has};
-ghost use Rattle.lattice.specs.Cells.{indexOf, Cell, bitsFrom, oddOf, pointStep};
+ghost use Rattle.lattice.specs.Cells.{indexOf, pointStep};
 
 // The number of a point.
 pub fn number_of(n: usize, p: Point) -> usize
@@ -132,35 +131,4 @@ pub fn most(a: usize, b: usize) -> usize
         return b;
     }
     a
-}
-
-fn differ(a: bool, b: bool) -> bool
-    ensures { λ r. ⌜ r ≡ a ⊕ b ⌝ }
-{
-    if a {
-        return !b;
-    }
-    b
-}
-
-// Whether edge e of the table is marked at the cell whose lowest corner has number `at`.
-fn marked(n: usize, grid: &[u8], at: usize, e: Place) -> bool
-    requires { ⌜ (n ≤ 32) × (pointCount n ≤ length (now grid)) × Cell n (pointOf n at) × OfGrid 1 (e .at) ⌝ }
-    ensures { λ r. ⌜ r ≡ isIn (bitsFrom n (now (grid .entry)) at) e ⌝ }
-{
-    let p = at + number_of(n, e.at);
-    let a = e.axis;
-    bit(grid[p], a)
-}
-
-// Whether a face of the cell at point number `at` is odd, from its four edges in the table.
-pub fn odd(n: usize, grid: &[u8], at: usize, e: Place, f: Place, g: Place, h: Place) -> bool
-    requires { ⌜ (n ≤ 32) × (pointCount n ≤ length (now grid)) × Cell n (pointOf n at) × OfGrid 1 (e .at) × OfGrid 1 (f .at) × OfGrid 1 (g .at) × OfGrid 1 (h .at) ⌝ }
-    ensures { λ r. ⌜ r ≡ oddOf (bitsFrom n (now (grid .entry)) at) e f g h ⌝ }
-{
-    let p = marked(n, grid, at, e);
-    let q = marked(n, grid, at, f);
-    let r = marked(n, grid, at, g);
-    let s = marked(n, grid, at, h);
-    differ(differ(p, q), differ(r, s))
 }

@@ -149,7 +149,7 @@ fn show_examples() {
     show_nine(b"the greatest i32", 2_147_483_647);
 }
 
-fn show_byte_eight() {
+fn show_byte_sixteen() {
     show_put(
         b"a byte of 16, a coordinate of 0",
         2,
@@ -275,7 +275,7 @@ fn main() {
     show_open(b"level 3, short", 3);
     show_open_short();
     show_examples();
-    show_byte_eight();
+    show_byte_sixteen();
     show_points();
     show_lines();
     show_plane();

@@ -1,15 +1,16 @@
--- The definitions of the calls give each call that is written out its number, by computing them. Assumes nothing.
+-- The definitions of the calls give each call that is written out its number or count, by computing them. Assumes nothing.
 use mathlib.Core.Path.{_≡_, refl}
 use mathlib.Core.Bool.{true}
 use Rattle.rules.specs.Lists.{allOf}
-use Rattle.rules.specs.Grid.{isGrid}
+use Rattle.rules.specs.Grid.{marks, isGrid}
+use Rattle.rules.specs.Rims.{facesWith}
 use Rattle.lattice.specs.Levels.{levelOf}
 use Rattle.refusals.specs.Columns.{badLevel, levelAt}
 use Rattle.refusals.specs.Cases.{right}
 use Rattle.patching.specs.Call.{patchRows, patchCall, patchDone}
 use Rattle.patching.specs.Refused.{cases}
 
--- every call gives the number that the rules have for it
+-- every call gives the number, or the count, that the rules have for it
 pub cases-hold : allOf right cases ≡ true
-unfolding cases badLevel levelAt levelOf patchRows patchCall patchDone isGrid
+unfolding cases badLevel levelAt levelOf patchRows patchCall patchDone isGrid marks facesWith
 cases-hold = refl

@@ -12,22 +12,21 @@ use Rattle.rules.specs.declared.Axis.{Axis}
 use Rattle.rules.specs.declared.Point.{Point}
 use Rattle.rules.specs.Lattice.{OfGrid, pointNumber, setOf, points, pointCount}
 use Rattle.rules.specs.Grid.{has, marks, byteAt, bytes, isGrid, stored}
-use Rattle.rules.specs.Rims.{rims}
+use Rattle.rules.specs.Rims.{rims, facesWith}
 use Rattle.rules.specs.Patch.{patched, flips, flipCount}
 use Rattle.rules.proofs.Numbers.{take-upto, rising, marks-inner}
 use Rattle.rules.proofs.PointOf.{points-grid}
 use Rattle.rules.proofs.Same.{map-same}
-use Rattle.lattice.specs.Cells.{works}
 use Rattle.lattice.proofs.Laws.{num-below}
-use Rattle.lattice.specs.Byte.{low, marksPutBy, oddPutBy}
+use Rattle.lattice.specs.Byte.{low, marksPutBy}
 use Rattle.lattice.proofs.Parts.{low-is}
 use Rattle.patching.specs.Paint.{paint, nought, allChanges}
-use Rattle.patching.specs.Marked.{marksFrom}
+use Rattle.patching.specs.Finding.{OddFound}
 use Rattle.patching.specs.Between.{Finished, AllPatched}
 use Rattle.patching.specs.Call.{counted, patchDone}
 use Rattle.patching.proofs.PaintLaws.{paint-at, paint-past, paint-length}
 use Rattle.patching.proofs.Flips.{changes-count}
-use Rattle.patching.proofs.Begins.{gridStart, oddFound, workStart, came-bit, now-bit, start, grid-long, work-long, grid-past, work-past}
+use Rattle.patching.proofs.Begins.{gridStart, came-bit, now-bit, start}
 
 -- a buffer whose first k bytes are known and whose others are as they were
 front : (k : ℕ) (s t h : List ℕ) → take k s ≡ h → length s ≡ length t → ((i : ℕ) → k ≤ i → getD s i 0 ≡ getD t i 0) → s ≡ h ++ drop k t
@@ -36,17 +35,17 @@ front k s t h e l p =
     ∙ ap₂ (λ (x y : List ℕ). x ++ y) e
     (ext-getD 0 (drop k s) (drop k t) (length-drop k s ∙ ap (λ (j : ℕ). j - k) l ∙ sym (length-drop k t)) (λ i m. getD-drop k s i 0 ∙ p (k + i) (omega arith) ∙ sym (getD-drop k t i 0)))
 
-module _ (n : ℕ) (g w : List ℕ) (lg : pointCount n ≤ length g) (lw : pointCount n ≤ length w) (h : isGrid n g ≡ true) (g₃ w₃ : List ℕ) (r : ℕ)
-    (D : Finished n (marks n g) (gridStart n g) (workStart n g w) g₃ w₃ r) where
+module _ (n : ℕ) (g w w₁ : List ℕ) (lg : pointCount n ≤ length g) (lw : pointCount n ≤ length w) (h : isGrid n g ≡ true) (F : OddFound n (marks n g) w w₁)
+    (g₃ w₃ : List ℕ) (r : ℕ) (D : Finished n (marks n g) (gridStart n g) w₁ g₃ w₃ r) where
   mark-is : (a : Axis) (p : Point) → OfGrid n p → stored n g₃ a p ≡ patched n (marks n g) a p
   unfolding patched
-  mark-is a p b = D .marks-now a p b ∙ ap (λ (x : Bool). x ⊕ setOf (flips n (marks n g)) a p) (now-bit n g w lg lw h a p b)
+  mark-is a p b = D .marks-now a p b ∙ ap (λ (x : Bool). x ⊕ setOf (flips n (marks n g)) a p) (now-bit n g lg h a p b)
 
   g-size : pointCount n ≤ length g₃
-  g-size = let e = D .g-long ∙ grid-long n g w lg lw h in omega arith
+  g-size = let e = D .g-long ∙ paint-length marksPutBy (pointCount n) g in omega arith
 
   w-size : pointCount n ≤ length w₃
-  w-size = let e = D .w-long ∙ work-long n g w lg lw h in omega arith
+  w-size = let e = D .w-long ∙ F .long in omega arith
 
   bytes-are : take (pointCount n) (paint low (pointCount n) g₃) ≡ bytes n (patched n (marks n g))
   unfolding bytes
@@ -62,7 +61,7 @@ module _ (n : ℕ) (g w : List ℕ) (lg : pointCount n ≤ length g) (lw : point
   flips-are : allChanges (pointCount n) g₃ ≡ flipCount n (marks n g)
   unfolding flipCount
   flips-are = changes-count n (marks n g) (patched n (marks n g)) g₃
-      (all-weaken (OfGrid n) _ (λ p b a. (mark-is a p b, ap (has a) (D .came-in (pointNumber n p)) ∙ came-bit n g w lg lw h a p b)) (points (suc n)) (points-grid n))
+      (all-weaken (OfGrid n) _ (λ p b a. (mark-is a p b, ap (has a) (D .came-in (pointNumber n p)) ∙ came-bit n g lg h a p b)) (points (suc n)) (points-grid n))
 
   zeros-are : take (pointCount n) (paint nought (pointCount n) w₃) ≡ replicate (pointCount n) 0
   zeros-are =
@@ -72,32 +71,27 @@ module _ (n : ℕ) (g w : List ℕ) (lg : pointCount n ≤ length g) (lw : point
       ext-getD 0 _ _ (f ∙ sym (length-replicate (pointCount n) 0))
       (λ i l. getD-take (pointCount n) (paint nought (pointCount n) w₃) i 0 (omega arith) ∙ paint-at nought (pointCount n) w₃ i (omega arith) s ∙ sym (getD-replicate (pointCount n) i 0 0 (omega arith)))
 
-  all-well : counted r (allChanges (pointCount n) g₃) (paint low (pointCount n) g₃) (paint nought (pointCount n) w₃) ≡ patchDone n g w
+  all-well : counted r (allChanges (pointCount n) g₃) (facesWith 1 n (marks n g)) (facesWith 3 n (marks n g)) (paint low (pointCount n) g₃) (paint nought (pointCount n) w₃) ≡ patchDone n g w
   unfolding patchDone
   all-well = λ i. record {
     number = 0;
     rims = D .counted i;
     flips = flips-are i;
-    grid = front (pointCount n) (paint low (pointCount n) g₃) g _ bytes-are (paint-length low (pointCount n) g₃ ∙ D .g-long ∙ grid-long n g w lg lw h)
-        (λ j l. paint-past low (pointCount n) g₃ j l ∙ D .g-past j l ∙ grid-past n g w lg lw h j l) i;
-    work = front (pointCount n) (paint nought (pointCount n) w₃) w _ zeros-are (paint-length nought (pointCount n) w₃ ∙ D .w-long ∙ work-long n g w lg lw h)
-        (λ j l. paint-past nought (pointCount n) w₃ j l ∙ D .w-past j l ∙ work-past n g w lg lw h j l) i;
+    ones = facesWith 1 n (marks n g);
+    threes = facesWith 3 n (marks n g);
+    grid = front (pointCount n) (paint low (pointCount n) g₃) g _ bytes-are (paint-length low (pointCount n) g₃ ∙ D .g-long ∙ paint-length marksPutBy (pointCount n) g)
+        (λ j l. paint-past low (pointCount n) g₃ j l ∙ D .g-past j l ∙ paint-past marksPutBy (pointCount n) g j l) i;
+    work = front (pointCount n) (paint nought (pointCount n) w₃) w _ zeros-are (paint-length nought (pointCount n) w₃ ∙ D .w-long ∙ F .long)
+        (λ j l. paint-past nought (pointCount n) w₃ j l ∙ D .w-past j l ∙ F .past j l) i;
   }
 
 -- ---- the parts of the call one after the other
-found-is : (n : ℕ) (g w : List ℕ) → pointCount n ≤ length g → pointCount n ≤ length w → isGrid n g ≡ true → (k : ℕ) → k ≡ pointCount n → (z o : List ℕ) → z ≡ paint nought k w → o ≡ works n (marksFrom n g 0 (pointCount n)) z → o ≡ oddFound n g w
-found-is n g w lg lw h k ek z o ez eo = eo ∙ ap (works n (marksFrom n g 0 (pointCount n))) (ez ∙ ap (λ (j : ℕ). paint nought j w) ek)
-
-module _ (n : ℕ) (g w : List ℕ) (lg : pointCount n ≤ length g) (lw : pointCount n ≤ length w) (h : isGrid n g ≡ true) (k : ℕ) (ek : k ≡ pointCount n)
-    (z o g₁ w₁ : List ℕ) (ez : z ≡ paint nought k w) (eo : o ≡ works n (marksFrom n g 0 (pointCount n)) z) (eg : g₁ ≡ paint marksPutBy k g) (ew : w₁ ≡ paint oddPutBy k o) where
-  pub grid-is : g₁ ≡ gridStart n g
-  grid-is = eg ∙ ap (λ (j : ℕ). paint marksPutBy j g) ek
-
-  pub work-is : w₁ ≡ workStart n g w
-  work-is = ew ∙ ap₂ (λ (j : ℕ) (s : List ℕ). paint oddPutBy j s) ek (found-is n g w lg lw h k ek z o ez eo)
-
-  pub ends-well : (g₃ w₃ : List ℕ) (r : ℕ) → AllPatched n g₁ w₁ g₃ w₃ r → (g₄ w₄ : List ℕ) (f : ℕ) → f ≡ allChanges k g₃ → g₄ ≡ paint low k g₃ → w₄ ≡ paint nought k w₃ → counted r f g₄ w₄ ≡ patchDone n g w
-  ends-well g₃ w₃ r F g₄ w₄ f ef fg fw =
-      let G = subst (λ (s : List ℕ). AllPatched n s (workStart n g w) g₃ w₃ r) grid-is (subst (λ (s : List ℕ). AllPatched n g₁ s g₃ w₃ r) work-is F) in
-      (λ i. counted r ((ef ∙ ap (λ (j : ℕ). allChanges j g₃) ek) i) ((fg ∙ ap (λ (j : ℕ). paint low j g₃) ek) i) ((fw ∙ ap (λ (j : ℕ). paint nought j w₃) ek) i))
-      ∙ all-well n g w lg lw h g₃ w₃ r (G (marks n g) (marks-inner n g) (start n g w lg lw h))
+module _ (n : ℕ) (g w w₁ : List ℕ) (lg : pointCount n ≤ length g) (lw : pointCount n ≤ length w) (h : isGrid n g ≡ true) (F : OddFound n (marks n g) w w₁)
+    (k : ℕ) (ek : k ≡ pointCount n) (g₁ : List ℕ) (eg : g₁ ≡ paint marksPutBy k g) where
+  pub ends-well : (g₃ w₃ : List ℕ) (r : ℕ) → AllPatched n g₁ w₁ g₃ w₃ r → (g₄ w₄ : List ℕ) (f o t : ℕ) →
+      f ≡ allChanges k g₃ → g₄ ≡ paint low k g₃ → w₄ ≡ paint nought k w₃ →
+      o ≡ facesWith 1 n (marks n g) → t ≡ facesWith 3 n (marks n g) → counted r f o t g₄ w₄ ≡ patchDone n g w
+  ends-well g₃ w₃ r A g₄ w₄ f o t ef fg fw eo et =
+      let B = subst (λ (s : List ℕ). AllPatched n s w₁ g₃ w₃ r) (eg ∙ ap (λ (j : ℕ). paint marksPutBy j g) ek) A in
+      (λ i. counted r ((ef ∙ ap (λ (j : ℕ). allChanges j g₃) ek) i) (eo i) (et i) ((fg ∙ ap (λ (j : ℕ). paint low j g₃) ek) i) ((fw ∙ ap (λ (j : ℕ). paint nought j w₃) ek) i))
+      ∙ all-well n g w w₁ lg lw h F g₃ w₃ r (B (marks n g) (marks-inner n g) (start n g w w₁ lg h F))

@@ -1,7 +1,7 @@
 pub mod Accepted
 pub mod PaintLaws
 pub mod Flips
-pub mod Odd
+pub mod Found
 pub mod Rim
 pub mod Tallies
 pub mod Next

@@ -1,11 +1,11 @@
--- The call patch: the number, the two counts and every byte of both buffers, for all inputs. Assumes nothing.
+-- The call patch: the number, the four counts and every byte of both buffers, for all inputs. Assumes nothing.
 use mathlib.Core.Bool.{not}
 use mathlib.Core.List.{List, [], _∷_, _++_}
 use Prim.Native.Nat.{ℕ}
 use lib.ListN.{length, drop, replicate}
 use Rattle.rules.specs.Lattice.{pointCount}
 use Rattle.rules.specs.Grid.{marks, bytes, isGrid}
-use Rattle.rules.specs.Rims.{rims}
+use Rattle.rules.specs.Rims.{rims, facesWith}
 use Rattle.rules.specs.Patch.{patched, flipCount}
 use Rattle.lattice.specs.Levels.{cellsOf, pointsOf}
 use Rattle.refusals.specs.Rows.{Row, _when_, answered}
@@ -14,33 +14,36 @@ use Rattle.refusals.specs.Columns.{badLevel, levelAt, someShort}
 use Rattle.patching.specs.declared.PatchAnswer.{PatchAnswer}
 use Rattle.patching.specs.declared.PatchAnswer.the-variants.{Done, Refused}
 
--- the number of the answer, the number of rims and of flips, and the buffers afterwards
+-- the number of the answer, the number of rims, of flips, of faces with one mark and with three, and the buffers afterwards
 pub record Outcome : Type 0 where
   pub number : ℕ
   pub rims : ℕ
   pub flips : ℕ
+  pub ones : ℕ
+  pub threes : ℕ
   pub grid : List ℕ
   pub work : List ℕ
 
 -- done: number 0, with the counts
-abbrev pub counted : ℕ → ℕ → List ℕ → List ℕ → Outcome
-counted r f g w = record { number = 0; rims = r; flips = f; grid = g; work = w }
+abbrev pub counted : ℕ → ℕ → ℕ → ℕ → List ℕ → List ℕ → Outcome
+counted r f o t g w = record { number = 0; rims = r; flips = f; ones = o; threes = t; grid = g; work = w }
 
 -- a refusal returns counts of 0 and changes no buffer
 abbrev pub refused : List ℕ → List ℕ → ℕ → Outcome
-refused g w k = record { number = k; rims = 0; flips = 0; grid = g; work = w }
+refused g w k = record { number = k; rims = 0; flips = 0; ones = 0; threes = 0; grid = g; work = w }
 
 -- the paper's number and values for each answer
 abbrev pub told : PatchAnswer → List ℕ → List ℕ → Outcome
-told (Done r f) g w = counted r f g w
+told (Done r f o t) g w = counted r f o t g w
 told (Refused r) g w = refused g w (numberOf r)
 
--- the grid is patched, the first P work bytes are 0 afterwards, and the number of rims and of flips is returned
+-- the grid is patched, the first P work bytes are 0 afterwards, and the number of rims, of flips, and of faces with one mark and with three
+-- as the grid came in is returned
 unfoldable pub patchDone : ℕ → List ℕ → List ℕ → Outcome
 patchDone n g w =
     let P = pointCount n in
     let E = marks n g in
-    counted (length (rims n E)) (flipCount n E) (bytes n (patched n E) ++ drop P g) (replicate P 0 ++ drop P w)
+    counted (length (rims n E)) (flipCount n E) (facesWith 1 n E) (facesWith 3 n E) (bytes n (patched n E) ++ drop P g) (replicate P 0 ++ drop P w)
 
 -- when it is refused, in the order judged
 unfoldable pub patchRows : ℕ → List ℕ → List ℕ → List Row

@@ -1,5 +1,5 @@
 pub mod Paint
-pub mod Marked
+pub mod Finding
 pub mod Between
 pub mod Call
 pub mod Refused

@@ -1,7 +1,8 @@
--- How patch is judged: calls written out, each with its number. Where a row is meant, every row behind it applies too, so that rows in
+-- How patch is judged and what it counts: calls written out, each with its number, or a count. Where a row is meant, every row behind it applies too, so that rows in
 -- another order give another number. That every call is given its number is one claim
 -- (proofs/Accepted.antt), proved by computing. Assumes nothing.
 use mathlib.Core.List.{List, [], _∷_}
+use lib.ListN.{set}
 use Rattle.refusals.specs.Cases.{Case, _is_, zeros, lone}
 use Rattle.patching.specs.Call.{patchCall}
 
@@ -19,4 +20,10 @@ cases =
     ∷ patchCall 2 (lone 62 1) (zeros 125) .number is 0
     ∷ patchCall 2 (lone 62 15) (zeros 125) .number is 0
     ∷ patchCall 2 (zeros 125) (zeros 125) .number is 0
+    -- x(2,2,2), y(2,2,2) and x(2,3,2), three edges of one face: nine faces with one mark, and one with three
+    ∷ patchCall 2 (set (lone 62 3) 67 1) (zeros 125) .ones is 9
+    ∷ patchCall 2 (set (lone 62 3) 67 1) (zeros 125) .threes is 1
+    -- refused, no counts
+    ∷ patchCall 2 (set (lone 62 3) 67 1) (zeros 124) .ones is 0
+    ∷ patchCall 2 (set (lone 62 3) 67 1) (zeros 124) .threes is 0
     ∷ []

@@ -1,48 +1,50 @@
 // The call patch.
+pub mod finding;
+
+use crate::finding::find_odd;
 use grids::is_grid;
 use halving::patch_box;
-use halving::turn_faces;
-use lattice::byte::bit;
 use lattice::byte::changes;
 use lattice::byte::is_seen;
 use lattice::byte::low;
 use lattice::byte::marks_put_by;
 use lattice::byte::none_odd;
-use lattice::byte::odd_put_by;
-use lattice::clear;
 use lattice::level::Level;
 use lattice::level::LevelRead;
 use lattice::level::point_count;
 use refusals::Refusal;
-use rules::Axis;
 use rules::Point;
 use walking::find_rim;
 ghost use mathlib.Core.Path.{_≡_};
 ghost use mathlib.Core.Bool.{true};
-ghost use Prim.Native.Nat.{ℕ, _≤_, _<_};
-ghost use lib.ListN.{length, getD};
-ghost use Rattle.rules.specs.declared.Axis.{Axis};
+ghost use Prim.Native.Nat.{_≤_, _<_};
+ghost use lib.ListN.{length};
 ghost use Rattle.rules.specs.Lattice.{pointCount, pointOf};
-ghost use Rattle.rules.specs.Grid.{has, isGrid};
-ghost use Rattle.lattice.specs.Byte.{low, marksPutBy, oddPutBy};
-ghost use Rattle.lattice.specs.Cells.{works};
+ghost use Rattle.rules.specs.Grid.{isGrid};
+ghost use Rattle.lattice.specs.Byte.{low, marksPutBy};
 ghost use Rattle.walking.specs.Walks.{Fine};
-ghost use Rattle.halving.specs.Halving.{Edged};
 ghost use Rattle.patching.specs.Paint.{paint, allChanges, nought};
-ghost use Rattle.patching.specs.Marked.{markAt, marksAt, marksFrom};
 ghost use Rattle.patching.specs.Between.{Moves, AllPatched};
 ghost use Rattle.patching.specs.Call.{told, counted, patchDone, patchCall};
 
 // What patch answers: the counts, or why it is refused.
 pub enum PatchAnswer {
-    Done { rims: u32, flips: u32 },
+    Done {
+        rims: u32,
+        flips: u32,
+        ones: u32,
+        threes: u32,
+    },
     Refused(Refusal),
 }
 
-// The number of rims of the grid as it came, and of edges whose mark differs between entry and exit.
+// The number of rims of the grid as it came, of edges whose mark differs between entry and exit, and of faces with one mark and with three
+// in the grid as it came.
 pub struct Counts {
     pub rims: u32,
     pub flips: u32,
+    pub ones: u32,
+    pub threes: u32,
 }
 
 // The call patch: patches the grid, or refuses an unknown level, a buffer shorter than P, and one that is no grid.
@@ -67,73 +69,37 @@ pub fn patch(level: u32, grid: &mut [u8], work: &mut [u8]) -> PatchAnswer
     PatchAnswer::Done {
         rims: counts.rims,
         flips: counts.flips,
+        ones: counts.ones,
+        threes: counts.threes,
     }
 }
 
 // Patches what is known to be a grid of n cells a side. Its buffers are long enough.
 pub fn patch_grid(n: usize, grid: &mut [u8], work: &mut [u8]) -> Counts
     requires { ⌜ (1 ≤ n) × (n ≤ 32) × (pointCount n ≤ length (now grid)) × (pointCount n ≤ length (now work)) × (isGrid n (now grid) ≡ true) ⌝ }
-    ensures { λ r. ⌜ counted (r .rims) (r .flips) (now (grid .exit)) (now (work .exit)) ≡ patchDone n (now (grid .entry)) (now (work .entry)) ⌝ }
+    ensures { λ r. ⌜ counted (r .rims) (r .flips) (r .ones) (r .threes) (now (grid .exit)) (now (work .exit)) ≡ patchDone n (now (grid .entry)) (now (work .entry)) ⌝ }
 {
     let count = point_count(n);
-    clear(count, work);
-    find_odd(n, grid, work);
-    put_by(count, grid, work);
+    let came = find_odd(n, grid, work);
+    put_by(count, grid);
     let rims = all_rims(n, grid, work);
     let flips = finish(count, grid, work);
     Counts {
         rims: rims,
         flips: flips,
+        ones: came.ones,
+        threes: came.threes,
     }
 }
 
-// Reverses the four faces of the edge along a at point number p, if the point's byte b marks it.
-fn turn_mark(n: usize, work: &mut [u8], p: usize, b: u8, a: Axis)
-    requires { ⌜ (n ≤ 32) × (pointCount n ≤ length (now work)) × (p < pointCount n) × (has a b ≡ true → Edged n (record { axis = a; at = pointOf n p })) ⌝ }
-    ensures { λ _. ⌜ now (work .exit) ≡ works n (markAt a b (pointOf n p)) (now (work .entry)) ⌝ }
-{
-    if !bit(b, a) {
-        return;
-    }
-    turn_faces(n, work, p, a);
-}
-
-// Reverses the four faces of each marked edge at point number p, whose byte is b.
-fn turn_marks(n: usize, work: &mut [u8], p: usize, b: u8)
-    requires { ⌜ (n ≤ 32) × (pointCount n ≤ length (now work)) × (p < pointCount n) × ((a : Axis) → has a b ≡ true → Edged n (record { axis = a; at = pointOf n p })) ⌝ }
-    ensures { λ _. ⌜ now (work .exit) ≡ works n (marksAt b (pointOf n p)) (now (work .entry)) ⌝ }
-{
-    if b == 0 {
-        return;
-    }
-    turn_mark(n, work, p, b, Axis::X);
-    turn_mark(n, work, p, b, Axis::Y);
-    turn_mark(n, work, p, b, Axis::Z);
-}
-
-// Finds the odd faces: each marked edge reverses its four faces, and those reversed an odd number of times are left.
-fn find_odd(n: usize, grid: &[u8], work: &mut [u8])
-    requires { ⌜ (n ≤ 32) × (pointCount n ≤ length (now grid)) × (pointCount n ≤ length (now work))
-        × ((i : ℕ) → i < pointCount n → (a : Axis) → has a (getD (now grid) i 0) ≡ true → Edged n (record { axis = a; at = pointOf n i })) ⌝ }
-    ensures { λ _. ⌜ now (work .exit) ≡ works n (marksFrom n (now (grid .entry)) 0 (pointCount n)) (now (work .entry)) ⌝ }
-{
-    let count = point_count(n);
-    let mut p: usize = 0;
-    while p < count {
-        turn_marks(n, work, p, grid[p]);
-        p += 1;
-    }
-}
-
-// Puts the marks by as they came, and the odd faces.
-fn put_by(count: usize, grid: &mut [u8], work: &mut [u8])
-    requires { ⌜ (count ≤ length (now grid)) × (count ≤ length (now work)) ⌝ }
-    ensures { λ _. ⌜ (now (grid .exit) ≡ paint marksPutBy count (now (grid .entry))) × (now (work .exit) ≡ paint oddPutBy count (now (work .entry))) ⌝ }
+// Puts the marks by as they came.
+fn put_by(count: usize, grid: &mut [u8])
+    requires { ⌜ count ≤ length (now grid) ⌝ }
+    ensures { λ _. ⌜ now (grid .exit) ≡ paint marksPutBy count (now (grid .entry)) ⌝ }
 {
     let mut p: usize = 0;
     while p < count {
         grid[p] = marks_put_by(grid[p]);
-        work[p] = odd_put_by(work[p]);
         p += 1;
     }
 }

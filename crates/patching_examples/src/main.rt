@@ -1,5 +1,6 @@
 // Runs patch on the examples of the rules at level 2, on the grids that pin its choices, on a sheet with a hole, and on
-// inputs that it refuses. For each it prints the number, the rims, the flips, and the edges marked afterwards; `kept` says that
+// inputs that it refuses. For each it prints the number, the rims, the flips, the
+// faces with one mark and with three, and the edges marked afterwards; `kept` says that
 // no byte of either buffer changed, `clear` that the first P work bytes are 0, `rest` that the bytes behind them are as they were.
 use patching::PatchAnswer;
 use patching::patch;
@@ -90,17 +91,24 @@ fn fill(buffer: &mut [u8], v: u8) {
     }
 }
 
-fn say_counts(number: u32, rims: u32, flips: u32) {
+fn say_counts(number: u32, rims: u32, flips: u32, ones: u32, threes: u32) {
     say_count(b": ", number);
     say_count(b", rims ", rims);
     say_count(b", flips ", flips);
+    say_count(b", ones ", ones);
+    say_count(b", threes ", threes);
 }
 
 // Prints what patch answered.
 fn say_answer(answer: PatchAnswer) {
     match answer {
-        PatchAnswer::Done { rims, flips } => say_counts(0, rims, flips),
-        PatchAnswer::Refused(why) => say_counts(why.number(), 0, 0),
+        PatchAnswer::Done {
+            rims,
+            flips,
+            ones,
+            threes,
+        } => say_counts(0, rims, flips, ones, threes),
+        PatchAnswer::Refused(why) => say_counts(why.number(), 0, 0, 0, 0),
     }
 }
 
@@ -166,6 +174,7 @@ fn main() {
     show(b"pairing", b"y321 y331 z230");
     show(b"path", b"z211 y211");
     show(b"two rims in one plane", b"y101 y111");
+    show(b"three edges of a face", b"x222 x232 y222");
     show(
         b"sheet with a hole",
         b"x211 x221 x231 x212 x232 x213 x223 x233",

@@ -58,7 +58,7 @@ fn put_end(out: &mut [u8], at: usize, n: usize, p: Point) -> usize
 // Puts the picture of a grid's signs, and answers its length.
 pub fn put_picture(out: &mut [u8], n: usize, grid: &[u8]) -> usize
     requires { ⌜ (n ≤ 32) × (pointCount n ≤ length (now grid)) × (3 * pointCount n ≤ length (now out)) ⌝ }
-    ensures { λ r. ⌜ Put (now (out .entry)) 0 (picture n (inside n (now (grid .entry)))) (now (out .exit)) r × (r ≤ length (now (out .exit))) ⌝ }
+    ensures { λ r. ⌜ Put (now (out .entry)) 0 (picture n (inside n (now (grid .entry)))) (now (out .exit)) r × (r ≤ 3 * pointCount n) ⌝ }
 {
     let count = point_count(n);
     let mut q = Point { i: 0, j: 0, k: 0 };

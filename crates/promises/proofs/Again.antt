@@ -15,16 +15,18 @@ use Rattle.rules.specs.Patch.{patched, flipCount}
 use Rattle.rules.proofs.Numbers.{marks-inner, bytes-length}
 use Rattle.rules.proofs.Patched.{patched-even, even-rims, even-still}
 use Rattle.rules.proofs.Again.{no-flips}
+use Rattle.rules.proofs.FaceCounts.{neither-no-rim}
 use Rattle.refusals.proofs.Answered.{answered-both}
 use Rattle.patching.specs.Call.{Outcome, refused, patchRows, patchCall, patchDone}
 use Rattle.promises.specs.Table.{cells}
 use Rattle.promises.proofs.Done.{patch-done}
 use Rattle.promises.proofs.Condition.{marks-left}
 
--- no rim, no flip, and the grid as it is
+-- no rim, no flip, no face with one mark or three, and the grid as it is
 pub record Still (h : List ℕ) (o : Outcome) : Type 0 where
   pub no-rim : o .rims ≡ 0
   pub no-flip : o .flips ≡ 0
+  pub no-face : (o .ones ≡ 0) × (o .threes ≡ 0)
   pub same : o .grid ≡ h
 
 -- ---- where it is done again
@@ -47,6 +49,7 @@ module _ (n : ℕ) (g w v : List ℕ) where
   done-again = record {
     no-rim = ap (λ (E : Set). length (rims n E)) (marks-left n g w) ∙ ap length (even-rims n (patched n (marks n g)) even);
     no-flip = ap (flipCount n) (marks-left n g w) ∙ no-flips n (patched n (marks n g)) (even-still n (patched n (marks n g)) even);
+    no-face = neither-no-rim n (marks n left) .1 (ap (λ (E : Set). length (rims n E)) (marks-left n g w) ∙ ap length (even-rims n (patched n (marks n g)) even));
     same = ap₂ (λ (E : Set) (r : List ℕ). bytes n E ++ r) stays behind;
   }
 
@@ -57,4 +60,4 @@ patch-again L g w v e =
     subst (λ (o : Outcome). Still (o .grid) (patchCall L (o .grid) v)) (sym (patch-done L g w e .outcome))
     (let n = cells L in
     let h = patchDone n g w .grid in
-    answered-both (Still h) (refused h v) (patchDone n h v) (λ k. record { no-rim = refl; no-flip = refl; same = refl }) (done-again n g w v) (patchRows L h v))
+    answered-both (Still h) (refused h v) (patchDone n h v) (λ k. record { no-rim = refl; no-flip = refl; no-face = (refl, refl); same = refl }) (done-again n g w v) (patchRows L h v))

@@ -131,12 +131,14 @@ module _ (L : ℕ) (g w : List ℕ) (e : patchCall L g w .number ≡ 0) where
   left-boxed a p d =
       grid-repaired (cells L) g (patch-done L g w e .grid) .boxed a p (λ q. d (q ∙ ap (λ (E : Set). E a p) (sym left-marks)))
 
--- whatever is lent, patch counts rims and flips and leaves a grid with the patched marks and no sign where it is done
+-- whatever is lent, patch counts rims, flips, and faces with one mark and with three, and leaves a grid with the patched marks and no sign where it is done
 pub promised-condition-2 : Condition2 promised
 unfolding patchDone
 promised-condition-2 = record {
   counted = λ L g w e. ap (λ (o : Patching). o .rims) (patch-done L g w e .outcome);
   flipped = λ L g w e. ap (λ (o : Patching). o .flips) (patch-done L g w e .outcome);
+  single = λ L g w e. ap (λ (o : Patching). o .ones) (patch-done L g w e .outcome);
+  triple = λ L g w e. ap (λ (o : Patching). o .threes) (patch-done L g w e .outcome);
   grid = left-grid;
   patched = λ L g w e a p. ap (λ (E : Set). E a p) (left-marks L g w e);
   unsigned = λ L g w e. subst (λ (o : Patching). Unsigned (cells L) (o .grid)) (sym (patch-done L g w e .outcome)) (unsigned-left (cells L) g w);

@@ -4,6 +4,7 @@ pub mod Done
 pub mod Condition
 pub mod Again
 pub mod Behind
+pub mod Counted
 pub mod TurnedAway
 pub mod Examples
 pub mod Such

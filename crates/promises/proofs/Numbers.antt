@@ -61,6 +61,8 @@ refusals-keep L (Patch g w) n =
     let e = answered-refused (λ o. o .number) (Patching.refused g w) _ (λ i. refl) refl (patchRows L g w) n in (
       ap (λ (o : Patching.Outcome). o .rims) e,
       ap (λ (o : Patching.Outcome). o .flips) e,
+      ap (λ (o : Patching.Outcome). o .ones) e,
+      ap (λ (o : Patching.Outcome). o .threes) e,
       ap (λ (o : Patching.Outcome). o .grid) e,
       ap (λ (o : Patching.Outcome). o .work) e,
     )

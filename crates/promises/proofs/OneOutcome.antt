@@ -77,12 +77,12 @@ abbrev pub patchTold : PatchAnswer × List ℕ × List ℕ → Patching.Outcome
 patchTold x = Patching.told (x .0) (x .1) (x .2)
 
 patchRead : Patching.Outcome → PatchAnswer × List ℕ × List ℕ
-patchRead o = (readNumber (o .number) (Patch.Done (o .rims) (o .flips)) Patch.Refused, o .grid, o .work)
+patchRead o = (readNumber (o .number) (Patch.Done (o .rims) (o .flips) (o .ones) (o .threes)) Patch.Refused, o .grid, o .work)
 
 patch-back : (r : PatchAnswer) (g w : List ℕ) → patchRead (Patching.told r g w) ≡ (r, g, w)
 unfolding patchRead
-patch-back (Patch.Done r f) g w = refl
-patch-back (Patch.Refused r) g w = ap (λ (a : PatchAnswer). (a, g, w)) (read-back (Patch.Done 0 0) Patch.Refused r)
+patch-back (Patch.Done r f o t) g w = refl
+patch-back (Patch.Refused r) g w = ap (λ (a : PatchAnswer). (a, g, w)) (read-back (Patch.Done 0 0 0 0) Patch.Refused r)
 
 pub patch-one : (L : ℕ) (g w : List ℕ) (x y : PatchAnswer × List ℕ × List ℕ) →
     patchTold x ≡ Patching.patchCall L g w → patchTold y ≡ Patching.patchCall L g w → x ≡ y

@@ -10,8 +10,8 @@ use lib.ListN.{drop, getD, replicate}
 use Rattle.rules.specs.declared.Axis.the-variants.{X}
 use Rattle.rules.specs.Lattice.{Set, setOf}
 use Rattle.rules.specs.Grid.{marks, bytes, isGrid}
-use Rattle.rules.specs.Rims.{rims, oddFaces}
-use Rattle.rules.specs.Patch.{flips, patched, flipCount}
+use Rattle.rules.specs.Rims.{rims, oddFaces, facesWith}
+use Rattle.rules.specs.Patch.{patchRim, patchOf, flips, patched, flipCount}
 use Rattle.rules.proofs.Bits.{eqb-yes, eqb→}
 use Rattle.lattice.specs.Levels.{levelOf}
 use Rattle.refusals.specs.Columns.{badLevel, levelAt}
@@ -28,7 +28,8 @@ use Rattle.surfacing.specs.Call.{surfaceCall}
 use Rattle.promises.specs.Table.{cells, pointsAt, Call, Open, Mark, Patch, Sign, Surface}
 use Rattle.promises.specs.Stage.{promised, numberBy, Exactly, Done, Even, Signed, Routed}
 use Rattle.promises.specs.Wrong.{Refuses, Spoils, Takes, Yields, none, firstPatched, Leaves, Miscounts, Misflips}
-use Rattle.promises.specs.Wrong.{refusing, withPatch, withMarks, emptying, leaving, patchingFirst, inventing, flippingMore, wiped, refusedAs, wiping}
+use Rattle.promises.specs.Wrong.{refusing, withPatch, withMarks, emptying, leaving, patchingFirst, inventing, exchanging, countingAfter, flippingMore}
+use Rattle.promises.specs.Wrong.{wiped, refusedAs, wiping}
 use Rattle.promises.proofs.Numbers.{promised-condition-1}
 use Rattle.promises.proofs.Done.{patch-done}
 use Rattle.promises.proofs.Condition.{Parity, parity-of}
@@ -59,7 +60,7 @@ refusing-refuses f never L (Surface g q) = never L (Surface g q)
 
 -- the wrong grid in the outcome
 abbrev put : (ℕ → List ℕ → Set) → ℕ → List ℕ → Patching.Outcome → Patching.Outcome
-put F L g o = Patching.counted (o .rims) (o .flips) (bytes (cells L) (F L g) ++ drop (pointsAt L) g) (o .work)
+put F L g o = Patching.counted (o .rims) (o .flips) (o .ones) (o .threes) (bytes (cells L) (F L g) ++ drop (pointsAt L) g) (o .work)
 
 with-marks : (F : ℕ → List ℕ → Set) → Takes (withMarks F) × Yields F (withMarks F)
 with-marks F = (
@@ -78,8 +79,8 @@ patching-first = with-marks firstPatched
 pub leaving-leaves : Takes leaving × Leaves leaving
 unfolding leaving
 leaving-leaves = (
-  λ L g w e. ap (λ (o : Patching.Outcome). o .number) (does (λ K h o. Patching.counted (o .rims) (o .flips) h (o .work)) L g w e),
-  λ L g w d. ap (λ (o : Patching.Outcome). o .grid) (done-so (λ K h o. Patching.counted (o .rims) (o .flips) h (o .work)) L g w d),
+  λ L g w e. ap (λ (o : Patching.Outcome). o .number) (does (λ K h o. Patching.counted (o .rims) (o .flips) (o .ones) (o .threes) h (o .work)) L g w e),
+  λ L g w d. ap (λ (o : Patching.Outcome). o .grid) (done-so (λ K h o. Patching.counted (o .rims) (o .flips) (o .ones) (o .threes) h (o .work)) L g w d),
 )
 
 -- on a grid without marks
@@ -91,6 +92,30 @@ inventing-miscounts r f some = record {
   work = replicate 125 0;
   done = refl;
   wrong = λ h. let a : 0 + r ≡ 0 = h .0 in let b : 0 + f ≡ 0 = h .1 in some (omega arith, omega arith);
+}
+
+-- on a grid with the mark x(2,2,2) alone, whose four faces have one mark each
+abbrev lone : List ℕ
+lone = bytes 4 (setOf (record { axis = X; at = record { i = 2; j = 2; k = 2 } } ∷ []))
+
+pub exchanging-miscounts : Miscounts exchanging
+unfolding exchanging patchCall patchRows patchDone badLevel levelAt levelOf isGrid bytes marks facesWith
+exchanging-miscounts = record {
+  level = 2;
+  grid = lone;
+  work = replicate 125 0;
+  done = refl;
+  wrong = λ h. let a : _≡_ {A = ℕ} 0 4 = h .2 in omega (arith, a);
+}
+
+pub counting-after-miscounts : Miscounts countingAfter
+unfolding countingAfter patchCall patchRows patchDone badLevel levelAt levelOf isGrid bytes marks facesWith rims oddFaces patchRim patchOf patched flips
+counting-after-miscounts = record {
+  level = 2;
+  grid = lone;
+  work = replicate 125 0;
+  done = refl;
+  wrong = λ h. let a : _≡_ {A = ℕ} 0 4 = h .2 in omega (arith, a);
 }
 
 pub flipping-more : Misflips flippingMore

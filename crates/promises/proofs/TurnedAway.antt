@@ -86,9 +86,14 @@ first-rim-breaks-even s takes first even =
     let p : Point = record { i = 2; j = 3; k = 3 } in
     true≢false (sym (ap (λ (h : List ℕ). oddFace (marks 4 h) Y p) (first 2 g work d)) ∙ even 2 g work d Y p)
 
--- ---- one that is somewhere done with another number of rims or of flips than the grid has breaks condition 2
+-- ---- one that is somewhere done with another number of rims, flips, or faces with one mark or three than the grid has breaks condition 2
 pub miscounting-breaks-2 : (s : Stage) → Miscounts s → ¬ (Condition2 s)
-miscounting-breaks-2 s m c = m .wrong (c .counted (m .level) (m .grid) (m .work) (m .done), c .flipped (m .level) (m .grid) (m .work) (m .done))
+miscounting-breaks-2 s m c = m .wrong (
+  c .counted (m .level) (m .grid) (m .work) (m .done),
+  c .flipped (m .level) (m .grid) (m .work) (m .done),
+  c .single (m .level) (m .grid) (m .work) (m .done),
+  c .triple (m .level) (m .grid) (m .work) (m .done),
+)
 
 -- ---- and so does one that somewhere flips more edges, or fewer, or others
 pub misflipping-breaks-2 : (s : Stage) → Misflips s → ¬ (Condition2 s)

@@ -13,7 +13,7 @@ use Rattle.rules.specs.Lists.{parity, anyOf}
 use Rattle.rules.specs.Lattice.{Set, isIn, edgeIn}
 use Rattle.rules.specs.Cell.{oddFace}
 use Rattle.rules.specs.Grid.{marks, inside, Unsigned, isGrid}
-use Rattle.rules.specs.Rims.{boxOf, rims}
+use Rattle.rules.specs.Rims.{boxOf, rims, facesWith}
 use Rattle.rules.specs.Patch.{patched, flipCount}
 use Rattle.rules.specs.Condition.{Route}
 use Rattle.marking.specs.Outcome.{Outcome as Opening}
@@ -62,7 +62,7 @@ Exactly s = (L : ℕ) (c : Call) (k : ℕ) → (numberBy s L c ≡ k) ↔ Given 
 abbrev pub Untouched : Stage → ℕ → Call → Type 0
 Untouched s L (Open g) = s .opens L g .grid ≡ g
 Untouched s L (Mark g t) = s .marks L g t .grid ≡ g
-Untouched s L (Patch g w) = let o = s .patches L g w in (o .rims ≡ 0) × (o .flips ≡ 0) × (o .grid ≡ g) × (o .work ≡ w)
+Untouched s L (Patch g w) = let o = s .patches L g w in (o .rims ≡ 0) × (o .flips ≡ 0) × (o .ones ≡ 0) × (o .threes ≡ 0) × (o .grid ≡ g) × (o .work ≡ w)
 Untouched s L (Sign g) = s .signs L g .grid ≡ g
 Untouched s L (Surface g q) = let o = s .surfaces L g q in (o .quads ≡ 0) × (o .list ≡ q)
 
@@ -86,11 +86,13 @@ marksAfter s L g w = marks (cells L) (s .patches L g w .grid)
 abbrev pub signAfter : Stage → ℕ → List ℕ → List ℕ → Signing
 signAfter s L g w = s .signs L (s .patches L g w .grid)
 
--- ---- condition 2, of patch: the number of rims and of flips is returned, and the grid is patched: it is a grid, with the patched marks, and
--- no sign is set
+-- ---- condition 2, of patch: the number of rims and of flips is returned, and that of faces with one mark and with three as the grid came in;
+-- and the grid is patched: it is a grid, with the patched marks, and no sign is set
 pub record Condition2 (s : Stage) : Type 0 where
   pub counted : (L : ℕ) (g w : List ℕ) → Done s L g w → s .patches L g w .rims ≡ length (rims (cells L) (marks (cells L) g))
   pub flipped : (L : ℕ) (g w : List ℕ) → Done s L g w → s .patches L g w .flips ≡ flipCount (cells L) (marks (cells L) g)
+  pub single : (L : ℕ) (g w : List ℕ) → Done s L g w → s .patches L g w .ones ≡ facesWith 1 (cells L) (marks (cells L) g)
+  pub triple : (L : ℕ) (g w : List ℕ) → Done s L g w → s .patches L g w .threes ≡ facesWith 3 (cells L) (marks (cells L) g)
   pub grid : (L : ℕ) (g w : List ℕ) → Done s L g w → isGrid (cells L) (s .patches L g w .grid) ≡ true
   pub patched : (L : ℕ) (g w : List ℕ) → Done s L g w → (a : Axis) (p : Point) →
       marksAfter s L g w a p ≡ patched (cells L) (marks (cells L) g) a p

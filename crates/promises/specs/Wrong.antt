@@ -12,7 +12,7 @@ use Rattle.rules.specs.declared.Point.{Point}
 use Rattle.rules.specs.Lists.{count}
 use Rattle.rules.specs.Lattice.{Edge, Face, Set, isIn, setOf, symdiff, places}
 use Rattle.rules.specs.Grid.{marks, bytes}
-use Rattle.rules.specs.Rims.{rims}
+use Rattle.rules.specs.Rims.{rims, facesWith}
 use Rattle.rules.specs.Patch.{patchRim, patched, flipCount}
 use Rattle.marking.specs.Outcome as Opening
 use Rattle.marking.specs.Open.{openCall}
@@ -65,14 +65,15 @@ firstPatched L g = symdiff (marks (cells L) g) (setOf (firstPatch (rims (cells L
 abbrev pub Leaves : Stage → Type 0
 Leaves s = (L : ℕ) (g w : List ℕ) → Done s L g w → s .patches L g w .grid ≡ g
 
--- somewhere it is done with another number of rims or of flips than the grid has
+-- somewhere it is done with another number of rims, of flips, or of faces with one mark or with three than the grid has
 pub record Miscounts (s : Stage) : Type 0 where
   pub level : ℕ
   pub grid : List ℕ
   pub work : List ℕ
   pub done : Done s level grid work
   pub wrong : let o = s .patches level grid work in let E = marks (cells level) grid in
-      ¬ ((o .rims ≡ length (rims (cells level) E)) × (o .flips ≡ flipCount (cells level) E))
+      ¬ ((o .rims ≡ length (rims (cells level) E)) × (o .flips ≡ flipCount (cells level) E)
+      × (o .ones ≡ facesWith 1 (cells level) E) × (o .threes ≡ facesWith 3 (cells level) E))
 
 -- somewhere it is done, and an edge's mark is not that of the patched grid: it flips more edges, or fewer, or others
 pub record Misflips (s : Stage) : Type 0 where
@@ -107,7 +108,7 @@ withPatch f = record {
 
 -- with these marks in the grid, and the counts as they are
 abbrev pub withMarks : (ℕ → List ℕ → Set) → Stage
-withMarks F = withPatch (λ L g o. Patching.counted (o .rims) (o .flips) (bytes (cells L) (F L g) ++ drop (pointsAt L) g) (o .work))
+withMarks F = withPatch (λ L g o. Patching.counted (o .rims) (o .flips) (o .ones) (o .threes) (bytes (cells L) (F L g) ++ drop (pointsAt L) g) (o .work))
 
 -- one that always yields the empty grid
 unfoldable pub emptying : Stage
@@ -115,7 +116,7 @@ emptying = withMarks none
 
 -- one that leaves the grid alone
 unfoldable pub leaving : Stage
-leaving = withPatch (λ L g o. Patching.counted (o .rims) (o .flips) g (o .work))
+leaving = withPatch (λ L g o. Patching.counted (o .rims) (o .flips) (o .ones) (o .threes) g (o .work))
 
 -- one that patches its first rim and only counts the others
 unfoldable pub patchingFirst : Stage
@@ -123,7 +124,15 @@ patchingFirst = withMarks firstPatched
 
 -- one that invents r rims and f flips
 unfoldable pub inventing : ℕ → ℕ → Stage
-inventing r f = withPatch (λ L g o. Patching.counted (o .rims + r) (o .flips + f) (o .grid) (o .work))
+inventing r f = withPatch (λ L g o. Patching.counted (o .rims + r) (o .flips + f) (o .ones) (o .threes) (o .grid) (o .work))
+
+-- one that tells the faces with one mark for those with three, and one that counts both once the grid is patched
+unfoldable pub exchanging : Stage
+exchanging = withPatch (λ L g o. Patching.counted (o .rims) (o .flips) (o .threes) (o .ones) (o .grid) (o .work))
+
+unfoldable pub countingAfter : Stage
+countingAfter =
+    withPatch (λ L g o. let E = marks (cells L) (o .grid) in Patching.counted (o .rims) (o .flips) (facesWith 1 (cells L) E) (facesWith 3 (cells L) E) (o .grid) (o .work))
 
 -- the patched marks with x(2,2,2) turned besides
 abbrev pub moreFlipped : ℕ → List ℕ → Set
@@ -132,7 +141,7 @@ moreFlipped L g = symdiff (patched (cells L) (marks (cells L) g)) (setOf (record
 -- one that really flips an edge more, and counts it
 unfoldable pub flippingMore : Stage
 flippingMore =
-    withPatch (λ L g o. Patching.counted (o .rims) (count (isIn (symdiff (marks (cells L) g) (moreFlipped L g))) (places (suc (cells L))))
+    withPatch (λ L g o. Patching.counted (o .rims) (count (isIn (symdiff (marks (cells L) g) (moreFlipped L g))) (places (suc (cells L)))) (o .ones) (o .threes)
     (bytes (cells L) (moreFlipped L g) ++ drop (pointsAt L) g) (o .work))
 
 -- as many bytes of 0

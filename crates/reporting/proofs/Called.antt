@@ -71,7 +71,7 @@ module _ (n : ℕ) (g : List ℕ) where
   left-even = ap (evenFaces n) left-marks ∙ even-all n (patched n (marks n g)) inner-all .1 (patched-even n (marks n g) (marks-inner n g))
 
 -- the grid that a done patch leaves
-module _ (l : Level) (g w : List ℕ) {r f : ℕ} {h v : List ℕ} (e : counted r f h v ≡ patchDone (cellsOf l) g w) where
+module _ (l : Level) (g w : List ℕ) {r f o t : ℕ} {h v : List ℕ} (e : counted r f o t h v ≡ patchDone (cellsOf l) g w) where
   is-left : h ≡ left (cellsOf l) g
   unfolding patchDone
   is-left = ap (λ (o : Patching). o .grid) e
@@ -93,9 +93,9 @@ module _ (n : ℕ) (h : List ℕ) (even : evenFaces n (marks n h) ≡ true) wher
       ∙ signs-fit n h even (drop (pointCount n) h)
 
 -- a grid that was patched, and then signed
-pub closing : (l : Level) (g w : List ℕ) {r f : ℕ} {h v s : List ℕ} → Ready l g → pointsOf l ≤ length w → counted r f h v ≡ patchDone (cellsOf l) g w
-    → pointsOf l ≤ length h → s ≡ signBytes (cellsOf l) (marks (cellsOf l) h) ++ drop (pointsOf l) h → pointsOf l ≤ length s → Closed l g w r f s v
-closing l g w {r} {f} {h} {v} {s} k room e h-long d s-long =
+pub closing : (l : Level) (g w : List ℕ) {r f o t : ℕ} {h v s : List ℕ} → Ready l g → pointsOf l ≤ length w → counted r f o t h v ≡ patchDone (cellsOf l) g w
+    → pointsOf l ≤ length h → s ≡ signBytes (cellsOf l) (marks (cellsOf l) h) ++ drop (pointsOf l) h → pointsOf l ≤ length s → Closed l g w r f o t s v
+closing l g w {r} {f} {o} {t} {h} {v} {s} k room e h-long d s-long =
     let p = patch-left l g w e in
     record {
       patched = h;

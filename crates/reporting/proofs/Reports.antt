@@ -1,7 +1,7 @@
 -- Laws of what is shown of a grid that was patched and signed. Assumes nothing.
 use mathlib.Core.Path.{_≡_, refl, sym, ap, _∙_}
 use mathlib.Core.Bool.{Bool, true, false, cond}
-use mathlib.Core.List.{List}
+use mathlib.Core.List.{List, _++_}
 use Prim.Native.Nat.{ℕ, zero, suc, _*_, _≤_}
 use native.Mathlib.Omega.{arith}
 use lib.Dec.{ltb}
@@ -22,7 +22,7 @@ use Rattle.surfacing.specs.declared.SurfaceAnswer.{SurfaceAnswer}
 use Rattle.surfacing.specs.declared.SurfaceAnswer.the-variants.{Done, Refused}
 use Rattle.surfacing.specs.Call.{Outcome, told, refused, surfaceDone, listed, surfaceCall}
 use Rattle.surfacing.specs.Listing.{quadCount}
-use Rattle.text.specs.Listing.{refusedLine, listing}
+use Rattle.text.specs.Listing.{refusedLine, facesLine, listing}
 use Rattle.picture.specs.Picture.{picture}
 use Rattle.reporting.specs.Report.{lentBytes, lentList, unless, closed, surfaced, layered}
 use Rattle.reporting.specs.Close.{Closed}
@@ -44,17 +44,17 @@ listed-room n E s l l′ q e = go (ltb (length l) (4 * quadCount n E)) refl (ap 
     go true f z k = absurd (omega arith)
     go false f z k = omega (arith, ltb-false (length l) (4 * quadCount n E) f)
 
-module _ (l : Level) (g : List ℕ) {rims flips : ℕ} {h v : List ℕ} (k : Closed l g lentBytes rims flips h v) where
+module _ (l : Level) (g : List ℕ) {rims flips ones threes : ℕ} {h v : List ℕ} (k : Closed l g lentBytes rims flips ones threes h v) where
   abbrev n : ℕ
   n = cellsOf l
 
   -- patch and sign are done, and what comes next is printed
-  pub closed-is : (next : Patching → Signing → List ℕ) → closed (levelNumber l) g next ≡ next (counted rims flips (k .patched) v) (done h)
+  pub closed-is : (next : Patching → Signing → List ℕ) → closed (levelNumber l) g next ≡ next (counted rims flips ones threes (k .patched) v) (done h)
   unfolding closed
   closed-is next = rw (sym (k .is-patch), sym (k .is-sign))
 
-  -- the layers
-  pub picture-is : picture n (inside n h) ≡ closed (levelNumber l) g (layered (levelNumber l))
+  -- the layers, and the faces
+  pub picture-is : picture n (inside n h) ++ facesLine ones threes ≡ closed (levelNumber l) g (layered (levelNumber l))
   unfolding layered
   picture-is = rw (closed-is (layered (levelNumber l)), known l .1)
 

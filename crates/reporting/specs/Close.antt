@@ -12,9 +12,9 @@ use Rattle.signing.specs.Call.{done, signCall}
 use Rattle.surfacing.specs.Fit.{signsFit}
 
 -- patch did the grid g, with w as work bytes, and gave these counts; then sign wrote the signs, which fit
-pub record Closed (l : Level) (g w : List ℕ) (rims flips : ℕ) (g′ w′ : List ℕ) : Type 0 where
+pub record Closed (l : Level) (g w : List ℕ) (rims flips ones threes : ℕ) (g′ w′ : List ℕ) : Type 0 where
   pub patched : List ℕ
-  pub is-patch : counted rims flips patched w′ ≡ patchCall (numberOf l) g w
+  pub is-patch : counted rims flips ones threes patched w′ ≡ patchCall (numberOf l) g w
   pub is-sign : done g′ ≡ signCall (numberOf l) patched
   pub long : pointsOf l ≤ length g′
   pub grid : isGrid (cellsOf l) g′ ≡ true

@@ -1,5 +1,5 @@
 -- Patch, sign and surface, one after the other once all triangles are marked, and what is printed of them. Assumes nothing.
-use mathlib.Core.List.{List}
+use mathlib.Core.List.{List, _++_}
 use Prim.Native.Nat.{ℕ, zero, suc}
 use lib.ListN.{replicate}
 use Rattle.rules.specs.Lists.{count}
@@ -11,7 +11,7 @@ use Rattle.patching.specs.Call.{Outcome as Patching, patchCall}
 use Rattle.signing.specs.Call.{Outcome as Signing, signCall}
 use Rattle.surfacing.specs.Call.{Outcome as Surfacing, surfaceCall}
 use Rattle.text.specs.declared.listing.Repaired.{Repaired}
-use Rattle.text.specs.Listing.{refusedLine, listing}
+use Rattle.text.specs.Listing.{refusedLine, facesLine, listing}
 use Rattle.picture.specs.Picture.{picture}
 
 -- what is lent: bytes for the points of any level, and a list of 32,768 numbers
@@ -52,6 +52,6 @@ surfaced level t p b =
     let q = surfaceCall level (b .grid) lentList in
     unless (q .number) (listing (countsOf level t p b q) (q .list))
 
--- the layers of points
+-- the layers of points, and behind them the number of faces with one mark and with three
 unfoldable pub layered : ℕ → Patching → Signing → List ℕ
-layered level p b = let n = cellsOf (levelAt level) in picture n (inside n (b .grid))
+layered level p b = let n = cellsOf (levelAt level) in picture n (inside n (b .grid)) ++ facesLine (p .ones) (p .threes)

@@ -8,6 +8,7 @@ use signing::sign_grid;
 use surfacing::SurfaceAnswer;
 use surfacing::list_quads;
 use text::listing::Repaired;
+use text::listing::put_faces;
 use text::listing::put_listing;
 use text::listing::put_refusal;
 ghost use mathlib.Core.Path.{_≡_};
@@ -22,7 +23,7 @@ ghost use Rattle.reporting.specs.Close.{Closed};
 // Patches a grid and gives its points their signs.
 fn close_grid(l: Level, grid: &mut [u8], work: &mut [u8]) -> Counts
     requires { ⌜ Ready l (now grid) × (pointsOf l ≤ length (now work)) ⌝ }
-    ensures { λ r. ⌜ Closed l (now (grid .entry)) (now (work .entry)) (r .rims) (r .flips) (now (grid .exit)) (now (work .exit)) ⌝ }
+    ensures { λ r. ⌜ Closed l (now (grid .entry)) (now (work .entry)) (r .rims) (r .flips) (r .ones) (r .threes) (now (grid .exit)) (now (work .exit)) ⌝ }
 {
     let n = l.cells();
     let counts = patch_grid(n, grid, work);
@@ -61,11 +62,12 @@ pub fn report(
     }
 }
 
-// Closes a grid and puts the picture of its layers; answers its length.
+// Closes a grid and puts the picture of its layers, and behind it the number of faces with one mark and with three; answers its length.
 pub fn show(l: Level, grid: &mut [u8], work: &mut [u8], out: &mut [u8]) -> usize
-    requires { ⌜ Ready l (now grid) × (now work ≡ lentBytes) × (107811 ≤ length (now out)) ⌝ }
+    requires { ⌜ Ready l (now grid) × (now work ≡ lentBytes) × (107845 ≤ length (now out)) ⌝ }
     ensures { λ r. ⌜ Put (now (out .entry)) 0 (closed (numberOf l) (now (grid .entry)) (layered (numberOf l))) (now (out .exit)) r × (r ≤ length (now (out .exit))) ⌝ }
 {
-    close_grid(l, grid, work);
-    put_picture(out, l.cells(), grid)
+    let counts = close_grid(l, grid, work);
+    let next = put_picture(out, l.cells(), grid);
+    put_faces(out, next, counts.ones, counts.threes)
 }

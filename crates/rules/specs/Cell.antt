@@ -2,6 +2,7 @@
 use mathlib.Core.Bool.{Bool, _||_}
 use mathlib.Core.List.{List, [], _∷_}
 use Prim.Native.Nat.{ℕ}
+use lib.Dec.{eqb}
 use Rattle.rules.specs.Lists.{_⊕_, count}
 use Rattle.rules.specs.Lattice.{Axis, X, Y, Z, Point, Edge, Face, earlier, later, up, samePoint, Set, isIn}
 
@@ -14,11 +15,15 @@ faceEdges a p =
     ∷ (record { axis = later a; at = up (earlier a) p }
     ∷ [])))
 
--- how many of a face's edges are marked
+-- the face test: how many of a face's four edges are marked, 0 to 4
 abbrev pub faceMarks : Set → Axis → Point → ℕ
 faceMarks E a p = count (isIn E) (faceEdges a p)
 
--- a face is odd when it has one or three marks: when the number of its marked edges is odd
+-- a face is odd when it has one or three marks
+abbrev pub isOdd : ℕ → Bool
+isOdd k = eqb k 1 || eqb k 3
+
+-- the odd faces as a set: an odd number of the four edges is marked (proofs/FaceMarks: one-or-three)
 abbrev pub oddFace : Set → Set
 oddFace E a p = (E (earlier a) p ⊕ E (earlier a) (up (later a) p)) ⊕ (E (later a) p ⊕ E (later a) (up (earlier a) p))
 

@@ -9,7 +9,7 @@ use lib.ListN.{length}
 use Rattle.rules.specs.Lists.{allOf, count}
 use Rattle.rules.specs.Lattice.{Axis, X, Y, Z, Edge, Set, isIn, setOf, points, places}
 use Rattle.rules.specs.Grid.{bytes, marks}
-use Rattle.rules.specs.Rims.{rims}
+use Rattle.rules.specs.Rims.{rims, facesWith}
 use Rattle.rules.specs.Patch.{flips, patched, flipCount}
 use Rattle.rules.specs.Signs.{sign}
 
@@ -146,3 +146,28 @@ right e =
     && (sameEdges (setOf (flips 4 E)) (setOf (e .flipped))
     && (eqb (flipCount 4 E) (length (e .flipped))
     && (sameEdges F (setOf (e .after)) && eqb (count (sign F) (points 5)) (e .inside))))
+
+-- ---- faces with one mark and with three
+
+-- a row: the marks, and how many faces have one mark and three
+pub record Faces : Type 0 where
+  before : List Edge
+  ones : ℕ
+  threes : ℕ
+
+-- nothing; one point inside, whose faces have two marks; the same with a gap; one edge; then three edges of one face, and all four of it
+unfoldable pub faceTable : List Faces
+unfolding single gap
+faceTable =
+    record { before = []; ones = 0; threes = 0 }
+    ∷ (record { before = single; ones = 0; threes = 0 }
+    ∷ (record { before = gap; ones = 4; threes = 0 }
+    ∷ (record { before = edge X 2 2 2 ∷ []; ones = 4; threes = 0 }
+    ∷ (record { before = edge X 2 2 2 ∷ (edge X 2 3 2 ∷ (edge Y 2 2 2 ∷ [])); ones = 9; threes = 1 }
+    ∷ (record { before = edge X 2 2 2 ∷ (edge X 2 3 2 ∷ (edge Y 2 2 2 ∷ (edge Y 3 2 2 ∷ []))); ones = 12; threes = 0 } ∷ [])))))
+
+-- both counts are the row's
+abbrev pub rightFaces : Faces → Bool
+rightFaces e =
+    let E = setOf (e .before) in
+    eqb (facesWith 1 4 E) (e .ones) && eqb (facesWith 3 4 E) (e .threes)

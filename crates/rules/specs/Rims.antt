@@ -3,17 +3,22 @@ use mathlib.Core.Path.{_≡_}
 use mathlib.Core.Bool.{Bool, true, not, _||_}
 use mathlib.Core.List.{List, [], _∷_}
 use Prim.Native.Nat.{ℕ, min, max}
-use Rattle.rules.specs.Lists.{keep, anyOf, allOf, each}
-use Rattle.rules.specs.Lattice.{X, Y, Z, Point, Face, Box, up, down, samePlace, places, isIn, Set, whole}
-use Rattle.rules.specs.Cell.{oddFace, ofCell}
+use lib.Dec.{eqb}
+use Rattle.rules.specs.Lists.{keep, anyOf, allOf, each, count}
+use Rattle.rules.specs.Lattice.{X, Y, Z, Point, Face, Box, up, down, samePlace, places, Set, whole}
+use Rattle.rules.specs.Cell.{faceMarks, isOdd, ofCell}
 
 -- the odd faces of the grid, by rising point number
 unfoldable pub oddFaces : ℕ → Set → List Face
-oddFaces n E = keep (isIn (oddFace E)) (places n)
+oddFaces n E = keep (λ f. isOdd (faceMarks E (f .axis) (f .at))) (places n)
+
+-- the number of faces with k marks; every face with a mark is among those listed (proofs/FaceCounts: faces-all)
+unfoldable pub facesWith : ℕ → ℕ → Set → ℕ
+facesWith k n E = count (λ f. eqb (faceMarks E (f .axis) (f .at)) k) (places n)
 
 -- no face of the grid is odd
 unfoldable pub evenFaces : ℕ → Set → Bool
-evenFaces n E = allOf (λ f. not (isIn (oddFace E) f)) (places n)
+evenFaces n E = allOf (λ f. not (isOdd (faceMarks E (f .axis) (f .at)))) (places n)
 
 -- neighbours in a chain are faces of one cell: of the one above f, or of the one below it
 abbrev pub neighbours : Face → Face → Bool

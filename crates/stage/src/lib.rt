@@ -51,7 +51,8 @@ pub extern "C" fn omphirun_mark(
     }
 }
 
-// Patch (level, grid, work buffer): the grid is patched, and the number of rims and of flips is returned.
+// Patch (level, grid, work buffer): the grid is patched, and the number of rims, of flips, and of faces with one mark and with three in the
+// grid as it came is returned.
 #[no_mangle]
 pub extern "C" fn omphirun_patch(
     level: u32,
@@ -59,15 +60,26 @@ pub extern "C" fn omphirun_patch(
     work: &mut [u8],
     rims: &mut u32,
     flips: &mut u32,
+    ones: &mut u32,
+    threes: &mut u32,
 ) -> u32
-    ensures { λ r. ⌜ _≡_ {A = PatchOutcome} (record { number = r; rims = now (rims .exit); flips = now (flips .exit); grid = now (grid .exit); work = now (work .exit) }) (patchCall level (now (grid .entry)) (now (work .entry))) ⌝ }
+    ensures { λ r. ⌜ _≡_ {A = PatchOutcome} (record { number = r; rims = now (rims .exit); flips = now (flips .exit); ones = now (ones .exit); threes = now (threes .exit); grid = now (grid .exit); work = now (work .exit) }) (patchCall level (now (grid .entry)) (now (work .entry))) ⌝ }
 {
     *rims = 0;
     *flips = 0;
+    *ones = 0;
+    *threes = 0;
     match patching::patch(level, grid, work) {
-        PatchAnswer::Done { rims: r, flips: f } => {
+        PatchAnswer::Done {
+            rims: r,
+            flips: f,
+            ones: o,
+            threes: t,
+        } => {
             *rims = r;
             *flips = f;
+            *ones = o;
+            *threes = t;
             0
         }
         PatchAnswer::Refused(why) => why.number(),

@@ -10,7 +10,7 @@ use lib.ListN.{length, drop, getD, replicate, length-append}
 use borrow.Author.Tests.{eqb-false, ltb-true, ltb-false, le-ltb, ne-eqb}
 use Rattle.rules.specs.Lattice.{Set}
 use Rattle.rules.specs.Grid.{marks, inside, bytes}
-use Rattle.rules.specs.Rims.{rims}
+use Rattle.rules.specs.Rims.{rims, facesWith}
 use Rattle.rules.specs.Patch.{patched, flipCount}
 use Rattle.rules.specs.Signs.{signBytes}
 use Rattle.rules.proofs.Numbers.{bytes-length, marks-inner}
@@ -79,7 +79,8 @@ module _ (l : Level) where
     long : (a b : List ℕ) → length a ≡ pointsOf l → pointsOf l ≤ length (a ++ b)
     long a b e = omega (arith, length-append a b)
 
-    done : Closed l g lentBytes (length (rims n (marks n g))) (flipCount n (marks n g)) s v
+    done :
+        Closed l g lentBytes (length (rims n (marks n g))) (flipCount n (marks n g)) (facesWith 1 n (marks n g)) (facesWith 3 n (marks n g)) s v
     unfolding patchDone
     done =
         closing l g lentBytes r (bytes-long l) refl (long (bytes n (patched n (marks n g))) (drop (pointsOf l) g) (bytes-length n (patched n (marks n g))))

@@ -10,6 +10,10 @@ use Rattle.text.specs.Text.{ascii, field, fields}
 unfoldable pub refusedLine : ℕ → List ℕ
 refusedLine n = field "refused " n ++ ascii "\n"
 
+-- the number of faces with one mark and with three, on a line of its own
+unfoldable pub facesLine : ℕ → ℕ → List ℕ
+facesLine ones threes = fields "ones " ones " threes " threes ++ ascii "\n"
+
 -- `q` and four cell numbers a quad, on a line of its own behind what stands before
 abbrev pub quadLine : List ℕ → ℕ → List ℕ
 quadLine l q =

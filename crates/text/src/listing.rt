@@ -7,7 +7,7 @@ ghost use Prim.Native.Nat.{_≤_, _<_, _+_, _*_};
 ghost use lib.ListN.{length};
 ghost use Rattle.rules.specs.Lists.{each, upto};
 ghost use Rattle.text.specs.Text.{Put};
-ghost use Rattle.text.specs.Listing.{refusedLine, quadLine, head, listing};
+ghost use Rattle.text.specs.Listing.{refusedLine, facesLine, quadLine, head, listing};
 
 // What was done: the numbers of the listing's first two lines.
 pub struct Repaired {
@@ -84,6 +84,15 @@ pub fn put_listing(out: &mut [u8], done: Repaired, list: &[u16]) -> usize
         done.quads,
     );
     let next = put_quads(out, at, list, quads);
+    put_text(out, next, b"\n")
+}
+
+// Puts the number of faces with one mark and with three at a place, and answers the place behind them.
+pub fn put_faces(out: &mut [u8], at: usize, ones: u32, threes: u32) -> usize
+    requires { ⌜ at + 34 ≤ length (now out) ⌝ }
+    ensures { λ r. ⌜ Put (now (out .entry)) at (facesLine ones threes) (now (out .exit)) r × (r ≤ at + 34) ⌝ }
+{
+    let next = put_fields(out, at, b"ones ", ones, b" threes ", threes);
     put_text(out, next, b"\n")
 }
 

@@ -4,7 +4,7 @@ use mathlib.Core.Bool.{not}
 use Rattle.rules.specs.declared.Axis.the-variants.{X, Y, Z}
 use Rattle.rules.specs.Grid.{marks}
 use Rattle.rules.proofs.Bits.{&&-true}
-use Rattle.grids.proofs.GridFacts.{cell-at, odd-told}
+use Rattle.grids.proofs.GridFacts.{cell-layer, odd-told}
 use borrow.Author.Needs.{needs}
 use Rattle.grids.proofs.lower_even.Statement.{statement}
 use Rattle.grids.proofs.lower_even.Tie as tie
@@ -12,58 +12,70 @@ use Rattle.grids.proofs.lower_even.Tie as tie
 number-of-requires : tie.Need-number-of-requires
 number-of-requires c κs = search needs
 
-lower-odd-requires : tie.Need-lower-odd-requires
-lower-odd-requires c κs =
+lower-marks-requires : tie.Need-lower-marks-requires
+lower-marks-requires c κs =
     let s = c .before .before in
-    (s .pre .0, s .pre .1, s .pre .2, cell-at (s .args .n) _ (s .args .c) (s .pre .3) (c .number-of .ensures .0))
+    (s .pre .0, s .pre .1, s .pre .2, cell-layer (s .args .n) _ (s .args .c) (s .pre .3) (c .number-of .ensures .0))
+
+is-odd-requires : tie.Need-is-odd-requires
+is-odd-requires c κs = search needs
 
 returns : tie.Need-returns
 returns c =
-    let s = c .before .before .before .before in
+    let s = c .before .before .before .before .before in
     let E = marks (s .args .n) (s .args .grid .now) in
-    let e = c .before .before .number-of .ensures .0 in
-    rw (odd-told (s .args .n) E X _ (s .args .c) (s .pre .3) e (c .before .lower-odd .ensures) ∙ c .if1 .taken)
+    let e = c .before .before .before .number-of .ensures .0 in
+    rw (odd-told (s .args .n) E X _ (s .args .c) (s .pre .3) e (c .before .before .lower-marks .ensures) (c .before .is-odd .ensures) ∙ c .if1 .taken)
 
-lower-odd-requires-2 : tie.Need-lower-odd-requires-2
-lower-odd-requires-2 c κs =
-    let s = c .before .before .before .before in
-    (s .pre .0, s .pre .1, s .pre .2, cell-at (s .args .n) _ (s .args .c) (s .pre .3) (c .before .before .number-of .ensures .0))
+lower-marks-requires-2 : tie.Need-lower-marks-requires-2
+lower-marks-requires-2 c κs =
+    let s = c .before .before .before .before .before in
+    (s .pre .0, s .pre .1, s .pre .2, cell-layer (s .args .n) _ (s .args .c) (s .pre .3) (c .before .before .before .number-of .ensures .0))
+
+is-odd-requires-2 : tie.Need-is-odd-requires-2
+is-odd-requires-2 c κs = search needs
 
 returns-2 : tie.Need-returns-2
 returns-2 c =
-    let s = c .before .before .before .before .before .before in
+    let s = c .before .before .before .before .before .before .before .before in
     let E = marks (s .args .n) (s .args .grid .now) in
-    let e = c .before .before .before .before .number-of .ensures .0 in
+    let e = c .before .before .before .before .before .before .number-of .ensures .0 in
     rw (
-      odd-told (s .args .n) E X _ (s .args .c) (s .pre .3) e (c .before .before .before .lower-odd .ensures) ∙ c .before .before .if1 .left,
-      odd-told (s .args .n) E Y _ (s .args .c) (s .pre .3) e (c .before .lower-odd2 .ensures) ∙ c .if2 .taken,
+      odd-told (s .args .n) E X _ (s .args .c) (s .pre .3) e (c .before .before .before .before .before .lower-marks .ensures) (c .before .before .before .before .is-odd .ensures) ∙ c .before .before .before .if1 .left,
+      odd-told (s .args .n) E Y _ (s .args .c) (s .pre .3) e (c .before .before .lower-marks2 .ensures) (c .before .is-odd2 .ensures) ∙ c .if2 .taken,
     )
 
-lower-odd-requires-3 : tie.Need-lower-odd-requires-3
-lower-odd-requires-3 c κs =
-    let s = c .before .before .before .before .before .before in
-    (s .pre .0, s .pre .1, s .pre .2, cell-at (s .args .n) _ (s .args .c) (s .pre .3) (c .before .before .before .before .number-of .ensures .0))
+lower-marks-requires-3 : tie.Need-lower-marks-requires-3
+lower-marks-requires-3 c κs =
+    let s = c .before .before .before .before .before .before .before .before in
+    (s .pre .0, s .pre .1, s .pre .2, cell-layer (s .args .n) _ (s .args .c) (s .pre .3) (c .before .before .before .before .before .before .number-of .ensures .0))
+
+is-odd-requires-3 : tie.Need-is-odd-requires-3
+is-odd-requires-3 c κs = search needs
 
 returns-3 : tie.Need-returns-3
 returns-3 c =
-    let s = c .before .before .before .before .before .before .before in
+    let s = c .before .before .before .before .before .before .before .before .before .before in
     let E = marks (s .args .n) (s .args .grid .now) in
-    let e = c .before .before .before .before .before .number-of .ensures .0 in
+    let e = c .before .before .before .before .before .before .before .before .number-of .ensures .0 in
     rw (
-      odd-told (s .args .n) E X _ (s .args .c) (s .pre .3) e (c .before .before .before .before .lower-odd .ensures) ∙ c .before .before .before .if1 .left,
-      odd-told (s .args .n) E Y _ (s .args .c) (s .pre .3) e (c .before .before .lower-odd2 .ensures) ∙ c .before .if2 .left,
+      odd-told (s .args .n) E X _ (s .args .c) (s .pre .3) e (c .before .before .before .before .before .before .before .lower-marks .ensures) (c .before .before .before .before .before .before .is-odd .ensures) ∙ c .before .before .before .before .before .if1 .left,
+      odd-told (s .args .n) E Y _ (s .args .c) (s .pre .3) e (c .before .before .before .before .lower-marks2 .ensures) (c .before .before .before .is-odd2 .ensures) ∙ c .before .before .if2 .left,
       &&-true,
     )
-    (ap not (sym (odd-told (s .args .n) E Z _ (s .args .c) (s .pre .3) e (c .lower-odd3 .ensures))))
+    (ap not (sym (odd-told (s .args .n) E Z _ (s .args .c) (s .pre .3) e (c .before .lower-marks3 .ensures) (c .is-odd3 .ensures))))
 
 pub lower-even-spec : {M : Type 1} → statement M
 lower-even-spec =
     tie.close
     (tie.spec
     number-of-requires
-    lower-odd-requires
+    lower-marks-requires
+    is-odd-requires
     returns
-    lower-odd-requires-2
+    lower-marks-requires-2
+    is-odd-requires-2
     returns-2
-    lower-odd-requires-3
+    lower-marks-requires-3
+    is-odd-requires-3
     returns-3)

@@ -84,7 +84,7 @@ returns c =
     let l = c .before .loop in
     let e : l .p ≡ pointCount (c .before .before .before .before .before .args .n) = omega (arith, l .inv .0, l .inv .1, c .loop-test .left) in
     let w = l .inv .5 (l .out) (l .at) (rw (points-end (c .before .before .before .before .before .args .n) (l .p) (omega arith)) (put-none (l .out) (l .at))) in
-    (w, omega (arith, l .inv .2, l .inv .3, c .before .before .before .before .before .pre .2))
+    (w, omega (arith, l .inv .2, e))
 
 pub put-picture-spec : {M : Type 1} → statement M
 put-picture-spec =

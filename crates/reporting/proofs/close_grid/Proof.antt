@@ -31,8 +31,7 @@ returns c =
     let s = c .before .before .before .before .before .before .before .before .before .before .before .before .before .before in
     let p = c .before .before .before .before .before .before .before .before .patch-grid in
     let e = c .before .before .before .before .before .before .before .before .before .before .before .cells .ensures in
-    let long = rw (p .kept .1 .0) (s .pre .0 .long) in
-    closing (s .args .l) _ _ (s .pre .0) (s .pre .1) (rw e at (p .ensures)) long (rw e at (c .before .before .sign-grid .ensures)) (rw (c .before .before .sign-grid .kept .1 .0) long)
+    closing (s .args .l) _ _ (s .pre .0) (s .pre .1) (rw e at (p .ensures)) (rw (p .kept .1 .0) (s .pre .0 .long)) (rw e at (c .before .before .sign-grid .ensures)) (rw (c .before .before .sign-grid .kept .1 .0, p .kept .1 .0) (s .pre .0 .long))
 
 pub close-grid-spec : {M : Type 1} → statement M
 close-grid-spec =

@@ -7,6 +7,7 @@ use borrow.Author.Needs.{needs}
 use Rattle.lattice.specs.Levels.{pointsOf}
 use Rattle.lattice.proofs.LevelFacts.{cells-most}
 use Rattle.picture.proofs.Inside.{points-most}
+use Rattle.text.proofs.Texts.{put-both}
 use Rattle.reporting.proofs.Lent.{bytes-long}
 use Rattle.reporting.proofs.Reports.{picture-is}
 use Rattle.reporting.proofs.show.Statement.{statement}
@@ -17,16 +18,22 @@ work-long : (c : tie.Start) → pointsOf (c .args .l) ≤ length (c .args .work 
 work-long c = rw (c .pre .1) (bytes-long (c .args .l))
 
 close-grid-requires : tie.Need-close-grid-requires
-close-grid-requires c κs = (c@S .pre .0, work-long c@S)
+close-grid-requires c κs = (c .before .before .before .before .before .pre .0, work-long (c .before .before .before .before .before))
 
 cells-requires : tie.Need-cells-requires
 cells-requires c κs = search needs
 
 put-picture-requires : tie.Need-put-picture-requires
 put-picture-requires c κs =
-    let s = c@S in
-    rw (c@cells .ensures)
-    (cells-most (s .args .l), c@close-grid .ensures .long, omega (arith, points-most (s .args .l), s .pre .2))
+    let s = c .before .before .before .before .before .before .before .before .before .before .before .before .before in
+    rw (c .before .cells .ensures)
+    (cells-most (s .args .l), c .before .before .before .before .before .before .before .close-grid .ensures .long, omega (arith, points-most (s .args .l), s .pre .2))
+
+put-faces-requires : tie.Need-put-faces-requires
+put-faces-requires c κs =
+    let s = c .before .before .before .before .before .before .before .before .before .before .before .before .before .before .before .before .before in
+    let p = rw (c .before .before .before .before .before .cells .ensures) at (c .before .before .before .put-picture .ensures .1) in
+    omega (arith, points-most (s .args .l), s .pre .2, p, c .before .before .before .put-picture .kept .0)
 
 same-length : tie.Need-same-length
 same-length c = search needs
@@ -39,9 +46,11 @@ same-length-3 c = search needs
 
 returns : tie.Need-returns
 returns c =
-    let s = c@S in
-    let p = rw (c@cells .ensures) at (c@put-picture .ensures) in
-    (rw (sym (picture-is (s .args .l) _ (rw (s .pre .1) at (c@close-grid .ensures)))) (p .0), p .1)
+    let s = c .before .before .before .before .before .before .before .before .before .before .before .before .before .before .before .before .before .before .before .before in
+    let p = rw (c .before .before .before .before .before .before .before .before .cells .ensures) at (c .before .before .before .before .before .before .put-picture .ensures) in
+    let f = c .before .before .put-faces in
+    (rw (sym (picture-is (s .args .l) _ (rw (s .pre .1) at (c .before .before .before .before .before .before .before .before .before .before .before .before .before .before .close-grid .ensures)))) (put-both (p .0) (f .ensures .0)),
+    omega (arith, points-most (s .args .l), s .pre .2, p .1, f .ensures .1, c .before .before .before .before .before .before .put-picture .kept .0, f .kept .0))
 
 pub show-spec : {M : Type 1} → statement M
 show-spec =
@@ -50,6 +59,7 @@ show-spec =
     close-grid-requires
     cells-requires
     put-picture-requires
+    put-faces-requires
     same-length
     same-length-2
     same-length-3

@@ -1,0 +1,84 @@
+// The face test: how many of a face's four edges are marked, 0 to 4. Rims, patch and sign learn of faces by it alone.
+use lattice::byte::mark_bit;
+use lattice::cell::edge_rule;
+use lattice::number_of;
+use rules::Axis;
+use rules::Place;
+ghost use mathlib.Core.Path.{_≡_};
+ghost use mathlib.Core.Bool.{true};
+ghost use Prim.Native.Nat.{_≤_, _<_};
+ghost use lib.ListN.{length};
+ghost use Rattle.rules.specs.Lattice.{isIn, pointCount, pointOf};
+ghost use Rattle.rules.specs.Cell.{faceMarks, isOdd};
+ghost use Rattle.rules.specs.Grid.{value, isGrid, marks};
+ghost use Rattle.lattice.specs.Cells.{bitsFrom, Reached, marksOf};
+
+// 1 where the edge as far on from point number `at` as e of the table lies from (0,0,0) is marked, else 0.
+fn marked(n: usize, grid: &[u8], at: usize, e: Place) -> u8
+    requires { ⌜ (n ≤ 32) × (pointCount n ≤ length (now grid)) × Reached n at e ⌝ }
+    ensures { λ r. ⌜ (r ≡ value (isIn (bitsFrom n (now (grid .entry)) at) e) 1) × (r ≤ 1) ⌝ }
+{
+    let p = at + number_of(n, e.at);
+    let a = e.axis;
+    mark_bit(grid[p], a)
+}
+
+// How many of four edges of the table are marked there.
+fn face_marks(n: usize, grid: &[u8], at: usize, e: Place, f: Place, g: Place, h: Place) -> u8
+    requires { ⌜ (n ≤ 32) × (pointCount n ≤ length (now grid)) × Reached n at e × Reached n at f × Reached n at g × Reached n at h ⌝ }
+    ensures { λ r. ⌜ r ≡ marksOf (bitsFrom n (now (grid .entry)) at) e f g h ⌝ }
+{
+    let p = marked(n, grid, at, e);
+    let q = marked(n, grid, at, f);
+    let r = marked(n, grid, at, g);
+    let s = marked(n, grid, at, h);
+    p + (q + (r + s))
+}
+
+// The face test: how many edges of the face square to a at point number `at` are marked. Where the face juts out of the grid it has none, and
+// neither have the edges on the other side of the grid, which the numbers lead to: they are not inner. The table is read by literals,
+// since one read by a variable is laid out at each use.
+pub fn lower_marks(n: usize, grid: &[u8], at: usize, a: Axis) -> u8
+    requires { ⌜ (n ≤ 32) × (pointCount n ≤ length (now grid)) × (isGrid n (now grid) ≡ true) × (pointOf n at .k < n) ⌝ }
+    ensures { λ r. ⌜ r ≡ faceMarks (marks n (now (grid .entry))) a (pointOf n at) ⌝ }
+{
+    match a {
+        Axis::X => face_marks(
+            n,
+            grid,
+            at,
+            edge_rule(4),
+            edge_rule(6),
+            edge_rule(8),
+            edge_rule(10),
+        ),
+        Axis::Y => face_marks(
+            n,
+            grid,
+            at,
+            edge_rule(0),
+            edge_rule(2),
+            edge_rule(8),
+            edge_rule(9),
+        ),
+        Axis::Z => face_marks(
+            n,
+            grid,
+            at,
+            edge_rule(0),
+            edge_rule(1),
+            edge_rule(4),
+            edge_rule(5),
+        ),
+    }
+}
+
+// Whether a face with k marks is odd: it has one or three.
+pub fn is_odd(k: u8) -> bool
+    ensures { λ r. ⌜ r ≡ isOdd k ⌝ }
+{
+    if k == 1 {
+        return true;
+    }
+    k == 3
+}
