@@ -26,6 +26,8 @@ static int triangle_count;
 static uint32_t counts[4];
 static uint8_t file[STL_BYTES];
 static int32_t numbers[9 * STL_TRIANGLES];
+static uint8_t written[84 + 100 * MOST_QUADS];
+static size_t bytes;
 
 /* Microseconds a call of either side, of the row that was printed last. */
 static double took_us[2];
@@ -85,6 +87,11 @@ static void run_read(const struct calls *calls)
     hold(calls->read_stl(file, sizeof file, 0, numbers, 9 * STL_TRIANGLES, &counts[0], &counts[1]));
 }
 
+static void run_write(const struct calls *calls)
+{
+    hold(calls->write_stl(level, grid, sizeof grid, 3, written, sizeof written, &bytes));
+}
+
 /* Prints one row: the level, where the call has one, microseconds a call of either side, and the ratio. */
 static void row(const char *name, const char *input, job *run, int calls_a_run)
 {
@@ -109,7 +116,7 @@ static void row(const char *name, const char *input, job *run, int calls_a_run)
     char at[12] = "";
     if (level)
         snprintf(at, sizeof at, "%u", level);
-    printf("%-8s %-34s %5s %12.2f %12.2f %7.2f", name, input, at, took_us[0], took_us[1], took_us[0] / took_us[1]);
+    printf("%-9s %-34s %5s %12.2f %12.2f %7.2f", name, input, at, took_us[0], took_us[1], took_us[0] / took_us[1]);
 }
 
 /* Open, then what patch, sign and surface do with the grid in `came`. */
@@ -127,6 +134,8 @@ static void time_grid(const char *input)
     memcpy(came, grid, sizeof came);
     row("surface", input, run_surface, 1);
     printf("   %u quads\n", counts[0]);
+    row("write_stl", input, run_write, 1);
+    printf("   %zu bytes\n", bytes);
 }
 
 static void set_level(uint32_t to)
@@ -231,7 +240,7 @@ int main(int argc, char **argv)
     static const int32_t needle[9] = {16384, 16384, 16384, 507903, 507903, 507903, 507903, 507903, 507903};
     static const int32_t line[9] = {262143, 262143, 262143, 262144, 262144, 262144, 262144, 262144, 262144};
     setvbuf(stdout, NULL, _IOLBF, 0);
-    printf("%-8s %-34s %5s %12s %12s %7s\n", "call", "input", "level", "library us", "reference us", "ratio");
+    printf("%-9s %-34s %5s %12s %12s %7s\n", "call", "input", "level", "library us", "reference us", "ratio");
     for (uint32_t l = 2; l <= 5; l++) {
         set_level(l);
         row("open", "", run_open, 1);

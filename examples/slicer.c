@@ -3,6 +3,7 @@
    build:  rt staticlib stage
            cc -O2 -Wall -I include -o target/slicer examples/slicer.c target/staticlib/libstage.a
    run:    target/slicer models/lampshade.bin
+           target/slicer models/lampshade.bin target/lampshade.stl     (writes the surface as binary STL besides)
 
    The file is a stream as docs/FORMATS.md describes it: one level byte, then nine little-endian 32-bit numbers a triangle. */
 #include <stdio.h>
@@ -28,12 +29,27 @@ static int32_t number_of(const uint8_t *b)
     return (int32_t)((uint32_t)b[0] | (uint32_t)b[1] << 8 | (uint32_t)b[2] << 16 | (uint32_t)b[3] << 24);
 }
 
+/* Writes the surface as binary STL, at the scale of the model: e is 0. */
+static int write_file(const char *name, uint32_t level)
+{
+    size_t room = OMPHIRUN_STL(level), bytes;
+    uint8_t *stl = malloc(room);
+    FILE *out = stl ? fopen(name, "wb") : NULL;
+    if (!out)
+        return 0;
+    done("write_stl", omphirun_write_stl(level, grid, sizeof grid, 0, stl, room, &bytes));
+    printf("%zu bytes of STL\n", bytes);
+    int whole = fwrite(stl, 1, bytes, out) == bytes;
+    free(stl);
+    return (fclose(out) == 0) & whole;
+}
+
 int main(int words, char **word)
 {
-    FILE *model = words == 2 ? fopen(word[1], "rb") : NULL;
+    FILE *model = words == 2 || words == 3 ? fopen(word[1], "rb") : NULL;
     int level = model ? fgetc(model) : EOF;
     if (level == EOF) {
-        fprintf(stderr, "usage: slicer FILE\n");
+        fprintf(stderr, "usage: slicer FILE [STL]\n");
         return 2;
     }
 
@@ -81,5 +97,5 @@ int main(int words, char **word)
     if (quads > 0)
         printf("the first joins cells %u %u %u %u\n", list[0], list[1], list[2], list[3]);
     free(list);
-    return 0;
+    return words == 3 && !write_file(word[2], (uint32_t)level) ? 2 : 0;
 }

@@ -1,4 +1,4 @@
-/* The repair stage for a slicer: five calls, and one that reads binary STL, on memory that the caller lends.
+/* The repair stage for a slicer: five calls, and two that read and write binary STL, on memory that the caller lends.
 
    Link with libstage.a, which `rt staticlib stage` writes to target/staticlib/ (x86-64). examples/slicer.c shows the calls in
    their order: open, mark for each triangle, patch, sign, surface.
@@ -36,12 +36,13 @@
         not differ                                                 surface
      8  the list is shorter than four times the quads              surface
         the list is shorter than nine times the triangles          read_stl
+        the byte buffer is shorter than the file                   write_stl
      9  more than 100,000 triangles                                the program repair alone
     10  the file's length is not 84 + 50 * count                   read_stl
     11  nor that, and the file begins with `solid`: the text form  read_stl
     12  a coordinate is a NaN or infinite                          read_stl
     13  a coordinate is beyond 2^30 in size                        read_stl
-    14  e is not -20 to 20                                         read_stl
+    14  e is not -20 to 20                                         read_stl, write_stl
 
    A refusal changes no buffer and sets every count to 0. Grid and work buffers may be longer than P, and the list longer
    than it has to be: what lies behind is neither read nor changed.
@@ -49,7 +50,7 @@
    What the caller owes, and no call can check:
    - each pointer to a buffer is valid for as many elements as its length says, and aligned for them; lengths are in elements. A null
      pointer is fine where the length is 0: that is an empty buffer;
-   - each pointer to a count (place, axis, rims, flips, ones, threes, quads, triangles) is valid: it is written in every case, so it is never null;
+   - each pointer to a count (place, axis, rims, flips, ones, threes, quads, triangles, bytes) is valid: it is written in every case, so it is never null;
    - no buffer or count that a call writes overlaps another one of that call. Two that it only reads may;
    - OMPHIRUN_STACK bytes of stack are left. The calls take no memory but that and what is lent, and keep no state.
    Every other misuse is a refusal. Each promise here is a theorem about the code behind it, under these conditions. That calls with
@@ -67,7 +68,7 @@ extern "C" {
 
 /* The version: the first number rises when a caller has to change, the second when there is something new. It stands here alone. */
 #define OMPHIRUN_MAJOR 5
-#define OMPHIRUN_MINOR 0
+#define OMPHIRUN_MINOR 1
 #define OMPHIRUN_PATCH 0
 
 /* What a call returns. */
@@ -105,6 +106,9 @@ enum omphirun_number {
 /* A list that is long enough for every surface at a level, in numbers: four for each inner edge, of which there are 3 n (n-1)^2. */
 #define OMPHIRUN_EDGES(level) (3 * OMPHIRUN_CELLS(level) * (OMPHIRUN_CELLS(level) - 1) * (OMPHIRUN_CELLS(level) - 1))
 #define OMPHIRUN_LIST(level) (4 * OMPHIRUN_EDGES(level))
+
+/* A buffer that is long enough for every surface of a level as binary STL, in bytes. */
+#define OMPHIRUN_STL(level) (84 + 100 * OMPHIRUN_EDGES(level))
 
 /* Bytes of stack that are enough for any call: patch was measured to take 6.5 kB, every other call less than 1 kB. */
 #define OMPHIRUN_STACK 8192
@@ -155,6 +159,15 @@ uint32_t omphirun_surface(uint32_t level, const uint8_t *grid, size_t grid_len, 
    Refusals, in this order: 14, 11, 10, 8, then 12 or 13, with *triangles 0; *axis is 0 but with 12. */
 uint32_t omphirun_read_stl(const uint8_t *file, size_t file_len, int32_t e, int32_t *list, size_t list_len, uint32_t *triangles,
                            uint32_t *axis);
+
+/* Write the surface as a binary STL file: 80 zero bytes, the count, then two triangles for each quad of surface, in its order, corners
+   1-2-3 and 1-3-4. The normal is the outward axis vector, its zeros +0; the u16 is 0. A corner lies at the centre of its cell: with c the
+   centre's lattice place, its number is (c-1)/2 times 2^-e, which is not rounded. Read by read_stl with the same e it is c/2. Grid and signs
+   are those that surface takes. *bytes is the number of bytes written, 84 + 100 for each quad, and those behind keep their contents. Each
+   directed edge of the triangles occurs as often as its reverse. It costs two passes over the grid, as surface does, and 100 bytes a quad.
+   Refusals, in this order: 1, 2, 14, 5, 7, 8, with *bytes 0. */
+uint32_t omphirun_write_stl(uint32_t level, const uint8_t *grid, size_t grid_len, int32_t e, uint8_t *file, size_t file_len,
+                            size_t *bytes);
 
 #ifdef __cplusplus
 }

@@ -16,6 +16,7 @@ struct calls {
     uint32_t (*surface)(uint32_t level, const uint8_t *grid, size_t grid_len, uint16_t *list, size_t list_len, uint32_t *quads);
     uint32_t (*read_stl)(const uint8_t *file, size_t file_len, int32_t e, int32_t *list, size_t list_len, uint32_t *triangles,
                          uint32_t *axis);
+    uint32_t (*write_stl)(uint32_t level, const uint8_t *grid, size_t grid_len, int32_t e, uint8_t *file, size_t file_len, size_t *bytes);
 };
 
 extern const struct calls the_library, the_reference;

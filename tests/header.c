@@ -15,7 +15,7 @@ HOLDS(range_2, OMPHIRUN_LOWEST(2) == 131072 && OMPHIRUN_HIGHEST(2) == 393215);
 HOLDS(range_3, OMPHIRUN_LOWEST(3) == 65536 && OMPHIRUN_HIGHEST(3) == 458751);
 HOLDS(range_4, OMPHIRUN_LOWEST(4) == 32768 && OMPHIRUN_HIGHEST(4) == 491519);
 HOLDS(range_5, OMPHIRUN_LOWEST(5) == 16384 && OMPHIRUN_HIGHEST(5) == 507903);
-HOLDS(edges_5, OMPHIRUN_EDGES(5) == 92256 && OMPHIRUN_LIST(5) == 369024 && OMPHIRUN_LIST(2) == 432);
+HOLDS(edges_5, OMPHIRUN_EDGES(5) == 92256 && OMPHIRUN_LIST(5) == 369024 && OMPHIRUN_LIST(2) == 432 && OMPHIRUN_STL(2) == 10884);
 HOLDS(version, OMPHIRUN_MAJOR >= 1 && OMPHIRUN_MINOR >= 0 && OMPHIRUN_PATCH >= 0);
 
 static int failures;
@@ -39,7 +39,8 @@ static void hold_place(uint32_t place, uint32_t axis, uint32_t expected)
 
 int main(void)
 {
-    uint8_t grid[OMPHIRUN_POINTS(2)];
+    uint8_t grid[OMPHIRUN_POINTS(2)], file[84];
+    size_t bytes = 9;
     uint32_t one = 9, two = 9, three = 9, four = 9;
     const int32_t low[9] = {262144, 0}, high[9] = {262144, 262144, 262144, 262144, 262144, 524287};
     memset(grid, 0, sizeof grid);
@@ -68,6 +69,13 @@ int main(void)
     hold(omphirun_read_stl(NULL, 0, 20, NULL, 0, &one, &two), OMPHIRUN_WRONG_LENGTH, "read_stl");
     hold(one + two, OMPHIRUN_DONE, "read_stl's counts");
     hold(omphirun_read_stl(grid, 84, -20, NULL, 0, &one, &two), OMPHIRUN_DONE, "read_stl without triangles");
+    hold(omphirun_write_stl(1, NULL, 0, 21, NULL, 0, &bytes), OMPHIRUN_BAD_LEVEL, "write_stl");
+    hold(omphirun_write_stl(2, NULL, 0, 21, NULL, 0, &bytes), OMPHIRUN_SHORT_BUFFER, "write_stl");
+    hold(omphirun_write_stl(2, grid, sizeof grid, 21, NULL, 0, &bytes), OMPHIRUN_BAD_SCALE, "write_stl");
+    hold(omphirun_write_stl(2, grid, sizeof grid, 20, NULL, 0, &bytes), OMPHIRUN_SHORT_LIST, "write_stl");
+    hold((uint32_t)bytes, OMPHIRUN_DONE, "write_stl's count");
+    hold(omphirun_write_stl(2, grid, sizeof grid, 20, file, sizeof file, &bytes), OMPHIRUN_DONE, "write_stl without quads");
+    hold((uint32_t)(bytes - sizeof file), OMPHIRUN_DONE, "write_stl's 84 bytes");
     grid[2 + 5 * (2 + 5 * 2)] = 1;
     hold(omphirun_sign(2, grid, sizeof grid), OMPHIRUN_ODD_FACE, "sign");
     return failures > 0;

@@ -13,9 +13,10 @@ const struct kind kinds[BUFFERS] = {
     [LIST] = {"list", sizeof(uint16_t), LIST_ROOM, 0},
     [STL] = {"file", 1, STL_ROOM, 0},
     [NUMBERS] = {"number", sizeof(int32_t), NUMBERS_ROOM, 0},
+    [WRITTEN] = {"written file", 1, WRITTEN_ROOM, 0},
 };
 
-const struct call *const all_calls[] = {&call_open, &call_mark, &call_patch, &call_sign, &call_surface, &call_read_stl};
+const struct call *const all_calls[] = {&call_open, &call_mark, &call_patch, &call_sign, &call_surface, &call_read_stl, &call_write_stl};
 const size_t call_count = sizeof all_calls / sizeof *all_calls;
 
 size_t place_of(const struct call *call)

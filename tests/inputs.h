@@ -11,9 +11,9 @@
 #include "random.h"
 #include "reference_grid.h"
 
-enum buffer { GRID, WORK, TRIANGLE, LIST, STL, NUMBERS, BUFFERS };
+enum buffer { GRID, WORK, TRIANGLE, LIST, STL, NUMBERS, WRITTEN, BUFFERS };
 enum { POINT_ROOM = 40000, TRIANGLE_ROOM = 24, LIST_ROOM = 4 * 3 * 31 * 31 * 32 + 1000, MOST_COUNTS = 4 };
-enum { MOST_STL = 40, STL_ROOM = 84 + 50 * (MOST_STL + 2), NUMBERS_ROOM = 9 * MOST_STL + 40 };
+enum { MOST_STL = 40, STL_ROOM = 84 + 50 * (MOST_STL + 2), NUMBERS_ROOM = 9 * MOST_STL + 40, WRITTEN_ROOM = 84 + 100 * MOST_QUADS + 1000 };
 enum { MOST_CALLS = 32, MOST_ANSWERS = 32 };
 
 /* What a lent buffer holds: its name, bytes an element, elements that there is room for, and whether it has one byte a point. */
@@ -49,7 +49,7 @@ struct call {
     const char *(*also)(const struct input *in);
 };
 
-extern const struct call call_open, call_mark, call_patch, call_sign, call_surface, call_read_stl;
+extern const struct call call_open, call_mark, call_patch, call_sign, call_surface, call_read_stl, call_write_stl;
 extern const struct call *const all_calls[];
 extern const size_t call_count;
 

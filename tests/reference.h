@@ -18,6 +18,9 @@ uint32_t reference_surface(uint32_t level, const uint8_t *grid, size_t grid_len,
 uint32_t reference_read_stl(const uint8_t *file, size_t file_len, int32_t e, int32_t *list, size_t list_len, uint32_t *triangles,
                             uint32_t *axis);
 
+/* Document 02, M-106. */
+uint32_t reference_write_stl(uint32_t level, const uint8_t *grid, size_t grid_len, int32_t e, uint8_t *file, size_t file_len, size_t *bytes);
+
 /* Mark once more: it looks only at the edges that reach into the triangle's bounding box. */
 uint32_t reference_mark_near(uint32_t level, uint8_t *grid, size_t grid_len, const int32_t *triangle, size_t triangle_len, uint32_t *place,
                              uint32_t *axis);

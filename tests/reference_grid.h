@@ -7,7 +7,7 @@
 #include <stdint.h>
 
 enum { X, Y, Z };
-enum { MOST_CELLS_A_SIDE = 32, MOST_CELLS = 32 * 32 * 32, MOST_POINTS = 33 * 33 * 33 };
+enum { MOST_CELLS_A_SIDE = 32, MOST_CELLS = 32 * 32 * 32, MOST_POINTS = 33 * 33 * 33, MOST_QUADS = 3 * 31 * 31 * 32 };
 
 /* n cells a side, cell side S, P points, and by how much the number of a point rises with one step along each axis. */
 struct measures {

@@ -6,6 +6,7 @@
 #define reference_sign omphirun_sign
 #define reference_surface omphirun_surface
 #define reference_read_stl omphirun_read_stl
+#define reference_write_stl omphirun_write_stl
 #define reference_mark_near omphirun_mark
 #define reference_add_marks second_add_marks
 #define reference_rim_cells second_rim_cells
@@ -14,3 +15,4 @@
 #include "reference_mark.c"
 #include "reference_patch.c"
 #include "reference_stl.c"
+#include "reference_write_stl.c"

@@ -9,3 +9,4 @@ pub mod TurnedAway
 pub mod Examples
 pub mod Such
 pub mod Reading
+pub mod Writing

@@ -18,7 +18,7 @@ use Rattle.rounding.specs.Scales.{badScale, scaleAt, scaleOf, exponentOf
 use Rattle.rounding.proofs.Away.{away-same}
 
 -- 2 ^ e = 2 ^ s / 2 ^ 20
-power-of : (s : ℕ) → up (exponentOf s) * 2 ^ 20 ≡ 2 ^ s * down (exponentOf s)
+pub power-of : (s : ℕ) → up (exponentOf s) * 2 ^ 20 ≡ 2 ^ s * down (exponentOf s)
 unfolding exponentOf
 power-of s = go (ltb s 20) refl
   where
@@ -81,7 +81,7 @@ pub record Told (e : ℤ) (s : ℕ) : Type 0 where
 apart : _≡_ {A = ℕ} 0 1 → ⊥
 apart z = omega arith
 
-scale-back : (e : ℤ) → badScale e ≡ false → (scaleAt e ≤ 40) × (exponentOf (scaleAt e) ≡ e)
+pub scale-back : (e : ℤ) → badScale e ≡ false → (scaleAt e ≤ 40) × (exponentOf (scaleAt e) ≡ e)
 unfolding exponentOf
 scale-back (pos k) h =
     let l = ltb-false 20 k h in

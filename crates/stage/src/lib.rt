@@ -3,6 +3,7 @@
 use marking::MarkAnswer;
 use patching::PatchAnswer;
 use stl_reading::ReadAnswer;
+use stl_writing::WriteAnswer;
 use surfacing::SurfaceAnswer;
 ghost use mathlib.Core.Path.{_≡_};
 ghost use Rattle.marking.specs.Outcome.{Outcome as OpenOutcome};
@@ -12,6 +13,7 @@ ghost use Rattle.patching.specs.Call.{Outcome as PatchOutcome, patchCall};
 ghost use Rattle.signing.specs.Call.{Outcome as SignOutcome, signCall};
 ghost use Rattle.surfacing.specs.Call.{Outcome as SurfaceOutcome, surfaceCall};
 ghost use Rattle.stl_reading.specs.Call.{Outcome as ReadOutcome, readCall};
+ghost use Rattle.stl_writing.specs.Call.{Outcome as WriteOutcome, writeCall};
 
 // Open (level, grid): the P bytes become 0.
 #[no_mangle]
@@ -138,5 +140,26 @@ pub extern "C" fn omphirun_read_stl(
             12
         }
         ReadAnswer::Refused(why) => why.number(),
+    }
+}
+
+// Write binary STL (level, grid, e, file): each quad as two triangles; the number of bytes written is returned.
+#[no_mangle]
+pub extern "C" fn omphirun_write_stl(
+    level: u32,
+    grid: &[u8],
+    e: i32,
+    file: &mut [u8],
+    bytes: &mut usize,
+) -> u32
+    ensures { λ r. ⌜ _≡_ {A = WriteOutcome} (record { number = r; bytes = now (bytes .exit); file = now (file .exit) }) (writeCall level (now (grid .entry)) e (now (file .entry))) ⌝ }
+{
+    *bytes = 0;
+    match stl_writing::write_stl(level, grid, e, file) {
+        WriteAnswer::Done { bytes: k } => {
+            *bytes = k;
+            0
+        }
+        WriteAnswer::Refused(why) => why.number(),
     }
 }

@@ -48,7 +48,7 @@ module _ {A B : Type 0} where
       go false e = e
 
 module _ {A B C : Type 0} where
-  each-each : (f : B → List C) (g : A → List B) (l : List A) → each f (each g l) ≡ each (λ x. each f (g x)) l
+  pub each-each : (f : B → List C) (g : A → List B) (l : List A) → each f (each g l) ≡ each (λ x. each f (g x)) l
   each-each f g [] = refl
   each-each f g (x ∷ l) = each-append f (g x) (each g l) ∙ ap (λ (r : List C). each f (g x) ++ r) (each-each f g l)
 
@@ -122,22 +122,32 @@ quads-same n E s t h =
     at : (p : Point) → OfGrid n p → All (λ e. quad n s e ≡ quad n t e) (placesAt p)
     at p o = (one (record { axis = X; at = p }) o, (one (record { axis = Y; at = p }) o, (one (record { axis = Z; at = p }) o, tt)))
 
--- ---- the quads from a point on
-module _ (n : ℕ) (E : Set) (s : Point → Bool) where
-  abbrev pub quadsAt : Point → List ℕ
-  quadsAt q = each (λ e. cond (isIn E e) (quad n s e) []) (placesAt q)
+-- ---- what each marked edge gives, from a point on: its quad, as numbers or in another form
+module _ (n : ℕ) (E : Set) (f : Place → List ℕ) where
+  abbrev pub givenAt : Point → List ℕ
+  givenAt q = each (λ e. cond (isIn E e) (f e) []) (placesAt q)
 
-  abbrev pub quadsFrom : ℕ → List ℕ
-  quadsFrom p = each quadsAt (pointsFrom n p)
+  abbrev pub givenFrom : ℕ → List ℕ
+  givenFrom p = each givenAt (pointsFrom n p)
 
-  pub quads-start : quadsFrom 0 ≡ quads n E s
-  unfolding quads
-  quads-start =
-      ap (each quadsAt) (points-start n)
-      ∙ sym (each-keep (quad n s) (isIn E) (places (suc n)) ∙ each-each (λ e. cond (isIn E e) (quad n s e) []) placesAt (points (suc n)))
+  pub given-start : givenFrom 0 ≡ each f (keep (isIn E) (places (suc n)))
+  given-start =
+      ap (each givenAt) (points-start n)
+      ∙ sym (each-keep f (isIn E) (places (suc n)) ∙ each-each (λ e. cond (isIn E e) (f e) []) placesAt (points (suc n)))
 
-  pub quads-end : (p : ℕ) → pointCount n ≤ p → quadsFrom p ≡ []
-  quads-end p h = ap (each quadsAt) (points-end n p h)
+  pub given-end : (p : ℕ) → pointCount n ≤ p → givenFrom p ≡ []
+  given-end p h = ap (each givenAt) (points-end n p h)
+
+-- the list of quads
+abbrev pub quadsAt : ℕ → Set → (Point → Bool) → Point → List ℕ
+quadsAt n E s = givenAt n E (quad n s)
+
+abbrev pub quadsFrom : ℕ → Set → (Point → Bool) → ℕ → List ℕ
+quadsFrom n E s = givenFrom n E (quad n s)
+
+pub quads-start : (n : ℕ) (E : Set) (s : Point → Bool) → quadsFrom n E s 0 ≡ quads n E s
+unfolding quads
+quads-start n E s = given-start n E (quad n s)
 
 -- the quads of a point, by its byte; x tells whether it is inside
 pub quads-byte : (n : ℕ) (g : List ℕ) (p : ℕ) (q : Point) (x : Bool) → pointCount n ≤ length g → isGrid n g ≡ true → At n p q → p < pointCount n →
@@ -173,31 +183,35 @@ three-written l i x y z ex ey ez = (
       ∙ ap (λ (d : List ℕ). sets l i d) (append-assoc x y z ∙ ap (λ (d : List ℕ). x ++ (y ++ d)) (sym (append-nil z))),
 )
 
--- ---- one turn of the loop that writes: the quads of a point are written, and those behind it are left
-module _ (n : ℕ) (E : Set) (s : Point → Bool) (p : ℕ) (q : Point) (a : At n p q) (h : p < pointCount n) where
-  pub quads-room : (i : ℕ) (l : List ℕ) → i + length (quadsFrom n E s p) ≤ length l → i + length (quadsAt n E s q) ≤ length l
-  quads-room i l r =
-      let e = ap length (each-step (quadsAt n E s) n p q a h) ∙ length-append (quadsAt n E s q) (quadsFrom n E s (suc p)) in
-      omega arith
+-- ---- one turn of a loop that writes: what the edges at a point give is written, and what is behind it is left
+module _ (n : ℕ) (E : Set) (f : Place → List ℕ) (p : ℕ) (q : Point) (a : At n p q) (h : p < pointCount n) where
+  abbrev here : List ℕ
+  here = givenAt n E f q
 
-  pub quads-written : (i j : ℕ) (l m : List ℕ) → (j ≡ i + length (quadsAt n E s q)) × (m ≡ sets l i (quadsAt n E s q)) → i + length (quadsFrom n E s p) ≤ length l →
-      (length m ≡ length l) × (j + length (quadsFrom n E s (suc p)) ≤ length m) × (sets m j (quadsFrom n E s (suc p)) ≡ sets l i (quadsFrom n E s p))
-  quads-written i j l m e r =
-      let t = each-step (quadsAt n E s) n p q a h in
-      let f = ap length t ∙ length-append (quadsAt n E s q) (quadsFrom n E s (suc p)) in
-      let g = ap length (e .1) ∙ length-sets l i (quadsAt n E s q) in (
+  abbrev behind : List ℕ
+  behind = givenFrom n E f (suc p)
+
+  step : givenFrom n E f p ≡ here ++ behind
+  step = each-step (givenAt n E f) n p q a h
+
+  pub given-room : (i : ℕ) (l : List ℕ) → i + length (givenFrom n E f p) ≤ length l → i + length here ≤ length l
+  given-room i l r = let e = ap length step ∙ length-append here behind in omega arith
+
+  pub given-written : (i j : ℕ) (l m : List ℕ) → (j ≡ i + length here) × (m ≡ sets l i here) → i + length (givenFrom n E f p) ≤ length l →
+      (length m ≡ length l) × (j + length behind ≤ length m) × (sets m j behind ≡ sets l i (givenFrom n E f p))
+  given-written i j l m e r =
+      let k = ap length step ∙ length-append here behind in
+      let g = ap length (e .1) ∙ length-sets l i here in (
         g,
         omega arith,
-        ap₂ (λ (d : List ℕ) (u : ℕ). sets d u (quadsFrom n E s (suc p))) (e .1) (e .0)
-            ∙ sets-append l i (quadsAt n E s q) (quadsFrom n E s (suc p))
-            ∙ ap (λ (d : List ℕ). sets l i d) (sym t),
+        ap₂ (λ (d : List ℕ) (u : ℕ). sets d u behind) (e .1) (e .0) ∙ sets-append l i here behind ∙ ap (λ (d : List ℕ). sets l i d) (sym step),
       )
 
 -- the room for the quads of a point, whether it is inside or outside
 pub byte-room : (n : ℕ) (g : List ℕ) (p : ℕ) (q : Point) (x : Bool) (i : ℕ) (l : List ℕ) → pointCount n ≤ length g → isGrid n g ≡ true → At n p q →
     p < pointCount n → i + length (quadsFrom n (marks n g) (inside n g) p) ≤ length l → i + length (byteQuads n (getD g p 0) x q) ≤ length l
 byte-room n g p q x i l long grid a h r =
-    let w = quads-room n (marks n g) (inside n g) p q a h i l r in
+    let w = given-room n (marks n g) (quad n (inside n g)) p q a h i l r in
     let e = ap length (quads-byte n g p q (saysInside (getD g p 0)) long grid a h refl) in
     let u = quads-long n (getD g p 0) (saysInside (getD g p 0)) q in
     let v = quads-long n (getD g p 0) x q in

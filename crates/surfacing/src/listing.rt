@@ -19,7 +19,7 @@ ghost use Rattle.lattice.specs.Cells.{Cell};
 ghost use Rattle.surfacing.specs.Listing.{quadCount, cellStep, byteQuad, byteQuads, MarksInner};
 
 // The axis after an axis, round: for x the pair is (y,z), for y it is (z,x), for z it is (x,y).
-fn next(a: Axis) -> Axis
+pub fn next(a: Axis) -> Axis
     ensures { λ r. ⌜ r ≡ next a ⌝ }
 {
     match a {

@@ -48,9 +48,10 @@ returns : tie.Need-returns
 returns c =
     let s = c .before .before .before .before .before .before .before .before .before .before .before .before .before .before .before .before .before .before .before .before in
     let p = rw (c .before .before .before .before .before .before .before .before .cells .ensures) at (c .before .before .before .before .before .before .put-picture .ensures) in
-    let f = c .before .before .put-faces in
-    (rw (sym (picture-is (s .args .l) _ (rw (s .pre .1) at (c .before .before .before .before .before .before .before .before .before .before .before .before .before .before .close-grid .ensures)))) (put-both (p .0) (f .ensures .0)),
-    omega (arith, points-most (s .args .l), s .pre .2, p .1, f .ensures .1, c .before .before .before .before .before .before .put-picture .kept .0, f .kept .0))
+    let f = c .before .before .put-faces in (
+      rw (sym (picture-is (s .args .l) _ (rw (s .pre .1) at (c .before .before .before .before .before .before .before .before .before .before .before .before .before .before .close-grid .ensures)))) (put-both (p .0) (f .ensures .0)),
+      omega (arith, points-most (s .args .l), s .pre .2, p .1, f .ensures .1, c .before .before .before .before .before .before .put-picture .kept .0, f .kept .0),
+    )
 
 pub show-spec : {M : Type 1} → statement M
 show-spec =

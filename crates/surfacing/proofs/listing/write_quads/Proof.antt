@@ -8,12 +8,12 @@ use lib.ListN.{length}
 use lib.Seq.{sets}
 use Rattle.rules.specs.Lattice.{pointCount}
 use Rattle.rules.specs.Grid.{marks, inside}
-use Rattle.rules.specs.Quads.{quads}
+use Rattle.rules.specs.Quads.{quad, quads}
 use Rattle.grids.proofs.Points.{At, at-start, at-grid, at-next}
 use Rattle.lattice.proofs.Written.{written}
 use Rattle.surfacing.specs.Listing.{quadCount}
 use Rattle.surfacing.proofs.Around.{marks-inner-at}
-use Rattle.surfacing.proofs.Quads.{quadsFrom, quads-start, quads-end, quads-byte, quads-length, quads-written, byte-room}
+use Rattle.surfacing.proofs.Quads.{quadsFrom, quads-start, given-end, quads-byte, quads-length, given-written, byte-room}
 use Rattle.surfacing.proofs.listing.write_quads.Statement.{statement}
 use Rattle.surfacing.proofs.listing.write_quads.Tie as tie
 
@@ -83,7 +83,7 @@ loop-again c =
     let g = start .args .grid .now in
     let h : l .p < pointCount n = omega (arith, l .inv .0, c .before .before .before .before .before .before .before .before .loop-test .taken) in
     let e = rw (quads-byte n g (l .p) (l .q) _ (start .pre .1) (start .pre .2) (l .inv .2) h (c .before .before .before .before .before .is-inside .ensures)) at (c .before .before .before .put-quads .ensures) in
-    let w = quads-written n (marks n g) (inside n g) (l .p) (l .q) (l .inv .2) h (l .at) _ (l .list) _ e (l .inv .4) in
+    let w = given-written n (marks n g) (quad n (inside n g)) (l .p) (l .q) (l .inv .2) h (l .at) _ (l .list) _ e (l .inv .4) in
     (l .inv .0, omega arith, rw (add-one, c .next-point .ensures) (at-next n (l .p) (l .q) (l .inv .2) h), w .0 ∙ l .inv .3, rw add-one (w .1), rw add-one (w .2 ∙ l .inv .5))
 
 same-length : tie.Need-same-length Inv-loop μ-loop
@@ -96,7 +96,7 @@ returns c =
     let n = start .args .n in
     let E = marks n (start .args .grid .now) in
     let s = inside n (start .args .grid .now) in
-    sym (ap (sets (l .list) (l .at)) (quads-end n E s (l .p) (omega (arith, l .inv .0, c .loop-test .left))))
+    sym (ap (sets (l .list) (l .at)) (given-end n E (quad n s) (l .p) (omega (arith, l .inv .0, c .loop-test .left))))
     ∙ l .inv .5
     ∙ written (start .args .list .now) (quads n E s) (4 * quadCount n E) (quads-length n E s) (start .pre .3)
 

@@ -1,0 +1,1 @@
+// Theorems over a written STL file: it reads back, and its triangles turn one way. Nothing runs.

@@ -1,0 +1,5 @@
+pub mod Accepted
+pub mod Corners
+pub mod Edges
+pub mod Files
+pub mod Done

@@ -1,0 +1,106 @@
+-- `put_quad` meets its contract: the corners are those of the quad, in the one turn or in the other. Assumes nothing.
+use borrow.Author.Needs.{needs}
+use Rattle.stl_writing.proofs.listing.put_quad.Statement.{statement}
+use Rattle.stl_writing.proofs.listing.put_quad.Tie as tie
+use mathlib.Core.Path.{_≡_, refl, sym, ap, subst, _∙_}
+use Rattle.rules.specs.declared.Axis.{Axis}
+use Rattle.rules.specs.Lattice.{down}
+use Rattle.octets.specs.Octets.{puts}
+use Rattle.rounding.specs.Scales.{exponentOf}
+use Rattle.stl_records.specs.Records.{Placed, cornerOf}
+use Rattle.stl_writing.proofs.Corners.{down-placed, first-is, second-is, on-last, on-next, on-first, below-placed, quad-upward, quad-downward}
+
+next-requires : tie.Need-next-requires
+next-requires c κs = search needs
+
+next-requires-2 : tie.Need-next-requires-2
+next-requires-2 c κs = search needs
+
+down-requires : tie.Need-down-requires
+down-requires c κs = on-last (c .before .before .before .args .a) (c .before .next .result) (c .next2 .result) (c .before .before .before .args .q) _ (c .before .next .ensures) (c .next2 .ensures) refl (c .before .before .before .args .side) (c .before .before .before .pre .2)
+
+down-requires-2 : tie.Need-down-requires-2
+down-requires-2 c κs = let s = c .before .before .before .before in on-first (s .args .a) (c .before .before .next .result) (c .before .next2 .result) (s .args .q) (c .down .result) (c .before .before .next .ensures) (c .before .next2 .ensures) (c .down .ensures) (s .args .side) (s .pre .2)
+
+corner-requires : tie.Need-corner-requires
+corner-requires c κs =
+    let s = c .before .before .before .before .before in
+    (s .pre .0, s .pre .1, subst (Placed (s .args .side)) (sym (c .down2 .ensures)) (down-placed (s .args .side) (c .before .before .before .next .result) (c .before .down .result) (below-placed (s .args .a) (c .before .before .before .next .result) (c .before .before .next2 .result) (s .args .q) (c .before .down .result) (c .before .before .before .next .ensures) (c .before .before .next2 .ensures) (c .before .down .ensures) (s .args .side) (s .pre .2))))
+
+corner-requires-2 : tie.Need-corner-requires-2
+corner-requires-2 c κs = let s = c .before .before .before .before .before .before in (s .pre .0, s .pre .1, below-placed (s .args .a) (c .before .before .before .before .next .result) (c .before .before .before .next2 .result) (s .args .q) (c .before .before .down .result) (c .before .before .before .before .next .ensures) (c .before .before .before .next2 .ensures) (c .before .before .down .ensures) (s .args .side) (s .pre .2))
+
+corner-requires-3 : tie.Need-corner-requires-3
+corner-requires-3 c κs = (c .before .before .before .before .before .before .before .pre .0, c .before .before .before .before .before .before .before .pre .1, c .before .before .before .before .before .before .before .pre .2 .cell)
+
+down-requires-3 : tie.Need-down-requires-3
+down-requires-3 c κs = let s = c .before .before .before .before .before .before .before .before in on-next (s .args .a) (c .before .before .before .before .before .before .next .result) (c .before .before .before .before .before .next2 .result) (s .args .q) (c .before .before .before .before .down .result) (c .before .before .before .before .before .before .next .ensures) (c .before .before .before .before .before .next2 .ensures) (c .before .before .before .before .down .ensures) (s .args .side) (s .pre .2)
+
+corner-requires-4 : tie.Need-corner-requires-4
+corner-requires-4 c κs =
+    let s = c .before .before .before .before .before .before .before .before .before in
+    (s .pre .0, s .pre .1, subst (Placed (s .args .side)) (sym (c .down3 .ensures)) (down-placed (s .args .side) (c .before .before .before .before .before .before .before .next .result) (s .args .q) (s .pre .2 .cell)))
+
+normal-requires : tie.Need-normal-requires
+normal-requires c κs = search needs
+
+put-pair-requires : tie.Need-put-pair-requires
+put-pair-requires c κs = (c .before .before .before .before .before .before .before .before .before .before .before .before .before .pre .3, c .before .before .normal .ensures .1, c .before .before .before .before .before .before .before .corner .ensures .1, c .before .before .before .before .before .before .corner2 .ensures .1, c .before .before .before .before .before .corner3 .ensures .1, c .before .before .before .corner4 .ensures .1)
+
+same-length : tie.Need-same-length
+same-length c = search needs
+
+returns : tie.Need-returns
+returns c =
+    let s = c .before .before .before .before .before .before .before .before .before .before .before .before .before .before .before .before in
+    let e = exponentOf (s .args .s) in
+    let at = cornerOf (s .args .side) e in
+    let next-is = c .before .before .before .before .before .before .before .before .before .before .before .before .before .before .next .ensures in
+    c .before .before .put-pair .ensures
+    ∙ ap (puts (s .args .out .now) (s .args .at)) (quad-upward (s .args .side) e (s .args .a) (s .args .q) (s .args .upward) _ _ _ _ _ (c .before .before .before .before .before .normal .ensures .0)
+    (c .before .before .before .before .before .before .before .before .before .before .corner .ensures .0 ∙ ap at (first-is (s .args .a) (c .before .before .before .before .before .before .before .before .before .before .before .before .before .before .next .result) (c .before .before .before .before .before .before .before .before .before .before .before .before .before .next2 .result) (s .args .q) (c .before .before .before .before .before .before .before .before .before .before .before .before .down .result) (c .before .before .before .before .before .before .before .before .before .before .before .before .before .before .next .ensures) (c .before .before .before .before .before .before .before .before .before .before .before .before .before .next2 .ensures) (c .before .before .before .before .before .before .before .before .before .before .before .before .down .ensures) _ (c .before .before .before .before .before .before .before .before .before .before .before .down2 .ensures)))
+    (c .before .before .before .before .before .before .before .before .before .corner2 .ensures .0 ∙ ap at (second-is (s .args .a) (c .before .before .before .before .before .before .before .before .before .before .before .before .before .before .next .result) (c .before .before .before .before .before .before .before .before .before .before .before .before .before .next2 .result) (s .args .q) (c .before .before .before .before .before .before .before .before .before .before .before .before .down .result) (c .before .before .before .before .before .before .before .before .before .before .before .before .before .before .next .ensures) (c .before .before .before .before .before .before .before .before .before .before .before .before .before .next2 .ensures) (c .before .before .before .before .before .before .before .before .before .before .before .before .down .ensures)))
+    (c .before .before .before .before .before .before .before .before .corner3 .ensures .0)
+    (c .before .before .before .before .before .before .corner4 .ensures .0 ∙ ap at (c .before .before .before .before .before .before .before .down3 .ensures ∙ ap (λ (x : Axis). down x (s .args .q)) next-is))
+    (c .before .before .before .before .if1 .taken))
+
+put-pair-requires-2 : tie.Need-put-pair-requires-2
+put-pair-requires-2 c κs = (c .before .before .before .before .before .before .before .before .before .before .before .before .before .pre .3, c .before .before .normal .ensures .1, c .before .before .before .before .before .before .before .corner .ensures .1, c .before .before .before .corner4 .ensures .1, c .before .before .before .before .before .corner3 .ensures .1, c .before .before .before .before .before .before .corner2 .ensures .1)
+
+same-length-2 : tie.Need-same-length-2
+same-length-2 c = search needs
+
+returns-2 : tie.Need-returns-2
+returns-2 c =
+    let s = c .before .before .before .before .before .before .before .before .before .before .before .before .before .before .before .before in
+    let e = exponentOf (s .args .s) in
+    let at = cornerOf (s .args .side) e in
+    let next-is = c .before .before .before .before .before .before .before .before .before .before .before .before .before .before .next .ensures in
+    c .before .before .put-pair2 .ensures
+    ∙ ap (puts (s .args .out .now) (s .args .at)) (quad-downward (s .args .side) e (s .args .a) (s .args .q) (s .args .upward) _ _ _ _ _ (c .before .before .before .before .before .normal .ensures .0)
+    (c .before .before .before .before .before .before .before .before .before .before .corner .ensures .0 ∙ ap at (first-is (s .args .a) (c .before .before .before .before .before .before .before .before .before .before .before .before .before .before .next .result) (c .before .before .before .before .before .before .before .before .before .before .before .before .before .next2 .result) (s .args .q) (c .before .before .before .before .before .before .before .before .before .before .before .before .down .result) (c .before .before .before .before .before .before .before .before .before .before .before .before .before .before .next .ensures) (c .before .before .before .before .before .before .before .before .before .before .before .before .before .next2 .ensures) (c .before .before .before .before .before .before .before .before .before .before .before .before .down .ensures) _ (c .before .before .before .before .before .before .before .before .before .before .before .down2 .ensures)))
+    (c .before .before .before .before .before .before .before .before .before .corner2 .ensures .0 ∙ ap at (second-is (s .args .a) (c .before .before .before .before .before .before .before .before .before .before .before .before .before .before .next .result) (c .before .before .before .before .before .before .before .before .before .before .before .before .before .next2 .result) (s .args .q) (c .before .before .before .before .before .before .before .before .before .before .before .before .down .result) (c .before .before .before .before .before .before .before .before .before .before .before .before .before .before .next .ensures) (c .before .before .before .before .before .before .before .before .before .before .before .before .before .next2 .ensures) (c .before .before .before .before .before .before .before .before .before .before .before .before .down .ensures)))
+    (c .before .before .before .before .before .before .before .before .corner3 .ensures .0)
+    (c .before .before .before .before .before .before .corner4 .ensures .0 ∙ ap at (c .before .before .before .before .before .before .before .down3 .ensures ∙ ap (λ (x : Axis). down x (s .args .q)) next-is))
+    (c .before .before .before .before .if1 .left))
+
+pub put-quad-spec : {M : Type 1} → statement M
+put-quad-spec =
+    tie.close
+    (tie.spec
+    next-requires
+    next-requires-2
+    down-requires
+    down-requires-2
+    corner-requires
+    corner-requires-2
+    corner-requires-3
+    down-requires-3
+    corner-requires-4
+    normal-requires
+    put-pair-requires
+    same-length
+    returns
+    put-pair-requires-2
+    same-length-2
+    returns-2)

@@ -1,0 +1,20 @@
+-- `put_header` meets its contract. Assumes nothing.
+use borrow.Author.Needs.{needs}
+use Rattle.stl_writing.proofs.put_header.Statement.{statement}
+use Rattle.stl_writing.proofs.put_header.Tie as tie
+use Rattle.stl_writing.proofs.Files.{header-put}
+
+clear-requires : tie.Need-clear-requires
+clear-requires c κs = search needs
+
+put-word-requires : tie.Need-put-word-requires
+put-word-requires c κs = search needs
+
+same-length : tie.Need-same-length
+same-length c = search needs
+
+returns : tie.Need-returns
+returns c = header-put _ _ _ _ (c .before .before .before .before .before .before .before .before .before .pre) (c .before .before .before .before .before .before .clear .ensures) (c .before .before .put-word .ensures)
+
+pub put-header-spec : {M : Type 1} → statement M
+put-header-spec = tie.close (tie.spec clear-requires put-word-requires same-length returns)

@@ -1,0 +1,141 @@
+-- `write_stl` gives the first row that applies, and writes the file where none does. Assumes nothing.
+use borrow.Author.Needs.{needs}
+use Rattle.stl_writing.proofs.write_stl.Statement.{statement}
+use Rattle.stl_writing.proofs.write_stl.Tie as tie
+use mathlib.Core.Path.{_≡_, sym, ap, _∙_}
+use mathlib.Core.List.{List}
+use Prim.Native.Nat.{ℕ, _*_}
+use borrow.Author.Tests.{lt-ltb, le-ltb}
+use mir.Syntax.{w32}
+use mir.ValLaws.{toZ-ofZ}
+use Rattle.rules.specs.Grid.{marks, inside}
+use Rattle.lattice.proofs.LevelFacts.{cells-most, side-whole}
+use Rattle.lattice.proofs.Tests.{fails, holds}
+use Rattle.refusals.proofs.Levels.{read-unknown, read-known}
+use Rattle.rounding.specs.Scales.{scaleOf, exponentOf}
+use Rattle.rounding.proofs.Scaled.{scale-told, scale-bad}
+use Rattle.stl_records.specs.File.{facings}
+use Rattle.stl_writing.specs.Call.{written, writeRows, writeCall}
+
+read-requires : tie.Need-read-requires
+read-requires c κs = search needs
+
+enum-known-l : tie.Need-enum-known-l
+enum-known-l c = search needs
+
+enum-told : tie.Need-enum-told
+enum-told c = search needs
+
+returns : tie.Need-returns
+unfolding writeRows writeCall
+returns c = rw (read-unknown _ (sym (c .before .before .read .ensures) ∙ c .enum-told .given .1))
+
+cells-requires : tie.Need-cells-requires
+cells-requires c κs = search needs
+
+points-requires : tie.Need-points-requires
+points-requires c κs = search needs
+
+returns-2 : tie.Need-returns-2
+unfolding writeRows writeCall
+returns-2 c =
+    let level = read-known _ _ (sym (c .before .before .before .before .before .before .read .ensures) ∙ c .before .before .before .before .l .given .1) in
+    simp (level .0, level .1, lt-ltb _ _ (rw (c .before .points .ensures) at (c .if1 .taken)))
+
+scale-of-requires : tie.Need-scale-of-requires
+scale-of-requires c κs = search needs
+
+enum-known-s : tie.Need-enum-known-s
+enum-known-s c = search needs
+
+enum-told-2 : tie.Need-enum-told-2
+enum-told-2 c = search needs
+
+returns-3 : tie.Need-returns-3
+unfolding writeRows writeCall
+returns-3 c =
+    let level = read-known _ _ (sym (c .before .before .before .before .before .before .before .before .before .read .ensures) ∙ c .before .before .before .before .before .before .before .l .given .1) in
+    let long = rw (c .before .before .before .before .points .ensures) at (c .before .before .before .if1 .left) in
+    let bad = scale-bad (c .before .before .before .before .before .before .before .before .before .before .before .before .args .e) (sym (c .enum-told2 .given .1) ∙ c .before .before .scale-of .ensures ∙ ap scaleOf (toZ-ofZ w32 _ (c .before .before .before .before .before .before .before .before .before .before .before .before .fits .e))) in
+    simp (level .0, level .1, le-ltb _ _ long, bad)
+
+is-grid-requires : tie.Need-is-grid-requires
+is-grid-requires c κs =
+    let long = rw (c .before .before .before .before .before .points .ensures) at (c .before .before .before .before .if1 .left) in
+    rw (c .before .before .before .before .before .before .cells .ensures) (cells-most (c .before .before .before .before .before .before .before .before .l .given .0 .0), long)
+
+returns-4 : tie.Need-returns-4
+unfolding writeRows writeCall
+returns-4 c =
+    let level = read-known _ _ (sym (c .before .before .before .before .before .before .before .before .before .before .before .before .read .ensures) ∙ c .before .before .before .before .before .before .before .before .before .before .l .given .1) in
+    let long = rw (c .before .before .before .before .before .before .before .points .ensures) at (c .before .before .before .before .before .before .if1 .left) in
+    let scale = scale-told (c .before .before .before .before .before .before .before .before .before .before .before .before .before .before .before .args .e) (c .before .before .before .s .given .0 .0) (sym (c .before .before .before .s .given .1) ∙ c .before .before .before .before .before .scale-of .ensures ∙ ap scaleOf (toZ-ofZ w32 _ (c .before .before .before .before .before .before .before .before .before .before .before .before .before .before .before .fits .e))) in
+    let none = fails (rw (c .before .before .before .before .before .before .before .before .cells .ensures) at (c .before .is-grid .ensures)) (c .if2 .taken) in
+    simp (level .0, level .1, le-ltb _ _ long, scale .good, none)
+
+signs-fit-requires : tie.Need-signs-fit-requires
+signs-fit-requires c κs =
+    let long = rw (c .before .before .before .before .before .before .before .points .ensures) at (c .before .before .before .before .before .before .if1 .left) in
+    let grid = holds (rw (c .before .before .before .before .before .before .before .before .cells .ensures) at (c .before .is-grid .ensures)) (c .if2 .left) in
+    rw (c .before .before .before .before .before .before .before .before .cells .ensures) (cells-most (c .before .before .before .before .before .before .before .before .before .before .l .given .0 .0), long, grid)
+
+returns-5 : tie.Need-returns-5
+unfolding writeRows writeCall
+returns-5 c =
+    let level = read-known _ _ (sym (c .before .before .before .before .before .before .before .before .before .before .before .before .before .before .read .ensures) ∙ c .before .before .before .before .before .before .before .before .before .before .before .before .l .given .1) in
+    let long = rw (c .before .before .before .before .before .before .before .before .before .points .ensures) at (c .before .before .before .before .before .before .before .before .if1 .left) in
+    let scale = scale-told (c .before .before .before .before .before .before .before .before .before .before .before .before .before .before .before .before .before .args .e) (c .before .before .before .before .before .s .given .0 .0) (sym (c .before .before .before .before .before .s .given .1) ∙ c .before .before .before .before .before .before .before .scale-of .ensures ∙ ap scaleOf (toZ-ofZ w32 _ (c .before .before .before .before .before .before .before .before .before .before .before .before .before .before .before .before .before .fits .e))) in
+    let grid = holds (rw (c .before .before .before .before .before .before .before .before .before .before .cells .ensures) at (c .before .before .before .is-grid .ensures)) (c .before .before .if2 .left) in
+    let out = fails (rw (c .before .before .before .before .before .before .before .before .before .before .cells .ensures) at (c .before .signs-fit .ensures)) (c .if3 .taken) in
+    simp (level .0, level .1, le-ltb _ _ long, scale .good, grid, out)
+
+side-requires : tie.Need-side-requires
+side-requires c κs = search needs
+
+write-file-requires : tie.Need-write-file-requires
+write-file-requires c κs =
+    let long = rw (c .before .before .before .before .before .before .before .before .before .before .before .points .ensures) at (c .before .before .before .before .before .before .before .before .before .before .if1 .left) in
+    let scale = scale-told (c .before .before .before .before .before .before .before .before .before .before .before .before .before .before .before .before .before .before .before .args .e) (c .before .before .before .before .before .before .before .s .given .0 .0) (sym (c .before .before .before .before .before .before .before .s .given .1) ∙ c .before .before .before .before .before .before .before .before .before .scale-of .ensures ∙ ap scaleOf (toZ-ofZ w32 _ (c .before .before .before .before .before .before .before .before .before .before .before .before .before .before .before .before .before .before .before .fits .e))) in
+    let grid = holds (rw (c .before .before .before .before .before .before .before .before .before .before .before .before .cells .ensures) at (c .before .before .before .before .before .is-grid .ensures)) (c .before .before .before .before .if2 .left) in
+    rw (c .before .before .before .before .before .before .before .before .before .before .before .before .cells .ensures, c .before .side .ensures) (cells-most (c .before .before .before .before .before .before .before .before .before .before .before .before .before .before .l .given .0 .0), side-whole (c .before .before .before .before .before .before .before .before .before .before .before .before .before .before .l .given .0 .0), scale .small, long, grid)
+
+same-length : tie.Need-same-length
+same-length c = search needs
+
+returns-6 : tie.Need-returns-6
+unfolding written writeRows writeCall
+returns-6 c =
+    let level = read-known _ _ (sym (c .before .before .before .before .before .before .before .before .before .before .before .before .before .before .before .before .before .before .before .read .ensures) ∙ c .before .before .before .before .before .before .before .before .before .before .before .before .before .before .before .before .before .l .given .1) in
+    let long = rw (c .before .before .before .before .before .before .before .before .before .before .before .before .before .before .points .ensures) at (c .before .before .before .before .before .before .before .before .before .before .before .before .before .if1 .left) in
+    let scale = scale-told (c .before .before .before .before .before .before .before .before .before .before .before .before .before .before .before .before .before .before .before .before .before .before .args .e) (c .before .before .before .before .before .before .before .before .before .before .s .given .0 .0) (sym (c .before .before .before .before .before .before .before .before .before .before .s .given .1) ∙ c .before .before .before .before .before .before .before .before .before .before .before .before .scale-of .ensures ∙ ap scaleOf (toZ-ofZ w32 _ (c .before .before .before .before .before .before .before .before .before .before .before .before .before .before .before .before .before .before .before .before .before .before .fits .e))) in
+    let grid = holds (rw (c .before .before .before .before .before .before .before .before .before .before .before .before .before .before .before .cells .ensures) at (c .before .before .before .before .before .before .before .before .is-grid .ensures)) (c .before .before .before .before .before .before .before .if2 .left) in
+    let fit = holds (rw (c .before .before .before .before .before .before .before .before .before .before .before .before .before .before .before .cells .ensures) at (c .before .before .before .before .before .before .signs-fit .ensures)) (c .before .before .before .before .before .if3 .left) in
+    let g = c .before .before .before .before .before .before .before .before .before .before .before .before .before .before .before .before .before .before .before .before .before .before .args .grid .now in
+    let out = c .before .before .before .before .before .before .before .before .before .before .before .before .before .before .before .before .before .before .before .before .before .before .args .out .now in
+    let n = c .before .before .before .before .before .before .before .before .before .before .before .before .before .before .before .cells .ensures in
+    simp (level .0, level .1, le-ltb _ _ long, scale .good, grid, fit)
+    (c .before .before .write-file .ensures ∙ (λ i. written (c .before .before .before .before .side .ensures i) (scale .exponent i) (facings (n i) (marks (n i) g) (inside (n i) g)) out))
+
+pub write-stl-spec : {M : Type 1} → statement M
+write-stl-spec =
+    tie.close
+    (tie.spec
+    read-requires
+    enum-known-l
+    enum-told
+    returns
+    cells-requires
+    points-requires
+    returns-2
+    scale-of-requires
+    enum-known-s
+    enum-told-2
+    returns-3
+    is-grid-requires
+    returns-4
+    signs-fit-requires
+    returns-5
+    side-requires
+    write-file-requires
+    same-length
+    returns-6)

@@ -1,0 +1,37 @@
+-- The quads of a file, as they are written one edge after the other. Assumes nothing.
+use mathlib.Core.Path.{_≡_}
+use mathlib.Core.Bool.{Bool, true, cond}
+use mathlib.Core.List.{List, []}
+use Prim.Native.Nat.{ℕ, _<_}
+use lib.IntN.{ℤ}
+use Rattle.rules.specs.declared.Axis.{Axis}
+use Rattle.rules.specs.declared.Point.{Point}
+use Rattle.rules.specs.declared.Place.{Place}
+use Rattle.rules.specs.Lists.{each}
+use Rattle.rules.specs.Lattice.{coord, placesAt}
+use Rattle.rules.specs.Grid.{has}
+use Rattle.rules.specs.Quads.{next}
+use Rattle.stl_records.specs.Records.{Placed}
+use Rattle.stl_records.specs.File.{facing, quadBytes}
+
+-- the edge along an axis at a point
+abbrev pub edge : Axis → Point → Place
+edge a p = record { axis = a; at = p }
+
+-- the four cells around the edge along a at p lie in the lattice
+pub record Surrounded (side : ℕ) (a : Axis) (p : Point) : Type 0 where
+  pub cell : Placed side p
+  pub on-next : 0 < coord (next a) p
+  pub on-last : 0 < coord (next (next a)) p
+
+-- so they do around each edge at p that the byte b has marked
+abbrev pub MarksSurrounded : ℕ → ℕ → Point → Type 0
+MarksSurrounded side b p = (a : Axis) → has a b ≡ true → Surrounded side a p
+
+-- the quad of an edge, if the byte b of its lower end has its mark; that end is inside or outside
+abbrev pub byteEdge : ℕ → ℤ → ℕ → Bool → Axis → Point → List ℕ
+byteEdge side e b inside a p = cond (has a b) (quadBytes side e (facing (λ q. inside) (edge a p))) []
+
+-- the quads of the three edges at a point
+unfoldable pub byteEdges : ℕ → ℤ → ℕ → Bool → Point → List ℕ
+byteEdges side e b inside p = each (λ x. byteEdge side e b inside (x .axis) (x .at)) (placesAt p)

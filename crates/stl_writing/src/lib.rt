@@ -1,0 +1,78 @@
+// The call that writes a surface as binary STL.
+pub mod listing;
+
+use grids::is_grid;
+use lattice::clear;
+use lattice::level::Level;
+use lattice::level::LevelRead;
+use listing::put_quads;
+use octets::put_word;
+use refusals::Refusal;
+use rounding::Scale;
+use rounding::scale_of;
+use surfacing::fit::signs_fit;
+use surfacing::listing::count_quads;
+ghost use mathlib.Core.Path.{_≡_};
+ghost use mathlib.Core.Bool.{true};
+ghost use Prim.Native.Nat.{_≤_, _*_};
+ghost use lib.ListN.{length};
+ghost use Rattle.rules.specs.Lattice.{pointCount};
+ghost use Rattle.rules.specs.Grid.{marks, inside, isGrid};
+ghost use Rattle.octets.specs.Octets.{puts};
+ghost use Rattle.rounding.specs.Scales.{exponentOf};
+ghost use Rattle.stl_records.specs.File.{header, facings};
+ghost use Rattle.stl_writing.specs.Call.{told, written, writeCall};
+
+// What the call answers: done, with the number of bytes written, or why not.
+pub enum WriteAnswer {
+    Done { bytes: usize },
+    Refused(Refusal),
+}
+
+// Puts 80 zero bytes and the count of triangles.
+fn put_header(out: &mut [u8], triangles: u32)
+    requires { ⌜ 84 ≤ length (now out) ⌝ }
+    ensures { λ _. ⌜ now (out .exit) ≡ puts (now (out .entry)) 0 (header triangles) ⌝ }
+{
+    clear(80, out);
+    put_word(out, 80, triangles);
+}
+
+// Writes the file of a grid whose cells are `side` wide, with s for e + 20, if the buffer has room for it.
+fn write_file(n: usize, side: usize, s: u32, grid: &[u8], out: &mut [u8]) -> WriteAnswer
+    requires { ⌜ (n ≤ 32) × (n * side ≡ 1048576) × (s ≤ 40) × (pointCount n ≤ length (now grid)) × (isGrid n (now grid) ≡ true) ⌝ }
+    ensures { λ r. ⌜ told r (now (out .exit)) ≡ written side (exponentOf s) (facings n (marks n (now (grid .entry))) (inside n (now (grid .entry)))) (now (out .entry)) ⌝ }
+{
+    let quads = count_quads(n, grid);
+    let bytes = 84 + 100 * quads;
+    if out.len() < bytes {
+        return WriteAnswer::Refused(Refusal::ShortList);
+    }
+    put_header(out, (2 * quads) as u32);
+    put_quads(n, side, s, grid, out);
+    WriteAnswer::Done { bytes: bytes }
+}
+
+// The call write_stl: each quad as two triangles, and the number of bytes written is returned. Those behind keep their contents.
+pub fn write_stl(level: u32, grid: &[u8], e: i32, out: &mut [u8]) -> WriteAnswer
+    ensures { λ r. ⌜ told r (now (out .exit)) ≡ writeCall level (now (grid .entry)) e (now (out .entry)) ⌝ }
+{
+    let LevelRead::Known(l) = Level::read(level) else {
+        return WriteAnswer::Refused(Refusal::BadLevel);
+    };
+    let n = l.cells();
+    let count = l.points();
+    if grid.len() < count {
+        return WriteAnswer::Refused(Refusal::ShortBuffer);
+    }
+    let Scale::Known(s) = scale_of(e) else {
+        return WriteAnswer::Refused(Refusal::BadScale);
+    };
+    if !is_grid(n, grid) {
+        return WriteAnswer::Refused(Refusal::NoGrid);
+    }
+    if !signs_fit(n, grid) {
+        return WriteAnswer::Refused(Refusal::SignsMisfit);
+    }
+    write_file(n, l.side(), s, grid, out)
+}
