@@ -28,6 +28,12 @@ find_compiler() {
     fi
 }
 
+# For programs without the library, which is for x86-64: the machine's own C compiler where there is one, so that no emulator runs them.
+own_compiler() {
+    [ -n "$whole" ] && command -v gcc >/dev/null 2>&1 && [ -f /usr/include/stdio.h ] || return 0
+    cc=gcc whole=
+}
+
 # The C++ compiler beside it.
 find_cxx() {
     cxx=${cc%gcc}g++
