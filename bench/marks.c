@@ -1,5 +1,5 @@
-/* Times mark on triangles of many kinds: the library beside the reference that does the same in plain C, and beside the mark of an earlier
-   library where bench/run was given one. Round by round in turn; the best round counts.
+/* Times mark and mark_tree on triangles of many kinds: the library beside the reference that does the same in plain C, and beside the mark
+   of an earlier library where bench/run was given one. Round by round in turn; the best round counts.
    usage: marks STREAM... */
 #define _GNU_SOURCE
 #include <stdio.h>
@@ -12,7 +12,7 @@
 #include "../tests/reference.h"
 #include "../tests/reference_grid.h"
 
-enum { MOST_TIMED = 1000, LEAST_ROUNDS = 5, MOST_ROUNDS = 400, SIDES = 3 };
+enum { MOST_TIMED = 2000, LEAST_ROUNDS = 5, MOST_ROUNDS = 400, SIDES = 3 };
 
 static const double seconds_a_row = 0.4;
 
@@ -32,7 +32,12 @@ static uint32_t earlier_mark(uint32_t level, uint8_t *grid, size_t grid_len, con
     return before_mark(level, grid, grid_len, tested, triangle_len);
 }
 
-static mark *const sides[SIDES] = {omphirun_mark, reference_mark_near, earlier_mark};
+/* A call, the reference's, and the earlier library's mark. */
+static const struct timed {
+    const char *call;
+    mark *sides[SIDES];
+} timed[] = {{"mark", {omphirun_mark, reference_mark_near, earlier_mark}}, {"mark_tree", {omphirun_mark_tree, reference_mark_tree, earlier_mark}}};
+
 static int32_t triangles[MOST_TIMED][9];
 static int many;
 
@@ -63,32 +68,38 @@ static double run(mark *side, uint32_t level)
 }
 
 /* Prints one row: microseconds a call of either side, and the ratio; then those of the earlier library, and how many times faster it is now. */
-static void row(const char *input, uint32_t level)
+static void time_call(const struct timed *call, const char *input, uint32_t level)
 {
     double best[SIDES] = {1e9, 1e9, 1e9}, end = now() + seconds_a_row;
     for (int round = 0; round < LEAST_ROUNDS || (round < MOST_ROUNDS && now() < end); round++)
         for (int side = 0; side < SIDES; side++) {
-            double took = side < 2 || before_mark ? run(sides[side], level) : 0;
+            double took = side < 2 || before_mark ? run(call->sides[side], level) : 0;
             best[side] = took < best[side] ? took : best[side];
         }
-    printf("mark     %-34s %5u %12.2f %12.2f %7.2f", input, level, 1e6 * best[0] / many, 1e6 * best[1] / many, best[0] / best[1]);
+    printf("%-9s %-34s %5u %12.2f %12.2f %7.2f", call->call, input, level, 1e6 * best[0] / many, 1e6 * best[1] / many, best[0] / best[1]);
     if (before_mark)
         printf(" %12.2f %7.1f", 1e6 * best[2] / many, best[2] / best[0]);
     printf("   %d triangles\n", many);
 }
 
+static void row(const char *input, uint32_t level)
+{
+    for (size_t c = 0; c < sizeof timed / sizeof *timed; c++)
+        time_call(&timed[c], input, level);
+}
+
 /* Copies of a triangle, each coordinate of which is moved by up to `by`. */
-static void time_moved(const char *input, const int32_t corners[9], int by, int copies)
+static void time_moved(const char *input, uint32_t level, const int32_t corners[9], int by, int copies)
 {
     struct random r = {1};
-    struct measures m = measures_of(5);
+    struct measures m = measures_of(level);
     many = copies;
     for (int t = 0; t < many; t++)
         for (int c = 0; c < 9; c++) {
             int at = corners[c] + between(&r, -by, by);
             triangles[t][c] = at < lowest(&m) ? lowest(&m) : at > highest(&m) ? highest(&m) : at;
         }
-    row(input, 5);
+    row(input, level);
 }
 
 /* Triangles anywhere whose boxes are this many cells wide. */
@@ -136,17 +147,18 @@ int main(int argc, char **argv)
     static const int32_t needle[9] = {16384, 16384, 16384, 507903, 507903, 507903, 507903, 507903, 507903};
     static const int32_t line[9] = {262143, 262143, 262143, 262144, 262144, 262144, 262144, 262144, 262144};
     setvbuf(stdout, NULL, _IOLBF, 0);
-    printf("%-8s %-34s %5s %12s %12s %7s", "call", "input", "level", "library us", "reference us", "ratio");
+    printf("%-9s %-34s %5s %12s %12s %7s", "call", "input", "level", "library us", "reference us", "ratio");
     printf("%s\n", before_mark ? "    before us  faster" : "");
-    time_moved("a triangle through the whole grid", whole, 0, 1);
-    time_moved("the same, moved a little", whole, 3000, 100);
-    time_moved("a triangle next to a grid plane", plane, 0, 1);
-    time_moved("a needle from corner to corner", needle, 0, 1);
-    time_moved("the same, moved a little", needle, 3000, 100);
-    time_moved("a short line through a grid point", line, 0, 1);
+    time_moved("a triangle through the whole grid", 5, whole, 0, 1);
+    for (uint32_t level = 2; level <= 5; level++)
+        time_moved("the same, moved a little", level, whole, 3000, 1000);
+    time_moved("a triangle next to a grid plane", 5, plane, 0, 1);
+    time_moved("a needle from corner to corner", 5, needle, 0, 1);
+    time_moved("the same, moved a little", 5, needle, 3000, 2000);
+    time_moved("a short line through a grid point", 5, line, 0, 1);
     time_wide("half the grid wide", 5, 16, 200);
-    time_wide("a quarter of the grid wide", 5, 8, MOST_TIMED);
-    time_wide("two cells wide", 5, 2, MOST_TIMED);
+    time_wide("a quarter of the grid wide", 5, 8, 1000);
+    time_wide("two cells wide", 5, 2, 1000);
     for (int a = 1; a < argc; a++)
         time_stream(argv[a]);
     return 0;

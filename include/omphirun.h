@@ -1,4 +1,4 @@
-/* The repair stage for a slicer: five calls, and two that read and write binary STL, on memory that the caller lends.
+/* The repair stage for a slicer: five calls, mark in a second form, and two that read and write binary STL, on memory that the caller lends.
 
    Link with libstage.a, which `rt staticlib stage` writes to target/staticlib/ (x86-64). examples/slicer.c shows the calls in
    their order: open, mark for each triangle, patch, sign, surface.
@@ -24,11 +24,11 @@
 
      1  the level is not 2 to 5                                    all calls with a level
      2  a grid or work buffer is shorter than P                    all calls with a level
-     3  the triangle is not nine numbers, fewer or more            mark
+     3  the triangle is not nine numbers, fewer or more            mark, mark_tree
      4  a coordinate lies outside S/2 to 524,287 - S/2, and the
-        first that does lies below it                              mark
+        first that does lies below it                              mark, mark_tree
     24  a coordinate lies outside S/2 to 524,287 - S/2, and the
-        first that does lies above it                              mark
+        first that does lies above it                              mark, mark_tree
      5  the buffer is no grid                                      all of these but open
      6  some face of a cell has an odd number of marked edges      sign
      7  point (0,0,0) inside, an edge whose ends differ in sign
@@ -68,7 +68,7 @@ extern "C" {
 
 /* The version: the first number rises when a caller has to change, the second when there is something new. It stands here alone. */
 #define OMPHIRUN_MAJOR 5
-#define OMPHIRUN_MINOR 1
+#define OMPHIRUN_MINOR 2
 #define OMPHIRUN_PATCH 0
 
 /* What a call returns. */
@@ -110,7 +110,8 @@ enum omphirun_number {
 /* A buffer that is long enough for every surface of a level as binary STL, in bytes. */
 #define OMPHIRUN_STL(level) (84 + 100 * OMPHIRUN_EDGES(level))
 
-/* Bytes of stack that are enough for any call: patch was measured to take 6.5 kB, every other call less than 1 kB. */
+/* Bytes of stack that are enough for any call: patch was measured to take 6.4 kB, mark_tree 2.3, mark 1.2, every other call less
+   than 1 kB. */
 #define OMPHIRUN_STACK 8192
 
 /* Open. The first P bytes of the grid become 0, whatever they held: a grid without marks and signs.
@@ -128,6 +129,15 @@ uint32_t omphirun_open(uint32_t level, uint8_t *grid, size_t grid_len);
    Refusals, in this order: 1, 2, 3, 4 or 24, 5. */
 uint32_t omphirun_mark(uint32_t level, uint8_t *grid, size_t grid_len, const int32_t *triangle, size_t triangle_len, uint32_t *place,
                        uint32_t *axis);
+
+/* Mark by a descent: the whole grid is one cube; a cube that an axis separates from the triangle is dropped, any other is divided into
+   eight, down to single cells. Its promise is mark's own, word for word: nobody can tell the two apart, refusals, place and axis included,
+   but by the time they take. Mark goes through all cells of the triangle's box, and is faster where that has up to some 2,000 cells; this
+   call goes through those near the triangle, and is faster where it has more: for a triangle or a needle through the whole grid of level 5,
+   several times.
+   Refusals, in this order: 1, 2, 3, 4 or 24, 5. */
+uint32_t omphirun_mark_tree(uint32_t level, uint8_t *grid, size_t grid_len, const int32_t *triangle, size_t triangle_len, uint32_t *place,
+                            uint32_t *axis);
 
 /* Patch. Marks are added and taken away until every face of every cell has an even number of marked edges, and all signs are cleared. The first P work bytes
    are 0 afterwards, whatever they held. *rims is the number of rims, which are the faces with an odd number of marks, taken

@@ -2,7 +2,7 @@
 #include "inputs.h"
 #include "reference.h"
 
-static void make(struct random *r, const struct measures *m, struct input *in)
+void make_marking(struct random *r, const struct measures *m, struct input *in)
 {
     int32_t *triangle = (int32_t *)in->buffer[TRIANGLE];
     make_grid(r, m, in->buffer[GRID]);
@@ -49,4 +49,4 @@ static const char *also(const struct input *in)
 
 const struct call call_mark = {.name = "mark", .share = 350, .buffers = 1u << GRID | 1u << TRIANGLE,
                                .answers = 1u << 0 | 1u << 1 | 1u << 2 | 1u << 3 | 1u << 4 | 1u << 24 | 1u << 5, .counts = {"place", "axis"},
-                               .make = make, .run = run, .also = also};
+                               .make = make_marking, .run = run, .also = also};

@@ -4,9 +4,9 @@
 #include "../include/omphirun.h"
 #include "reference.h"
 
-const struct calls the_library = {"library",    omphirun_open, omphirun_mark,    omphirun_patch,
+const struct calls the_library = {"library",    omphirun_open, omphirun_mark, omphirun_mark_tree, omphirun_patch,
                                   omphirun_sign, omphirun_surface, omphirun_read_stl, omphirun_write_stl};
 
-const struct calls the_reference = {"reference",    reference_open,    reference_mark,    reference_patch,
+const struct calls the_reference = {"reference",    reference_open,    reference_mark, reference_mark_tree, reference_patch,
                                     reference_sign, reference_surface, reference_read_stl,
                                     reference_write_stl};

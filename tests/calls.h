@@ -10,6 +10,8 @@ struct calls {
     uint32_t (*open)(uint32_t level, uint8_t *grid, size_t grid_len);
     uint32_t (*mark)(uint32_t level, uint8_t *grid, size_t grid_len, const int32_t *triangle, size_t triangle_len, uint32_t *place,
                      uint32_t *axis);
+    uint32_t (*mark_tree)(uint32_t level, uint8_t *grid, size_t grid_len, const int32_t *triangle, size_t triangle_len, uint32_t *place,
+                          uint32_t *axis);
     uint32_t (*patch)(uint32_t level, uint8_t *grid, size_t grid_len, uint8_t *work, size_t work_len, uint32_t *rims,
                       uint32_t *flips, uint32_t *ones, uint32_t *threes);
     uint32_t (*sign)(uint32_t level, uint8_t *grid, size_t grid_len);

@@ -117,6 +117,9 @@ static void run_triangle(const struct calls *calls, const char *name, const int3
     hold(calls->open(2, grid, POINTS) == 0, name, "open is done");
     hold(calls->mark(2, grid, POINTS, triangle, 9, &place, &axis) == answer, name, "the answer");
     hold(!memcmp(grid, expected, POINTS), name, "the marks");
+    hold(calls->open(2, grid, POINTS) == 0, name, "open is done");
+    hold(calls->mark_tree(2, grid, POINTS, triangle, 9, &place, &axis) == answer, name, "the answer by the descent");
+    hold(!memcmp(grid, expected, POINTS), name, "the marks by the descent");
 }
 
 static void run_triangles(const struct calls *calls)
@@ -142,6 +145,7 @@ static void run_triangles(const struct calls *calls)
             point[c] = ends[e].at;
             hold(calls->mark(2, grid, POINTS, point, 9, &place, &axis) == ends[e].answer, "example 10", "the ends of the range");
             hold(place == bad * c && axis == bad * (c % 3), "example 10", "place and axis of the coordinate that is out");
+            hold(calls->mark_tree(2, grid, POINTS, point, 9, &place, &axis) == ends[e].answer, "example 10", "the same by the descent");
             point[c] = 262144;
         }
 }

@@ -47,6 +47,7 @@ int main(void)
     hold(omphirun_open(1, NULL, 0), OMPHIRUN_BAD_LEVEL, "open");
     hold(omphirun_open(2, NULL, 0), OMPHIRUN_SHORT_BUFFER, "open");
     hold(omphirun_mark(2, NULL, 0, NULL, 0, &one, &two), OMPHIRUN_SHORT_BUFFER, "mark");
+    hold(omphirun_mark_tree(2, NULL, 0, NULL, 0, &one, &two), OMPHIRUN_SHORT_BUFFER, "mark_tree");
     hold(omphirun_mark(2, grid, sizeof grid, NULL, 0, &one, &two), OMPHIRUN_NOT_NINE, "mark");
     hold_place(one, two, 0);
     hold(omphirun_mark(2, grid, sizeof grid, low, 9, &one, &two), OMPHIRUN_BELOW_RANGE, "mark");

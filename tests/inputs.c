@@ -16,7 +16,8 @@ const struct kind kinds[BUFFERS] = {
     [WRITTEN] = {"written file", 1, WRITTEN_ROOM, 0},
 };
 
-const struct call *const all_calls[] = {&call_open, &call_mark, &call_patch, &call_sign, &call_surface, &call_read_stl, &call_write_stl};
+const struct call *const all_calls[] = {&call_open, &call_mark, &call_mark_tree, &call_patch,
+                                       &call_sign, &call_surface, &call_read_stl, &call_write_stl};
 const size_t call_count = sizeof all_calls / sizeof *all_calls;
 
 size_t place_of(const struct call *call)

@@ -49,7 +49,7 @@ struct call {
     const char *(*also)(const struct input *in);
 };
 
-extern const struct call call_open, call_mark, call_patch, call_sign, call_surface, call_read_stl, call_write_stl;
+extern const struct call call_open, call_mark, call_mark_tree, call_patch, call_sign, call_surface, call_read_stl, call_write_stl;
 extern const struct call *const all_calls[];
 extern const size_t call_count;
 
@@ -95,6 +95,9 @@ void patch_grid(struct input *in);
 
 /* Makes nine coordinates in the level's range. */
 void make_triangle(struct random *r, const struct measures *m, int32_t *triangle);
+
+/* Makes a grid and a triangle, at times too few or too many numbers, at times bad ones. */
+void make_marking(struct random *r, const struct measures *m, struct input *in);
 
 /* Puts one coordinate out of range, by one or by very much. */
 void spoil_triangle(struct random *r, const struct measures *m, int32_t *triangle);

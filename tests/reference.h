@@ -25,6 +25,10 @@ uint32_t reference_write_stl(uint32_t level, const uint8_t *grid, size_t grid_le
 uint32_t reference_mark_near(uint32_t level, uint8_t *grid, size_t grid_len, const int32_t *triangle, size_t triangle_len, uint32_t *place,
                              uint32_t *axis);
 
+/* Document 02, M-103: mark by the descent. */
+uint32_t reference_mark_tree(uint32_t level, uint8_t *grid, size_t grid_len, const int32_t *triangle, size_t triangle_len, uint32_t *place,
+                             uint32_t *axis);
+
 /* The number of cells in the boxes of all rims of a grid, for the benchmark. */
 uint64_t reference_rim_cells(uint32_t level, const uint8_t *grid);
 

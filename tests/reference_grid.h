@@ -118,4 +118,7 @@ static inline void clear_signs(const struct measures *m, uint8_t *grid)
 /* Adds the marks of the edges that the triangle meets; level, coordinates and grid are known to be right. */
 void reference_add_marks(const struct measures *m, uint8_t *grid, const int32_t *triangle);
 
+/* The same by the descent. */
+void reference_add_marks_tree(const struct measures *m, uint8_t *grid, const int32_t *triangle);
+
 #endif

@@ -229,3 +229,9 @@ uint32_t reference_mark_near(uint32_t level, uint8_t *grid, size_t grid_len, con
 {
     return mark(level, grid, grid_len, triangle, triangle_len, place, axis, reference_add_marks);
 }
+
+uint32_t reference_mark_tree(uint32_t level, uint8_t *grid, size_t grid_len, const int32_t *triangle, size_t triangle_len, uint32_t *place,
+                             uint32_t *axis)
+{
+    return mark(level, grid, grid_len, triangle, triangle_len, place, axis, reference_add_marks_tree);
+}

@@ -8,7 +8,9 @@
 #define reference_read_stl omphirun_read_stl
 #define reference_write_stl omphirun_write_stl
 #define reference_mark_near omphirun_mark
+#define reference_mark_tree omphirun_mark_tree
 #define reference_add_marks second_add_marks
+#define reference_add_marks_tree second_add_marks_tree
 #define reference_rim_cells second_rim_cells
 
 #include "reference.c"
@@ -16,3 +18,4 @@
 #include "reference_patch.c"
 #include "reference_stl.c"
 #include "reference_write_stl.c"
+#include "reference_tree.c"

@@ -45,7 +45,7 @@ numbers-up Y p = refl
 numbers-up Z p = refl
 
 module _ (l : Level) where
-  place-numbers : (p : Point) → placeOf l p ≡ times (sideOf l) (numbersOf p)
+  pub place-numbers : (p : Point) → placeOf l p ≡ times (sideOf l) (numbersOf p)
   unfolding placeOf times numbersOf
   place-numbers p = λ i. vector (pos (mul-comm (p .i) (sideOf l) i)) (pos (mul-comm (p .j) (sideOf l) i)) (pos (mul-comm (p .k) (sideOf l) i))
 

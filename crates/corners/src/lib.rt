@@ -38,7 +38,7 @@ ghost use Rattle.corners.specs.Corner.{numbersOf, masked, ofThree, beyon
 pub const NUMBERS: usize = 50;
 
 // Answers a point's own numbers as signed ones.
-fn numbers_of(p: Point) -> Vector
+pub fn numbers_of(p: Point) -> Vector
     requires { ⌜ OfGrid 32 p ⌝ }
     ensures { λ r. ⌜ r ≡ numbersOf p ⌝ }
 {
@@ -50,7 +50,7 @@ fn numbers_of(p: Point) -> Vector
 }
 
 // Keeps an axis as number k.
-fn keep(kept: &mut [i64; NUMBERS], k: usize, a: Kept)
+pub fn keep(kept: &mut [i64; NUMBERS], k: usize, a: Kept)
     requires { ⌜ k < 10 ⌝ }
     ensures { λ _. ⌜ now (kept .exit) ≡ keptWith (now (kept .entry)) k a ⌝ }
 {
@@ -68,7 +68,7 @@ fn keep(kept: &mut [i64; NUMBERS], k: usize, a: Kept)
 }
 
 // Answers the axis kept as number k.
-fn kept_at(kept: &[i64; NUMBERS], k: usize) -> Kept
+pub fn kept_at(kept: &[i64; NUMBERS], k: usize) -> Kept
     requires { ⌜ k < 10 ⌝ }
     ensures { λ r. ⌜ r ≡ keptAt (now (kept .entry)) k ⌝ }
 {
@@ -105,7 +105,7 @@ fn without(left: u8, x: bool, y: bool, z: bool) -> u8
 
 // Answers the edges at a cell's lowest corner that have no mark in the byte and that no unit vector separates. In the first
 // plane of the box's cells on an axis only an edge along that axis reaches the triangle's first grid plane.
-fn unit_clear(b: u8, lo: Point, c: Point) -> u8
+pub fn unit_clear(b: u8, lo: Point, c: Point) -> u8
     ensures { λ r. ⌜ (r < 8) × ((a : Axis) → has a r ≡ not (has a b) && beyond lo c a) ⌝ }
 {
     let left = masked(7 - low(b), 1, c.i == lo.i);
@@ -158,7 +158,7 @@ fn still_left(left: u8, a: Kept, p: Vector) -> u8
 }
 
 // Answers the edges left that none of the axes built so far separates.
-fn left_of_kept(kept: &[i64; NUMBERS], built: usize, p: Vector, left: u8) -> u8
+pub fn left_of_kept(kept: &[i64; NUMBERS], built: usize, p: Vector, left: u8) -> u8
     requires { ⌜ (left < 8) × (built ≤ 10) × ((k : ℕ) → k < built → Fits (keptAt (now kept) k) p) ⌝ }
     ensures { λ r. ⌜ (r < 8) × ((a : Axis) → has a r ≡ has a left && noneParts (now (kept .entry)) built p a) ⌝ }
 {
@@ -228,7 +228,7 @@ fn mark_edge(n: usize, grid: &mut [u8], at: usize, e: Place, left: u8)
 }
 
 // Adds the marks of the edges left at the lowest corner of a cell.
-fn mark_left(n: usize, grid: &mut [u8], at: usize, c: Point, left: u8)
+pub fn mark_left(n: usize, grid: &mut [u8], at: usize, c: Point, left: u8)
     requires { ⌜ (n ≤ 32) × (pointCount n ≤ length (now grid)) × Cell n c × (at ≡ pointNumber n c) ⌝ }
     ensures { λ _. ⌜ CellAdded n c left (now (grid .entry)) (now (grid .exit)) ⌝ }
 {

@@ -1,9 +1,9 @@
 // The triangles of a stream, marked as they are read. None is kept, and nothing is checked twice: the grid is known to be one.
+use descending::mark_fast;
 use lattice::level::Level;
 use marking::out_of_range;
 use marking::range::first_out;
 use marking::range::triangle_of;
-use scanning::mark_grid;
 use text::words::numbers_at;
 ghost use Prim.Native.Nat.{_+_, _≤_};
 ghost use lib.ListN.{length, drop};
@@ -32,7 +32,7 @@ fn mark_at(l: Level, grid: &mut [u8], block: &[u8], at: usize) -> u32
     if place < 9 {
         return out_of_range(l, place, c[place]).number();
     }
-    mark_grid(l, grid, triangle_of(&c));
+    mark_fast(l, grid, triangle_of(&c));
     0
 }
 

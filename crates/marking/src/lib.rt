@@ -1,9 +1,10 @@
-// The calls open and mark.
+// The calls open and mark, and mark once more by the descent.
 pub mod range;
 
 use crate::range::first_out;
 use crate::range::is_below;
 use crate::range::triangle_of;
+use descending::mark_cubed;
 use grids::clear_signs;
 use lattice::clear;
 use lattice::level::Level;
@@ -11,9 +12,16 @@ use lattice::level::LevelRead;
 use refusals::Answer;
 use refusals::Refusal;
 use scanning::mark_grid;
+use triangles::Triangle;
 ghost use mathlib.Core.Path.{_≡_};
+ghost use mathlib.Core.Bool.{true};
 ghost use mathlib.Core.List.{List, []};
-ghost use Prim.Native.Nat.{ℕ, _<_};
+ghost use Prim.Native.Nat.{ℕ, _≤_, _<_};
+ghost use lib.ListN.{length};
+ghost use Rattle.rules.specs.Grid.{isGrid, Unsigned};
+ghost use Rattle.lattice.specs.Levels.{cellsOf, pointsOf};
+ghost use Rattle.meeting.specs.Within.{TriangleWithin};
+ghost use Rattle.meeting.specs.Met.{marked};
 ghost use Rattle.marking.specs.Outcome.{told};
 ghost use Rattle.marking.specs.Open.{openCall};
 ghost use Rattle.marking.specs.OutOfRange.{outNumber};
@@ -70,9 +78,42 @@ pub fn out_of_range(l: Level, place: usize, v: i32) -> MarkAnswer
     MarkAnswer::Above { place: p, axis: a }
 }
 
+// How the edges that a triangle meets are looked for: cell by cell through the triangle's box, or down the tree of cubes. The two
+// leave the same buffer and give the same answer.
+pub enum Way {
+    Scan,
+    Tree,
+}
+
 // The call mark: adds the marks of the edges that a triangle of nine numbers meets, and clears all signs. It looks at every byte of the
-// grid, to see that it is one; `scan::mark_grid` is for callers that know it.
+// grid, to see that it is one; `descending::mark_fast` is for callers that know it.
 pub fn mark(level: u32, grid: &mut [u8], triangle: &[i32]) -> MarkAnswer
+    ensures { λ r. ⌜ markTold r (now (grid .exit)) ≡ markCall level (now (grid .entry)) (now (triangle .entry)) ⌝ }
+{
+    mark_by(level, grid, triangle, Way::Scan)
+}
+
+// The call mark, by the descent: the promise is mark's own.
+pub fn mark_tree(level: u32, grid: &mut [u8], triangle: &[i32]) -> MarkAnswer
+    ensures { λ r. ⌜ markTold r (now (grid .exit)) ≡ markCall level (now (grid .entry)) (now (triangle .entry)) ⌝ }
+{
+    mark_by(level, grid, triangle, Way::Tree)
+}
+
+// Adds the marks of the edges that a triangle meets to a buffer that is known to be a grid without signs, either way.
+fn mark_edges(l: Level, grid: &mut [u8], t: Triangle, w: Way)
+    requires { ⌜ TriangleWithin l t ⌝ }
+    requires { ⌜ (pointsOf l ≤ length (now grid)) × (isGrid (cellsOf l) (now grid) ≡ true) × Unsigned (cellsOf l) (now grid) ⌝ }
+    ensures { λ _. ⌜ now (grid .exit) ≡ marked l t (now (grid .entry)) ⌝ }
+{
+    match w {
+        Way::Scan => mark_grid(l, grid, t),
+        Way::Tree => mark_cubed(l, grid, t),
+    }
+}
+
+// The call mark, either way.
+fn mark_by(level: u32, grid: &mut [u8], triangle: &[i32], w: Way) -> MarkAnswer
     ensures { λ r. ⌜ markTold r (now (grid .exit)) ≡ markCall level (now (grid .entry)) (now (triangle .entry)) ⌝ }
 {
     let LevelRead::Known(l) = Level::read(level) else {
@@ -91,6 +132,6 @@ pub fn mark(level: u32, grid: &mut [u8], triangle: &[i32]) -> MarkAnswer
     if !clear_signs(l.cells(), grid) {
         return MarkAnswer::Refused(Refusal::NoGrid);
     }
-    mark_grid(l, grid, triangle_of(triangle));
+    mark_edges(l, grid, triangle_of(triangle), w);
     MarkAnswer::Done
 }

@@ -72,6 +72,12 @@ pub mark-one : (L : ℕ) (g : List ℕ) (t : List ℤ) (x y : MarkAnswer × List
     markTold x ≡ markCall L g t → markTold y ≡ markCall L g t → x ≡ y
 mark-one L g t = settled markTold markRead (λ z. mark-back (z .0) (z .1)) (markCall L g t)
 
+-- M-103: mark and mark_tree have one promise, so that nobody can tell them apart: lent the same, they give the same answer with its
+-- place and axis and leave the same buffer, refusals included
+pub either-way : (L : ℕ) (g : List ℕ) (t : List ℤ) (scanned walked : MarkAnswer × List ℕ) →
+    markTold scanned ≡ markCall L g t → markTold walked ≡ markCall L g t → (scanned .0 ≡ walked .0) × (scanned .1 ≡ walked .1)
+either-way L g t x y e f = let h = mark-one L g t x y e f in (ap (λ (z : MarkAnswer × List ℕ). z .0) h, ap (λ (z : MarkAnswer × List ℕ). z .1) h)
+
 -- ---- patch: the answer, the grid and the work buffer
 abbrev pub patchTold : PatchAnswer × List ℕ × List ℕ → Patching.Outcome
 patchTold x = Patching.told (x .0) (x .1) (x .2)

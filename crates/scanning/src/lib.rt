@@ -69,7 +69,7 @@ fn mark_row(
 }
 
 // Adds the marks of the edges met at the lowest corners of a box's cells, row by row.
-fn mark_box(l: Level, grid: &mut [u8], t: Triangle, b: Box)
+pub fn mark_box(l: Level, grid: &mut [u8], t: Triangle, b: Box)
     requires { ⌜ Inside t × Covers l t b ⌝ }
     requires { ⌜ pointsOf l ≤ length (now grid) ⌝ }
     ensures { λ _. ⌜ Added (cellsOf l) (met l t) (now (grid .entry)) (now (grid .exit)) ⌝ }

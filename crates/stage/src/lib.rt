@@ -6,9 +6,11 @@ use stl_reading::ReadAnswer;
 use stl_writing::WriteAnswer;
 use surfacing::SurfaceAnswer;
 ghost use mathlib.Core.Path.{_≡_};
+ghost use mathlib.Core.List.{List};
+ghost use Prim.Native.Nat.{ℕ};
 ghost use Rattle.marking.specs.Outcome.{Outcome as OpenOutcome};
 ghost use Rattle.marking.specs.Open.{openCall};
-ghost use Rattle.marking.specs.Mark.{Outcome as MarkOutcome, markCall};
+ghost use Rattle.marking.specs.Mark.{Outcome as MarkOutcome, told, markCall};
 ghost use Rattle.patching.specs.Call.{Outcome as PatchOutcome, patchCall};
 ghost use Rattle.signing.specs.Call.{Outcome as SignOutcome, signCall};
 ghost use Rattle.surfacing.specs.Call.{Outcome as SurfaceOutcome, surfaceCall};
@@ -23,21 +25,13 @@ pub extern "C" fn omphirun_open(level: u32, grid: &mut [u8]) -> u32
     marking::open(level, grid).number()
 }
 
-// Mark (level, grid, triangle as nine i32): the marks of edges met are added; none is removed. Of the first bad coordinate the place,
-// 0 to 8, and the axis, 0 to 2, are returned; both are 0 in other answers.
-#[no_mangle]
-pub extern "C" fn omphirun_mark(
-    level: u32,
-    grid: &mut [u8],
-    triangle: &[i32],
-    place: &mut u32,
-    axis: &mut u32,
-) -> u32
-    ensures { λ r. ⌜ _≡_ {A = MarkOutcome} (record { number = r; place = now (place .exit); axis = now (axis .exit); grid = now (grid .exit) }) (markCall level (now (grid .entry)) (now (triangle .entry))) ⌝ }
+// Tells what mark answers: the number, and of the first bad coordinate the place and the axis, both 0 in other answers.
+fn tell_mark(r: MarkAnswer, place: &mut u32, axis: &mut u32) -> u32
+    ensures { λ n. ⌜ ((g : List ℕ) → _≡_ {A = MarkOutcome} (record { number = n; place = now (place .exit); axis = now (axis .exit); grid = g }) (told r g)) ⌝ }
 {
     *place = 0;
     *axis = 0;
-    match marking::mark(level, grid, triangle) {
+    match r {
         MarkAnswer::Done => 0,
         MarkAnswer::Refused(why) => why.number(),
         MarkAnswer::Below { place: p, axis: a } => {
@@ -51,6 +45,35 @@ pub extern "C" fn omphirun_mark(
             24
         }
     }
+}
+
+// Mark (level, grid, triangle as nine i32): the marks of edges met are added; none is removed. Of the first bad coordinate the place,
+// 0 to 8, and the axis, 0 to 2, are returned; both are 0 in other answers.
+#[no_mangle]
+pub extern "C" fn omphirun_mark(
+    level: u32,
+    grid: &mut [u8],
+    triangle: &[i32],
+    place: &mut u32,
+    axis: &mut u32,
+) -> u32
+    ensures { λ r. ⌜ _≡_ {A = MarkOutcome} (record { number = r; place = now (place .exit); axis = now (axis .exit); grid = now (grid .exit) }) (markCall level (now (grid .entry)) (now (triangle .entry))) ⌝ }
+{
+    tell_mark(marking::mark(level, grid, triangle), place, axis)
+}
+
+// The same by the descent through cubes, for triangles that reach through much of the grid: the promise is mark's own.
+#[no_mangle]
+pub extern "C" fn omphirun_mark_tree(
+    level: u32,
+    grid: &mut [u8],
+    triangle: &[i32],
+    place: &mut u32,
+    axis: &mut u32,
+) -> u32
+    ensures { λ r. ⌜ _≡_ {A = MarkOutcome} (record { number = r; place = now (place .exit); axis = now (axis .exit); grid = now (grid .exit) }) (markCall level (now (grid .entry)) (now (triangle .entry))) ⌝ }
+{
+    tell_mark(marking::mark_tree(level, grid, triangle), place, axis)
 }
 
 // Patch (level, grid, work buffer): the grid is patched, and the number of rims, of flips, and of faces with one mark and with three in the

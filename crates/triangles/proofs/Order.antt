@@ -1,8 +1,8 @@
 -- Laws of the order of whole numbers. Assumes nothing.
-use mathlib.Core.Path.{_≡_, refl, sym, subst}
+use mathlib.Core.Path.{_≡_, refl, sym, ap, subst}
 use mathlib.Core.Bool.{Bool, true, false, cond}
-use native.Mathlib.Nat.{le-of-lt}
-use lib.Dec.{T, not-T, ltb→lt, le→leb}
+use native.Mathlib.Nat.{le-of-lt, le-antisymm}
+use lib.Dec.{T, not-T, ltb→lt, leb→le, le→leb}
 use lib.Ieee.Bits.{is-true}
 use lib.IntN.{ℤ, pos, negsuc}
 use lib.Signed.{ltZ, leZ, _≤ℤ_, _<ℤ_, ltZ-yes, ltZ-no, ≤ℤ-refl, <ℤ-≤ℤ-trans, clashℤ}
@@ -30,6 +30,15 @@ false-le a b e = not-lt (λ h. subst T e (h .lt))
 
 pub ≤ℤ-trans : {a b c : ℤ} → a ≤ℤ b → b ≤ℤ c → a ≤ℤ c
 ≤ℤ-trans h k = not-lt (λ l. clashℤ (<ℤ-≤ℤ-trans l h) k)
+
+antisym : (a b : ℤ) → T (leZ a b) → T (leZ b a) → a ≡ b
+antisym (pos a) (pos b) h k = ap pos (le-antisymm (leb→le a b h) (leb→le b a k))
+antisym (pos a) (negsuc b) h k = absurd h
+antisym (negsuc a) (pos b) h k = absurd k
+antisym (negsuc a) (negsuc b) h k = ap negsuc (le-antisymm (leb→le a b k) (leb→le b a h))
+
+pub ≤ℤ-antisym : {a b : ℤ} → a ≤ℤ b → b ≤ℤ a → a ≡ b
+≤ℤ-antisym {a} {b} h k = antisym a b (h .le) (k .le)
 
 lt-le : (a b : ℤ) → T (ltZ a b) → T (leZ a b)
 lt-le (pos a) (pos b) t = le→leb a b (le-of-lt (ltb→lt a b t))

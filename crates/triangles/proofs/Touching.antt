@@ -28,14 +28,14 @@ end-to-end-not-apart s u h k e =
     (record { from-low = ≤ℤ-refl (u .low); to-high = k })
 
 -- a span holds the number it was widened by, and what it held before
-new-held : (s : Span) (p : ℤ) → Holds (spanWith s p) p
+pub new-held : (s : Span) (p : ℤ) → Holds (spanWith s p) p
 new-held s p = record { from-low = lesser-right (s .low) p; to-high = greater-right (s .high) p }
 
-still-held : (s : Span) (p : ℤ) {q : ℤ} → Holds s q → Holds (spanWith s p) q
+pub still-held : (s : Span) (p : ℤ) {q : ℤ} → Holds s q → Holds (spanWith s p) q
 still-held s p h =
     record { from-low = ≤ℤ-trans (lesser-left (s .low) p) (h .from-low); to-high = ≤ℤ-trans (h .to-high) (greater-left (s .high) p) }
 
-alone-held : (p : ℤ) → Holds (spanAt p) p
+pub alone-held : (p : ℤ) → Holds (spanAt p) p
 alone-held p = record { from-low = ≤ℤ-refl p; to-high = ≤ℤ-refl p }
 
 -- so the spans hold the dot products of the vertices and of the ends

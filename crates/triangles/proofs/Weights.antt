@@ -61,14 +61,21 @@ no-gap a k h g =
     ap natAbs (sym (+ℤ-idl (pos (k + g .by))) ∙ ap (λ x. x +ℤ pos (k + g .by)) (sym (+ℤ-invl a)) ∙ +ℤ-assoc (negℤ a) a (pos (k + g .by)) ∙ ap (λ x. negℤ a +ℤ x) e ∙ +ℤ-invl a) in
     omega arith
 
+some : {a b : ℤ} (n : ℕ) → a +ℤ pos n ≡ b → a <ℤ b → 0 < n
+some {a} zero e l = absurd (<ℤ-irrefl (subst (λ z. a <ℤ z) (sym e ∙ +ℤ-idr a) l))
+some (suc n) e l = omega arith
+
+gap-le : {a b : ℤ} → Gap a b → a ≤ℤ b
+gap-le {a} {b} g = not-lt (λ l. let d = gap b a (<ℤ-≤ℤ l) in no-gap b (d .by) (some (d .by) (d .is) l) (rw (d .is) g))
+
+-- sums keep the order
+pub sum-le : {a b c d : ℤ} → a ≤ℤ b → c ≤ℤ d → (a +ℤ c) ≤ℤ (b +ℤ d)
+sum-le h k = gap-le (sum (at-most h) (at-most k))
+
 -- a sum of weight w between w times low and w times high
 pub between : (w : ℕ) (sum low high : ℤ) → 0 < w → Gap (pos w *ℤ low) sum → Gap sum (pos w *ℤ high) → low ≤ℤ high
 between w s low high h g k = not-lt less
   where
-    some : (n : ℕ) → high +ℤ pos n ≡ low → high <ℤ low → 0 < n
-    some zero e l = absurd (<ℤ-irrefl (subst (λ z. high <ℤ z) (sym e ∙ +ℤ-idr high) l))
-    some (suc n) e l = omega arith
-
     less : high <ℤ low → ⊥
     less l =
         let d = gap high low (<ℤ-≤ℤ l) in

@@ -98,8 +98,8 @@ slice-aggregate-triangle-of c = search needs
 triangle-of-requires : tie.Need-triangle-of-requires
 triangle-of-requires c κs = search needs
 
-mark-grid-requires : tie.Need-mark-grid-requires
-mark-grid-requires c κs =
+mark-fast-requires : tie.Need-mark-fast-requires
+mark-fast-requires c κs =
     let s = c .before .before .before .before .before .before .before .before .before in
     let p = passed (s .args .l) (bytesAt s) _ _ (nine s) (c .before .before .before .before .before .before .numbers-at .ensures) (c .before .before .before .before .first-out .ensures) _ (c .before .before .before .if1 .left) (c .triangle-of .ensures) in
     (p .lies, (s .pre .1 .long, s .pre .1 .grid, s .pre .1 .unsigned))
@@ -110,7 +110,7 @@ same-length c = search needs
 returns-2 : tie.Need-returns-2
 returns-2 c =
     let s = c .before .before .before .before .before .before .before .before .before .before .before .before in
-    let m = c .before .before .mark-grid in
+    let m = c .before .before .mark-fast in
     let p = passed (s .args .l) (bytesAt s) _ _ (nine s) (c .before .before .before .before .before .before .before .before .before .numbers-at .ensures) (c .before .before .before .before .before .before .before .first-out .ensures) _ (c .before .before .before .before .before .before .if1 .left) (c .before .before .before .triangle-of .ensures) in
     let is = m .ensures ∙ ap (λ (t : Triangle). marked (s .args .l) t (s .args .grid .now)) (p .is) in
     let o = sym (mark-in (s .args .l) _ (s .pre .1) _ (nine s) (p .fits)) in
@@ -134,6 +134,6 @@ mark-at-spec =
     returns
     slice-aggregate-triangle-of
     triangle-of-requires
-    mark-grid-requires
+    mark-fast-requires
     same-length
     returns-2)

@@ -1,4 +1,5 @@
 -- `omphirun_mark` meets its contract. Assumes nothing.
+use mathlib.Core.Path.{_∙_}
 use borrow.Author.Needs.{needs}
 use Rattle.stage.proofs.omphirun_mark.Statement.{statement}
 use Rattle.stage.proofs.omphirun_mark.Tie as tie
@@ -6,60 +7,14 @@ use Rattle.stage.proofs.omphirun_mark.Tie as tie
 mark-requires : tie.Need-mark-requires
 mark-requires c κs = search needs
 
-enum-told : tie.Need-enum-told
-enum-told c = search needs
-
-enum-known-why : tie.Need-enum-known-why
-enum-known-why c = search needs
-
-number-requires : tie.Need-number-requires
-number-requires c κs = search needs
-
-enum-known-p : tie.Need-enum-known-p
-enum-known-p c = search needs
-
-enum-known-p-2 : tie.Need-enum-known-p-2
-enum-known-p-2 c = search needs
+tell-mark-requires : tie.Need-tell-mark-requires
+tell-mark-requires c κs = search needs
 
 same-length : tie.Need-same-length
 same-length c = search needs
 
 returns : tie.Need-returns
-returns c = rw (c .enum-told .given .1) at (c .before .before .before .before .mark .ensures)
-
-same-length-2 : tie.Need-same-length-2
-same-length-2 c = search needs
-
-returns-2 : tie.Need-returns-2
-returns-2 c = rw (c .number .ensures) (rw (c .before .before .why .given .1) at (c .before .before .before .before .before .before .mark .ensures))
-
-same-length-3 : tie.Need-same-length-3
-same-length-3 c = search needs
-
-returns-3 : tie.Need-returns-3
-returns-3 c = rw (c .before .p .given .1) at (c .before .before .before .before .before .mark .ensures)
-
-same-length-4 : tie.Need-same-length-4
-same-length-4 c = search needs
-
-returns-4 : tie.Need-returns-4
-returns-4 c = rw (c .before .p2 .given .1) at (c .before .before .before .before .before .mark .ensures)
+returns c = c .tell-mark .ensures _ ∙ c .before .before .before .before .before .mark .ensures
 
 pub omphirun-mark-spec : {M : Type 1} → statement M
-omphirun-mark-spec =
-    tie.close
-    (tie.spec
-    mark-requires
-    enum-told
-    enum-known-why
-    number-requires
-    enum-known-p
-    enum-known-p-2
-    same-length
-    returns
-    same-length-2
-    returns-2
-    same-length-3
-    returns-3
-    same-length-4
-    returns-4)
+omphirun-mark-spec = tie.close (tie.spec mark-requires tell-mark-requires same-length returns)

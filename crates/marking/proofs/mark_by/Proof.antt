@@ -1,4 +1,4 @@
--- `mark` meets its contract. Assumes nothing.
+-- `mark_by` meets its contract. Assumes nothing.
 use mathlib.Core.Path.{_≡_, sym, ap, _∙_}
 use mathlib.Core.Bool.{true, false}
 use mathlib.Core.List.{List}
@@ -25,8 +25,8 @@ use Rattle.marking.proofs.Ranges.{triangle-within}
 use Rattle.marking.proofs.OutOfRange.{some-out, none-out, out-told}
 use Rattle.meeting.proofs.Positive.{Plain}
 use Rattle.meeting.proofs.Written.{marked-unsigned}
-use Rattle.marking.proofs.mark.Statement.{statement}
-use Rattle.marking.proofs.mark.Tie as tie
+use Rattle.marking.proofs.mark_by.Statement.{statement}
+use Rattle.marking.proofs.mark_by.Tie as tie
 
 -- the tests passed on the way
 level-read : (c : tie.After-points) →
@@ -109,8 +109,8 @@ returns-5 c =
 triangle-of-requires : tie.Need-triangle-of-requires
 triangle-of-requires c κs = search needs
 
-mark-grid-requires : tie.Need-mark-grid-requires
-mark-grid-requires c κs =
+mark-edges-requires : tie.Need-mark-edges-requires
+mark-edges-requires c κs =
     let l = c .before .before .before .before .before .before .before .before .before .before .before .before .before .before .l .given .0 .0 in
     let w = triangle-within l (c .before .before .before .before .before .before .before .before .before .before .before .before .before .before .before .before .before .before .args .triangle .now) (c .before .before .before .before .before .before .before .before .before .before .if2 .left) (ranged (c .before .before .before .before .before .before .before .before)) in
     let r = rw (c .before .before .before .before .before .before .before .cells .ensures) at (c .before .before .before .before .before .clear-signs .ensures) in
@@ -125,13 +125,13 @@ returns-6 c =
     let l = c .before .before .before .before .before .before .before .before .before .before .before .before .before .before .before .before .before .l .given .0 .0 in
     let r = rw (c .before .before .before .before .before .before .before .before .before .before .cells .ensures) at (c .before .before .before .before .before .before .before .before .clear-signs .ensures) in
     let a = holds (r .0) (c .before .before .before .before .before .if4 .left) in
-    let m = rw (c .before .before .before .triangle-of .ensures) at (c .before .before .mark-grid .ensures) in
+    let m = rw (c .before .before .before .triangle-of .ensures) at (c .before .before .mark-edges .ensures) in
     let u = cleared-grid (cellsOf l) (c .before .before .before .before .before .before .before .before .before .before .before .before .before .before .before .before .before .before .before .before .before .args .grid .now) _ (r .1) a in
     simp (level-read (c .before .before .before .before .before .before .before .before .before .before .before .before .before .before .before) .0, level-read (c .before .before .before .before .before .before .before .before .before .before .before .before .before .before .before) .1, le-ltb _ _ (long (c .before .before .before .before .before .before .before .before .before .before .before .before .before .before)), eq-eqb _ _ (c .before .before .before .before .before .before .before .before .before .before .before .before .before .if2 .left), ranged (c .before .before .before .before .before .before .before .before .before .before .before), a)
     (ap done (m ∙ ap (marked l (triangleOf (c .before .before .before .before .before .before .before .before .before .before .before .before .before .before .before .before .before .before .before .before .before .args .triangle .now))) u ∙ marked-unsigned l _ (c .before .before .before .before .before .before .before .before .before .before .before .before .before .before .before .before .before .before .before .before .before .args .grid .now)))
 
-pub mark-spec : {M : Type 1} → statement M
-mark-spec =
+pub mark-by-spec : {M : Type 1} → statement M
+mark-by-spec =
     tie.close
     (tie.spec
     read-requires
@@ -151,6 +151,6 @@ mark-spec =
     same-length
     returns-5
     triangle-of-requires
-    mark-grid-requires
+    mark-edges-requires
     same-length-2
     returns-6)

@@ -1,0 +1,30 @@
+-- `mark_cubes` meets its contract. Assumes nothing.
+use borrow.Author.Needs.{needs}
+use Rattle.descending.proofs.Cubes.{whole-cube, whole-all}
+use Rattle.descending.proofs.mark_cubes.Statement.{statement}
+use Rattle.descending.proofs.mark_cubes.Tie as tie
+
+keep-all-requires : tie.Need-keep-all-requires
+keep-all-requires c κs = search needs
+
+cells-requires : tie.Need-cells-requires
+cells-requires c κs = search needs
+
+mark-cube-requires : tie.Need-mark-cube-requires
+mark-cube-requires c κs =
+    let s = c .before .before .before .before .before .before .before .before in
+    let e = c .before .before .before .cells .ensures in
+    (e, s .pre .2, whole-cube (s .args .l) _ e, record { whose = s .args .t; ready = c .before .before .before .before .keep-all .ensures })
+
+same-length : tie.Need-same-length
+same-length c = search needs
+
+returns : tie.Need-returns
+returns c =
+    let s = c .before .before .before .before .before .before .before .before .before .before .before in
+    let m = c .before .before .mark-cube .ensures (s .args .t) (c .before .before .before .before .before .before .before .keep-all .ensures) (s .pre .1) in
+    whole-all (s .args .l) (s .args .t) (s .args .b) (s .pre .1) (rw (c .before .before .before .before .before .before .cells .ensures) at m)
+
+pub mark-cubes-spec : {M : Type 1} → statement M
+mark-cubes-spec =
+    tie.close (tie.spec keep-all-requires cells-requires mark-cube-requires same-length returns)

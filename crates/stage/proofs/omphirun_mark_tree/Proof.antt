@@ -1,0 +1,21 @@
+-- `omphirun_mark_tree` meets its contract. Assumes nothing.
+use mathlib.Core.Path.{_∙_}
+use borrow.Author.Needs.{needs}
+use Rattle.stage.proofs.omphirun_mark_tree.Statement.{statement}
+use Rattle.stage.proofs.omphirun_mark_tree.Tie as tie
+
+mark-tree-requires : tie.Need-mark-tree-requires
+mark-tree-requires c κs = search needs
+
+tell-mark-requires : tie.Need-tell-mark-requires
+tell-mark-requires c κs = search needs
+
+same-length : tie.Need-same-length
+same-length c = search needs
+
+returns : tie.Need-returns
+returns c = c .tell-mark .ensures _ ∙ c .before .before .before .before .before .mark-tree .ensures
+
+pub omphirun-mark-tree-spec : {M : Type 1} → statement M
+omphirun-mark-tree-spec =
+    tie.close (tie.spec mark-tree-requires tell-mark-requires same-length returns)
