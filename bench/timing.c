@@ -13,6 +13,7 @@
 
 enum { LIST_ROOM = 4 * 3 * 31 * 31 * 32, MOST_TIMED = 1000, LEAST_ROUNDS = 5, MOST_ROUNDS = 400 };
 enum { STL_TRIANGLES = 20000, STL_BYTES = 84 + 50 * STL_TRIANGLES };
+enum { JOB_TRIANGLES = 36 * STL_TRIANGLES, JOB_QUADS = 8 * 8192, JOB_BYTES = 29 + MOST_POINTS + JOB_TRIANGLES + JOB_QUADS };
 
 static const double seconds_a_row = 0.4;
 
@@ -28,6 +29,8 @@ static uint8_t file[STL_BYTES];
 static int32_t numbers[9 * STL_TRIANGLES];
 static uint8_t written[84 + 100 * MOST_QUADS];
 static size_t bytes;
+static uint8_t job_file[JOB_BYTES];
+static size_t job_bytes;
 
 /* Microseconds a call of either side, of the row that was printed last. */
 static double took_us[2];
@@ -90,6 +93,17 @@ static void run_read(const struct calls *calls)
 static void run_write(const struct calls *calls)
 {
     hold(calls->write_stl(level, grid, sizeof grid, 3, written, sizeof written, &bytes));
+}
+
+static void run_write_job(const struct calls *calls)
+{
+    hold(calls->write_job(5, 7, grid, sizeof grid, file, JOB_TRIANGLES, (const uint8_t *)list, JOB_QUADS, job_file, JOB_BYTES, &job_bytes));
+}
+
+static void run_read_job(const struct calls *calls)
+{
+    uint32_t told[7];
+    hold(calls->read_job(job_file, job_bytes, &told[0], &told[1], &told[2], &told[3], &told[4], &told[5], &told[6]));
 }
 
 /* Prints one row: the level, where the call has one, microseconds a call of either side, and the ratio. */
@@ -205,6 +219,17 @@ static void time_read(const char *input, uint32_t (*bits)(uint32_t number))
     printf("   %u triangles, %.0f MB/s, reference %.0f MB/s\n", counts[0], sizeof file / took_us[0], sizeof file / took_us[1]);
 }
 
+/* A job of 20,000 triangles and 8,192 quads, written and read. */
+static void time_job(void)
+{
+    set_level(5);
+    memset(came, 0, sizeof came);
+    row("write_job", "grid, triangles and quads", run_write_job, 1);
+    printf("   %zu bytes, %.0f MB/s, reference %.0f MB/s\n", job_bytes, job_bytes / took_us[0], job_bytes / took_us[1]);
+    row("read_job", "the same", run_read_job, 1);
+    printf("\n");
+}
+
 static uint32_t bits_of(float number)
 {
     uint32_t bits;
@@ -253,6 +278,7 @@ int main(int argc, char **argv)
     time_read("coordinates above zero", above_zero);
     time_read("coordinates of both signs", of_both_signs);
     time_read("coordinates of every size", of_every_size);
+    time_job();
     for (int a = 1; a < argc; a++)
         time_stream(argv[a]);
     for (int h = 0; h < hostile_count; h++)

@@ -1,4 +1,5 @@
-/* The repair stage for a slicer: five calls, mark in a second form, and two that read and write binary STL, on memory that the caller lends.
+/* The repair stage for a slicer: five calls, mark in a second form, two that read and write binary STL, and two that read and write job files, on
+   memory that the caller lends.
 
    Link with libstage.a, which `rt staticlib stage` writes to target/staticlib/ (x86-64). examples/slicer.c shows the calls in
    their order: open, mark for each triangle, patch, sign, surface.
@@ -22,27 +23,33 @@
    Every call returns OMPHIRUN_DONE, 0, or else the lowest number of this table that applies; where a call names its numbers in another
    order, the first of them. Each number is given exactly when its line says, for any contents of the buffers. The names stand below.
 
-     1  the level is not 2 to 5                                    all calls with a level
-     2  a grid or work buffer is shorter than P                    all calls with a level
+     1  the level is not 2 to 5                                    all calls with a level, read_job
+     2  a grid or work buffer is shorter than P                    all calls with a level but write_job
      3  the triangle is not nine numbers, fewer or more            mark, mark_tree
      4  a coordinate lies outside S/2 to 524,287 - S/2, and the
         first that does lies below it                              mark, mark_tree
     24  a coordinate lies outside S/2 to 524,287 - S/2, and the
         first that does lies above it                              mark, mark_tree
      5  the buffer is no grid                                      all of these but open
+        the grid body is no grid                                   read_job, write_job
      6  some face of a cell has an odd number of marked edges      sign
      7  point (0,0,0) inside, an edge whose ends differ in sign
         and that has no mark, or one with a mark whose ends do
         not differ                                                 surface
      8  the list is shorter than four times the quads              surface
         the list is shorter than nine times the triangles          read_stl
-        the byte buffer is shorter than the file                   write_stl
+        the byte buffer is shorter than the file                   write_stl, write_job
      9  more than 100,000 triangles                                the program repair alone
     10  the file's length is not 84 + 50 * count                   read_stl
     11  nor that, and the file begins with `solid`: the text form  read_stl
     12  a coordinate is a NaN or infinite                          read_stl
     13  a coordinate is beyond 2^30 in size                        read_stl
     14  e is not -20 to 20                                         read_stl, write_stl
+    18  the file is empty, its table of contents is cut short, or
+        its count is above 3                                       read_job
+    19  a kind of body is unknown, repeated or out of order        read_job, write_job
+    20  an offset or a length is wrong or too large for a u32, or
+        bytes stand behind the last body                           read_job, write_job
 
    A refusal changes no buffer and sets every count to 0. Grid and work buffers may be longer than P, and the list longer
    than it has to be: what lies behind is neither read nor changed.
@@ -50,7 +57,8 @@
    What the caller owes, and no call can check:
    - each pointer to a buffer is valid for as many elements as its length says, and aligned for them; lengths are in elements. A null
      pointer is fine where the length is 0: that is an empty buffer;
-   - each pointer to a count (place, axis, rims, flips, ones, threes, quads, triangles, bytes) is valid: it is written in every case, so it is never null;
+   - each pointer to a count (place, axis, rims, flips, ones, threes, quads, triangles, bytes, all that read_job tells) is valid: it is
+     written in every case, so it is never null;
    - no buffer or count that a call writes overlaps another one of that call. Two that it only reads may;
    - OMPHIRUN_STACK bytes of stack are left. The calls take no memory but that and what is lent, and keep no state.
    Every other misuse is a refusal. Each promise here is a theorem about the code behind it, under these conditions. That calls with
@@ -68,7 +76,7 @@ extern "C" {
 
 /* The version: the first number rises when a caller has to change, the second when there is something new. It stands here alone. */
 #define OMPHIRUN_MAJOR 5
-#define OMPHIRUN_MINOR 2
+#define OMPHIRUN_MINOR 3
 #define OMPHIRUN_PATCH 0
 
 /* What a call returns. */
@@ -88,6 +96,9 @@ enum omphirun_number {
     OMPHIRUN_NOT_FINITE = 12,
     OMPHIRUN_TOO_FAR = 13,
     OMPHIRUN_BAD_SCALE = 14,
+    OMPHIRUN_CUT_SHORT = 18,
+    OMPHIRUN_BAD_KIND = 19,
+    OMPHIRUN_BAD_PLACE = 20,
     OMPHIRUN_ABOVE_RANGE = 24
 };
 
@@ -177,6 +188,26 @@ uint32_t omphirun_read_stl(const uint8_t *file, size_t file_len, int32_t e, int3
    directed edge of the triangles occurs as often as its reverse. It costs two passes over the grid, as surface does, and 100 bytes a quad.
    Refusals, in this order: 1, 2, 14, 5, 7, 8, with *bytes 0. */
 uint32_t omphirun_write_stl(uint32_t level, const uint8_t *grid, size_t grid_len, int32_t e, uint8_t *file, size_t file_len,
+                            size_t *bytes);
+
+/* Read a job file: the level byte, a count byte of 0 to 3, then for each body its kind (one byte), offset and length (little-endian u32
+   each); bodies follow without gaps, in rising order of kind, each kind at most once: 1 a grid of P bytes, 2 triangles of 36 bytes each, 3
+   quads of 8 bytes each. *kinds is 1 for a grid, 2 for triangles, 4 for quads, added; *grid_at and the others are where the bodies begin
+   and how long they are, in bytes, and 0 for a body that is not there; a grid body is P bytes long. The grid body is a grid as any buffer
+   is; signs in it, where a grid carries any, are not held against its marks. Triangles and quads are not looked into. The call takes the time
+   of looking at the grid's P bytes.
+   Refusals, in this order: 18 for an empty file; 1; 18 for a table of contents that is cut short or a count above 3; 19, for any body, before
+   20 for any; 5. With each of them everything that is told is 0. */
+uint32_t omphirun_read_job(const uint8_t *file, size_t file_len, uint32_t *level, uint32_t *kinds, uint32_t *grid_at,
+                           uint32_t *triangles_at, uint32_t *triangles_len, uint32_t *quads_at, uint32_t *quads_len);
+
+/* Write a job file with the bodies that `kinds` asks for, as they are; the others are not looked at. *bytes is the number of bytes
+   written, and those behind keep their contents. 29 bytes more than the bodies are always enough. What is written reads back the same, and
+   what read_job reads is written the same again.
+   Refusals, in this order: 1; 19 for kinds above 7; 20 for a length that is not P, a multiple of 36 or a multiple of 8, or an offset or length
+   too large for a u32; 5; 8. *bytes is 0 with each of them. */
+uint32_t omphirun_write_job(uint32_t level, uint32_t kinds, const uint8_t *grid, size_t grid_len, const uint8_t *triangles,
+                            size_t triangles_len, const uint8_t *quads, size_t quads_len, uint8_t *file, size_t file_len,
                             size_t *bytes);
 
 #ifdef __cplusplus

@@ -19,6 +19,10 @@ struct calls {
     uint32_t (*read_stl)(const uint8_t *file, size_t file_len, int32_t e, int32_t *list, size_t list_len, uint32_t *triangles,
                          uint32_t *axis);
     uint32_t (*write_stl)(uint32_t level, const uint8_t *grid, size_t grid_len, int32_t e, uint8_t *file, size_t file_len, size_t *bytes);
+    uint32_t (*read_job)(const uint8_t *file, size_t file_len, uint32_t *level, uint32_t *kinds, uint32_t *grid_at,
+                         uint32_t *triangles_at, uint32_t *triangles_len, uint32_t *quads_at, uint32_t *quads_len);
+    uint32_t (*write_job)(uint32_t level, uint32_t kinds, const uint8_t *grid, size_t grid_len, const uint8_t *triangles,
+                          size_t triangles_len, const uint8_t *quads, size_t quads_len, uint8_t *file, size_t file_len, size_t *bytes);
 };
 
 extern const struct calls the_library, the_reference;

@@ -15,7 +15,7 @@ static uint64_t calls = 120000, seed = 1, from;
 static const struct call *only;
 
 /* How often each call gave each answer, and what else shows that the inputs reach everything. */
-static uint64_t answered[MOST_CALLS][MOST_ANSWERS], at_level[6], many_rims, many_flips;
+static uint64_t answered[MOST_CALLS][MOST_ANSWERS], at_level[6], many_rims, many_flips, tried;
 
 static void count(const struct input *in, const struct outcome *out)
 {
@@ -39,6 +39,7 @@ static void print_counts(void)
     }
     printf("done at level 2: %" PRIu64 ", 3: %" PRIu64 ", 4: %" PRIu64 ", 5: %" PRIu64, at_level[2], at_level[3], at_level[4],
            at_level[5]);
+    printf("; by number: %" PRIu64, tried);
     printf("; grids with several rims: %" PRIu64 ", with more than ten flips: %" PRIu64 "\n", many_rims, many_flips);
 }
 
@@ -57,11 +58,12 @@ static int reached_everything(void)
     return all;
 }
 
-static void report(uint64_t number, struct input *in, const struct outcome *reference, const char *what)
+/* Which input it is: by its number among all calls, or among those of one call that are tried every time. */
+static void report(const char *kind, uint64_t number, struct input *in, const struct outcome *reference, const char *what)
 {
     struct outcome again;
     char smallest[200];
-    printf("difference at call %" PRIu64 ": %s\n", number, what);
+    printf("difference at %s %" PRIu64 ": %s\n", kind, number, what);
     shrink(in, reference->answer);
     if (differs(in, &again, smallest, sizeof smallest))
         printf("smallest input found: %s\n", smallest);
@@ -77,7 +79,7 @@ static int compare_one(uint64_t number, struct input *in)
     const char *also;
     make_input(&r, only, in);
     if (differs(in, &out, what, sizeof what)) {
-        report(number, in, &out, what);
+        report("call", number, in, &out, what);
         return 1;
     }
     if (in->call->also && (also = in->call->also(in))) {
@@ -86,6 +88,22 @@ static int compare_one(uint64_t number, struct input *in)
         return 1;
     }
     count(in, &out);
+    return 0;
+}
+
+/* Tries the inputs that a call has in every run, up to the first that differs; answers whether one does. */
+static int compare_every(const struct call *call, struct input *in)
+{
+    struct outcome out;
+    char what[200];
+    for (uint64_t number = 0; number < call->every; number++) {
+        make_numbered(call, number, in);
+        if (differs(in, &out, what, sizeof what)) {
+            report(call->name, number, in, &out, what);
+            return 1;
+        }
+        tried++;
+    }
     return 0;
 }
 
@@ -139,6 +157,9 @@ int main(int argc, char **argv)
     struct input in = new_input();
     prepare_sides();
     failed = failed_examples(&the_reference) + failed_examples(&the_library);
+    for (size_t c = 0; c < call_count && from == 0; c++)
+        if ((only == NULL || only == all_calls[c]) && differences == 0)
+            differences += (uint64_t)compare_every(all_calls[c], &in);
     for (made = 0; made < calls && differences == 0; made++) {
         differences += (uint64_t)compare_one(from + made, &in);
         if ((made + 1) % 500000 == 0)

@@ -3,6 +3,7 @@
 
 #include <stdio.h>
 #include <string.h>
+#include <sys/mman.h>
 
 #include "turning.h"
 
@@ -200,6 +201,41 @@ static void run_clearing(const struct calls *calls, const char *name)
     hold(calls->sign(2, grid, POINTS) == 0 && !memcmp(grid, expected, POINTS), name, "and changes nothing when called again");
 }
 
+/* The job of docs/FORMATS.md: level 2 and one quad. */
+static const uint8_t one_quad[19] = {2, 1, 3, 11, 0, 0, 0, 8, 0, 0, 0, 21, 0, 25, 0, 26, 0, 22, 0};
+
+static void run_job(const struct calls *calls, const char *name)
+{
+    uint8_t file[20];
+    size_t bytes;
+    uint32_t level, kinds, unused[3], at, len;
+    memset(file, 9, sizeof file);
+    hold(calls->write_job(2, 4, NULL, 0, NULL, 0, one_quad + 11, 8, file, sizeof file, &bytes) == 0 && bytes == 19, name, "one quad is written");
+    hold(!memcmp(file, one_quad, 19) && file[19] == 9, name, "its bytes, and the one behind");
+    hold(calls->read_job(one_quad, 19, &level, &kinds, &unused[0], &unused[1], &unused[2], &at, &len) == 0, name, "and is read");
+    hold(level == 2 && kinds == 4 && at == 11 && len == 8, name, "with its place");
+}
+
+/* Offsets and lengths about 2^32, with bodies that nobody may look into: 20 is given where one does not fit a u32, 8 where all do. */
+static void run_large_jobs(const struct calls *calls, const char *name)
+{
+    static const struct {
+        uint64_t triangles, quads;
+        uint32_t kinds, answer;
+    } large[] = {{4294967292u, 0, 2, 8},  {4294967328u, 0, 2, 20}, {0, 4294967288u, 4, 8},  {0, 4294967296u, 4, 20},
+                 {4294967256u, 8, 6, 8},  {4294967292u, 8, 6, 20}, {4294967328u, 8, 4, 8},  {4294967256u, 4294967288u, 6, 8}};
+    size_t room = (size_t)1 << 33, bytes;
+    uint8_t *nobody = mmap(NULL, room, PROT_NONE, MAP_PRIVATE | MAP_ANONYMOUS | MAP_NORESERVE, -1, 0);
+    hold(nobody != MAP_FAILED, name, "room for 2^33 addresses");
+    for (size_t l = 0; nobody != MAP_FAILED && l < sizeof large / sizeof *large; l++)
+        hold(calls->write_job(2, large[l].kinds, NULL, 0, nobody, large[l].triangles, nobody, large[l].quads, NULL, 0, &bytes) ==
+                     large[l].answer &&
+                 bytes == 0,
+             name, "offsets and lengths about 2^32");
+    if (nobody != MAP_FAILED)
+        munmap(nobody, room);
+}
+
 int failed_examples(const struct calls *calls)
 {
     failures = 0;
@@ -210,5 +246,7 @@ int failed_examples(const struct calls *calls)
     run_refusals(calls);
     run_clearing(calls, "M-107");
     run_turning("M-113");
+    run_job(calls, "M-112");
+    run_large_jobs(calls, "M-112");
     return failures;
 }

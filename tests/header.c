@@ -39,9 +39,9 @@ static void hold_place(uint32_t place, uint32_t axis, uint32_t expected)
 
 int main(void)
 {
-    uint8_t grid[OMPHIRUN_POINTS(2)], file[84];
+    uint8_t grid[OMPHIRUN_POINTS(2)], other[OMPHIRUN_POINTS(2)], file[84];
     size_t bytes = 9;
-    uint32_t one = 9, two = 9, three = 9, four = 9;
+    uint32_t one = 9, two = 9, three = 9, four = 9, told[5];
     const int32_t low[9] = {262144, 0}, high[9] = {262144, 262144, 262144, 262144, 262144, 524287};
     memset(grid, 0, sizeof grid);
     hold(omphirun_open(1, NULL, 0), OMPHIRUN_BAD_LEVEL, "open");
@@ -77,6 +77,13 @@ int main(void)
     hold((uint32_t)bytes, OMPHIRUN_DONE, "write_stl's count");
     hold(omphirun_write_stl(2, grid, sizeof grid, 20, file, sizeof file, &bytes), OMPHIRUN_DONE, "write_stl without quads");
     hold((uint32_t)(bytes - sizeof file), OMPHIRUN_DONE, "write_stl's 84 bytes");
+    hold(omphirun_read_job(NULL, 0, &one, &two, &told[0], &told[1], &told[2], &told[3], &told[4]), OMPHIRUN_CUT_SHORT, "read_job");
+    hold(omphirun_write_job(2, 8, NULL, 0, NULL, 0, NULL, 0, NULL, 0, &bytes), OMPHIRUN_BAD_KIND, "write_job");
+    hold(omphirun_write_job(2, 1, NULL, 0, NULL, 0, NULL, 0, NULL, 0, &bytes), OMPHIRUN_BAD_PLACE, "write_job");
+    hold(omphirun_write_job(2, 6, NULL, 0, NULL, 0, NULL, 0, NULL, 0, &bytes), OMPHIRUN_SHORT_LIST, "write_job");
+    hold((uint32_t)bytes, OMPHIRUN_DONE, "write_job's bytes");
+    hold(omphirun_write_job(2, 6, NULL, 0, NULL, 0, NULL, 0, other, sizeof other, &bytes), OMPHIRUN_DONE, "write_job of empty bodies");
+    hold(omphirun_read_job(other, bytes, &one, &two, &told[0], &told[1], &told[2], &told[3], &told[4]), OMPHIRUN_DONE, "read_job of them");
     grid[2 + 5 * (2 + 5 * 2)] = 1;
     hold(omphirun_sign(2, grid, sizeof grid), OMPHIRUN_ODD_FACE, "sign");
     return failures > 0;

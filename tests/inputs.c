@@ -14,10 +14,13 @@ const struct kind kinds[BUFFERS] = {
     [STL] = {"file", 1, STL_ROOM, 0},
     [NUMBERS] = {"number", sizeof(int32_t), NUMBERS_ROOM, 0},
     [WRITTEN] = {"written file", 1, WRITTEN_ROOM, 0},
+    [JOB] = {"job", 1, JOB_ROOM, 0},
+    [JOB_TRIANGLES] = {"triangles", 1, BODY_ROOM, 0},
+    [JOB_QUADS] = {"quads", 1, BODY_ROOM, 0},
 };
 
-const struct call *const all_calls[] = {&call_open, &call_mark, &call_mark_tree, &call_patch,
-                                       &call_sign, &call_surface, &call_read_stl, &call_write_stl};
+const struct call *const all_calls[] = {&call_open,    &call_mark,     &call_mark_tree, &call_patch,    &call_sign,
+                                        &call_surface, &call_read_stl, &call_write_stl, &call_read_job, &call_write_job};
 const size_t call_count = sizeof all_calls / sizeof *all_calls;
 
 size_t place_of(const struct call *call)
@@ -108,6 +111,15 @@ static const struct call *choose(struct random *r)
             return all_calls[c];
         pick -= all_calls[c]->share;
     }
+}
+
+void make_numbered(const struct call *call, uint64_t number, struct input *in)
+{
+    in->call = call;
+    in->null = 0;
+    for (int b = 0; b < BUFFERS; b++)
+        in->len[b] = 0;
+    call->make_every(number, in);
 }
 
 void make_input(struct random *r, const struct call *only, struct input *in)

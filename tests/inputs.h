@@ -11,9 +11,10 @@
 #include "random.h"
 #include "reference_grid.h"
 
-enum buffer { GRID, WORK, TRIANGLE, LIST, STL, NUMBERS, WRITTEN, BUFFERS };
-enum { POINT_ROOM = 40000, TRIANGLE_ROOM = 24, LIST_ROOM = 4 * 3 * 31 * 31 * 32 + 1000, MOST_COUNTS = 4 };
+enum buffer { GRID, WORK, TRIANGLE, LIST, STL, NUMBERS, WRITTEN, JOB, JOB_TRIANGLES, JOB_QUADS, BUFFERS };
+enum { POINT_ROOM = 40000, TRIANGLE_ROOM = 24, LIST_ROOM = 4 * 3 * 31 * 31 * 32 + 1000, MOST_COUNTS = 7 };
 enum { MOST_STL = 40, STL_ROOM = 84 + 50 * (MOST_STL + 2), NUMBERS_ROOM = 9 * MOST_STL + 40, WRITTEN_ROOM = 84 + 100 * MOST_QUADS + 1000 };
+enum { MOST_JOB = 40, BODY_ROOM = 36 * (MOST_JOB + 1), JOB_ROOM = 29 + MOST_POINTS + 2 * BODY_ROOM };
 enum { MOST_CALLS = 32, MOST_ANSWERS = 32 };
 
 /* What a lent buffer holds: its name, bytes an element, elements that there is room for, and whether it has one byte a point. */
@@ -30,6 +31,7 @@ struct input {
     const struct call *call;
     uint32_t level;
     int32_t e; /* the power of two of a call on a file */
+    uint32_t bodies; /* the kinds of bodies that a job is to have */
     int null; /* an empty buffer is lent as a null pointer */
     size_t len[BUFFERS];
     uint8_t *buffer[BUFFERS];
@@ -39,7 +41,8 @@ struct input {
 static const uint32_t untouched = 0xdeadbeef;
 
 /* A call: its share of the inputs, its buffers and the answers it can give (bit b, bit a), its counts by name, how an input is made on
-   top of random buffers, and how it is called. `also`, where it is set, tells a further fault that an input shows, or nothing. */
+   top of random buffers, and how it is called. `also`, where it is set, tells a further fault that an input shows, or nothing. Where `every`
+   is set, there are so many inputs more that are tried before the others, all of them in every run; `make_every` makes them by number. */
 struct call {
     const char *name;
     uint32_t share, buffers, answers;
@@ -47,9 +50,12 @@ struct call {
     void (*make)(struct random *r, const struct measures *m, struct input *in);
     uint32_t (*run)(const struct calls *calls, const struct input *lent, uint64_t counts[MOST_COUNTS]);
     const char *(*also)(const struct input *in);
+    uint64_t every;
+    void (*make_every)(uint64_t number, struct input *in);
 };
 
-extern const struct call call_open, call_mark, call_mark_tree, call_patch, call_sign, call_surface, call_read_stl, call_write_stl;
+extern const struct call call_open, call_mark, call_mark_tree, call_patch, call_sign, call_surface, call_read_stl, call_write_stl, call_read_job,
+    call_write_job;
 extern const struct call *const all_calls[];
 extern const size_t call_count;
 
@@ -77,6 +83,9 @@ struct input new_input(void);
 
 /* Makes the input that belongs to this state of the random numbers, of one call or of all. */
 void make_input(struct random *r, const struct call *only, struct input *in);
+
+/* Makes an input of a call by its number, below the call's `every`. */
+void make_numbered(const struct call *call, uint64_t number, struct input *in);
 
 /* Makes a grid of some kind, always one that is a grid. */
 void make_grid(struct random *r, const struct measures *m, uint8_t *grid);

@@ -64,7 +64,7 @@ static void print_elements(const struct input *in, int b)
 
 void print_input(const struct input *in)
 {
-    printf("  %s, level %u, e %d\n", in->call->name, in->level, in->e);
+    printf("  %s, level %u, e %d, bodies %u\n", in->call->name, in->level, in->e, in->bodies);
     for (int b = 0; b < BUFFERS; b++)
         if (takes(in->call, b) && in->len[b] == 0 && in->null)
             printf("  %s, null\n", kinds[b].name);

@@ -7,6 +7,8 @@
 #define reference_surface omphirun_surface
 #define reference_read_stl omphirun_read_stl
 #define reference_write_stl omphirun_write_stl
+#define reference_read_job omphirun_read_job
+#define reference_write_job omphirun_write_job
 #define reference_mark_near omphirun_mark
 #define reference_mark_tree omphirun_mark_tree
 #define reference_add_marks second_add_marks
@@ -19,3 +21,4 @@
 #include "reference_stl.c"
 #include "reference_write_stl.c"
 #include "reference_tree.c"
+#include "reference_job.c"

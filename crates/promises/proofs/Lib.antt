@@ -10,3 +10,4 @@ pub mod Examples
 pub mod Such
 pub mod Reading
 pub mod Writing
+pub mod Jobs

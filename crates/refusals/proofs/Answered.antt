@@ -30,6 +30,12 @@ answered-both P refused done r d (x ∷ l) = go (x .so) (answered-both P refused
     go true h = r (x .number)
     go false h = h
 
+-- where no row applies, what is done
+pub answered-clear : {O : Type 0} (refused : ℕ → O) (done : O) (rows : List Row) → Clear rows → answered rows refused done ≡ done
+answered-clear refused done [] c = refl
+answered-clear refused done (r ∷ l) c =
+    ap (λ (b : Bool). cond b (refused (r .number)) (answered l refused done)) (c .0) ∙ answered-clear refused done l (c .1)
+
 -- what is read of the outcome, row by row
 pub answered-on : {O A : Type 0} (part : O → A) (refused : ℕ → O) (done : O) (rows : List Row) →
     part (answered rows refused done) ≡ answered rows (λ k. part (refused k)) (part done)

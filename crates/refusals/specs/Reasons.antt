@@ -7,6 +7,7 @@ use Rattle.refusals.specs.declared.Answer.{Answer}
 use Rattle.refusals.specs.declared.Answer.the-variants.{Done, Refused}
 use Rattle.refusals.specs.declared.Refusal.{Refusal}
 use Rattle.refusals.specs.declared.Refusal.the-variants.{BadLevel, ShortBuffer, NotNine, NoGrid, OddFace, SignsMisfit, ShortList, WrongLength, TextForm, TooFar, BadScale}
+use Rattle.refusals.specs.declared.Refusal.the-variants.{CutShort, BadKind, BadPlace}
 
 abbrev pub numberOf : Refusal → ℕ
 numberOf BadLevel = 1
@@ -20,6 +21,9 @@ numberOf WrongLength = 10
 numberOf TextForm = 11
 numberOf TooFar = 13
 numberOf BadScale = 14
+numberOf CutShort = 18
+numberOf BadKind = 19
+numberOf BadPlace = 20
 
 -- and for each answer of a call without counts
 abbrev pub answerNumber : Answer → ℕ
@@ -30,7 +34,7 @@ answerNumber (Refused r) = numberOf r
 abbrev pub refusals : List Refusal
 refusals =
     BadLevel ∷ ShortBuffer ∷ NotNine ∷ NoGrid ∷ OddFace ∷ SignsMisfit ∷ ShortList
-    ∷ WrongLength ∷ TextForm ∷ TooFar ∷ BadScale ∷ []
+    ∷ WrongLength ∷ TextForm ∷ TooFar ∷ BadScale ∷ CutShort ∷ BadKind ∷ BadPlace ∷ []
 
 -- the refusal of a number
 abbrev pub refusalIn : List Refusal → ℕ → Refusal

@@ -15,6 +15,9 @@ pub enum Refusal {
     TextForm,
     TooFar,
     BadScale,
+    CutShort,
+    BadKind,
+    BadPlace,
 }
 
 // What a call without counts answers.
@@ -40,6 +43,9 @@ impl Refusal {
             Refusal::TextForm => 11,
             Refusal::TooFar => 13,
             Refusal::BadScale => 14,
+            Refusal::CutShort => 18,
+            Refusal::BadKind => 19,
+            Refusal::BadPlace => 20,
         }
     }
 }

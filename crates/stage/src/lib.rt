@@ -1,5 +1,7 @@
 // The calls as C functions, for the slicer to link: an answer is its number, and counts go behind references. Each promise is
 // that of the call it hands on to, read the same way: number, counts and every buffer, for all inputs.
+use job_reading::ReadAnswer as ReadJobAnswer;
+use job_writing::WriteAnswer as WriteJobAnswer;
 use marking::MarkAnswer;
 use patching::PatchAnswer;
 use stl_reading::ReadAnswer;
@@ -16,6 +18,8 @@ ghost use Rattle.signing.specs.Call.{Outcome as SignOutcome, signCall};
 ghost use Rattle.surfacing.specs.Call.{Outcome as SurfaceOutcome, surfaceCall};
 ghost use Rattle.stl_reading.specs.Call.{Outcome as ReadOutcome, readCall};
 ghost use Rattle.stl_writing.specs.Call.{Outcome as WriteOutcome, writeCall};
+ghost use Rattle.job_reading.specs.Read.{Numbers as JobNumbers, numbersOf, readCall as readJobCall};
+ghost use Rattle.job_writing.specs.Write.{Outcome as WriteJobOutcome, writeCall as writeJobCall};
 
 // Open (level, grid): the P bytes become 0.
 #[no_mangle]
@@ -184,5 +188,82 @@ pub extern "C" fn omphirun_write_stl(
             0
         }
         WriteAnswer::Refused(why) => why.number(),
+    }
+}
+
+// Read a job file: its level, the kinds of its bodies, as 1 for a grid, 2 for triangles and 4 for quads, added, and where they lie. What
+// is not there, and everything on a refusal, is 0.
+#[no_mangle]
+pub extern "C" fn omphirun_read_job(
+    file: &[u8],
+    level: &mut u32,
+    kinds: &mut u32,
+    grid_at: &mut u32,
+    triangles_at: &mut u32,
+    triangles_len: &mut u32,
+    quads_at: &mut u32,
+    quads_len: &mut u32,
+) -> u32
+    ensures { λ r. ⌜ _≡_ {A = JobNumbers}
+        (record {
+          number = r;
+          level = now (level .exit);
+          kinds = now (kinds .exit);
+          gridAt = now («grid_at» .exit);
+          trianglesAt = now («triangles_at» .exit);
+          trianglesSize = now («triangles_len» .exit);
+          quadsAt = now («quads_at» .exit);
+          quadsSize = now («quads_len» .exit);
+        })
+        (numbersOf (readJobCall (now (file .entry)))) ⌝ }
+{
+    *level = 0;
+    *kinds = 0;
+    *grid_at = 0;
+    *triangles_at = 0;
+    *triangles_len = 0;
+    *quads_at = 0;
+    *quads_len = 0;
+    match job_reading::read_job(file) {
+        ReadJobAnswer::Done(c) => {
+            let grid = c.grid;
+            let triangles = c.triangles;
+            let quads = c.quads;
+            *level = c.level;
+            *kinds = grid.weight(1) + triangles.weight(2) + quads.weight(4);
+            *grid_at = grid.place();
+            *triangles_at = triangles.place();
+            *triangles_len = triangles.size();
+            *quads_at = quads.place();
+            *quads_len = quads.size();
+            0
+        }
+        ReadJobAnswer::Refused(why) => why.number(),
+    }
+}
+
+// Write a job file (level, kinds, grid, triangles, quads, file): the bodies that kinds ask for, as they are, behind their table of
+// contents. The number of bytes written is returned, and those behind keep their contents.
+#[no_mangle]
+pub extern "C" fn omphirun_write_job(
+    level: u32,
+    kinds: u32,
+    grid: &[u8],
+    triangles: &[u8],
+    quads: &[u8],
+    file: &mut [u8],
+    bytes: &mut usize,
+) -> u32
+    ensures { λ r. ⌜ _≡_ {A = WriteJobOutcome}
+        (record { number = r; bytes = now (bytes .exit); file = now (file .exit) })
+        (writeJobCall level kinds (now (grid .entry)) (now (triangles .entry)) (now (quads .entry)) (now (file .entry))) ⌝ }
+{
+    *bytes = 0;
+    match job_writing::write_job(level, kinds, grid, triangles, quads, file) {
+        WriteJobAnswer::Done { bytes: n } => {
+            *bytes = n;
+            0
+        }
+        WriteJobAnswer::Refused(why) => why.number(),
     }
 }

@@ -39,7 +39,9 @@ loop-again : tie.Need-loop-again Inv-loop μ-loop
 loop-again c =
     let l = c .before .before .loop in
     let start = c .before .before .before in
-    (omega arith, simp length-set (l .inv .1), puts-more (start .args .out .now) (l .out) (start .args .bytes .now) (start .args .at) (l .k) (omega arith) (l .inv .2))
+    let s = start .args .bytes .now in
+    let more = puts-more (start .args .out .now) (l .out) s (start .args .at) (l .k) (omega arith) (l .inv .2) in
+    (omega arith, simp length-set (l .inv .1), more)
 
 same-length : tie.Need-same-length Inv-loop μ-loop
 same-length c = c .before .loop .inv .1
