@@ -10,6 +10,7 @@
 #include "../tests/random.h"
 #include "../tests/reference.h"
 #include "hostile.h"
+#include "plain.h"
 
 enum { LIST_ROOM = 4 * 3 * 31 * 31 * 32, MOST_TIMED = 1000, LEAST_ROUNDS = 5, MOST_ROUNDS = 400 };
 enum { STL_TRIANGLES = 20000, STL_BYTES = 84 + 50 * STL_TRIANGLES };
@@ -85,6 +86,14 @@ static void run_surface(const struct calls *calls)
     hold(calls->surface(level, grid, sizeof grid, list, LIST_ROOM, &counts[0]));
 }
 
+/* On the list that surface wrote last. */
+static void run_accept(const struct calls *calls)
+{
+    uint32_t yes;
+    hold(calls->accept(level, list, 4 * (size_t)counts[0], grid, sizeof grid, other, sizeof other, &yes));
+    hold(yes != 1);
+}
+
 static void run_read(const struct calls *calls)
 {
     hold(calls->read_stl(file, sizeof file, 0, numbers, 9 * STL_TRIANGLES, &counts[0], &counts[1]));
@@ -113,6 +122,7 @@ static void row(const char *name, const char *input, job *run, int calls_a_run)
     double best[2] = {1e9, 1e9}, end = now() + seconds_a_row;
     int runs = 1, round;
     sides[1].mark = reference_mark_near;
+    sides[1].accept = plain_accept;
     for (round = 0; round < LEAST_ROUNDS || (round < MOST_ROUNDS && now() < end); round++)
         for (int side = 0; side < 2; side++) {
             restore(NULL);
@@ -150,6 +160,8 @@ static void time_grid(const char *input)
     printf("   %u quads\n", counts[0]);
     row("write_stl", input, run_write, 1);
     printf("   %zu bytes\n", bytes);
+    row("accept", input, run_accept, 1);
+    printf("   %u quads\n", counts[0]);
 }
 
 static void set_level(uint32_t to)

@@ -1,5 +1,5 @@
-/* The repair stage for a slicer: five calls, mark in a second form, two that read and write binary STL, and two that read and write job files, on
-   memory that the caller lends.
+/* The repair stage for a slicer: five calls, mark in a second form, two that read and write binary STL, two that read and write job files, and
+   one that checks a surface, on memory that the caller lends.
 
    Link with libstage.a, which `rt staticlib stage` writes to target/staticlib/ (x86-64). examples/slicer.c shows the calls in
    their order: open, mark for each triangle, patch, sign, surface.
@@ -30,7 +30,8 @@
         first that does lies below it                              mark, mark_tree
     24  a coordinate lies outside S/2 to 524,287 - S/2, and the
         first that does lies above it                              mark, mark_tree
-     5  the buffer is no grid                                      all of these but open
+     5  the buffer is no grid                                      all of these but open and
+                                                                   accept
         the grid body is no grid                                   read_job, write_job
      6  some face of a cell has an odd number of marked edges      sign
      7  point (0,0,0) inside, an edge whose ends differ in sign
@@ -45,6 +46,7 @@
     12  a coordinate is a NaN or infinite                          read_stl
     13  a coordinate is beyond 2^30 in size                        read_stl
     14  e is not -20 to 20                                         read_stl, write_stl
+    17  the list's length is not a multiple of four                accept
     18  the file is empty, its table of contents is cut short, or
         its count is above 3                                       read_job
     19  a kind of body is unknown, repeated or out of order        read_job, write_job
@@ -57,7 +59,7 @@
    What the caller owes, and no call can check:
    - each pointer to a buffer is valid for as many elements as its length says, and aligned for them; lengths are in elements. A null
      pointer is fine where the length is 0: that is an empty buffer;
-   - each pointer to a count (place, axis, rims, flips, ones, threes, quads, triangles, bytes, all that read_job tells) is valid: it is
+   - each pointer to a count (place, axis, rims, flips, ones, threes, quads, triangles, bytes, yes, all that read_job tells) is valid: it is
      written in every case, so it is never null;
    - no buffer or count that a call writes overlaps another one of that call. Two that it only reads may;
    - OMPHIRUN_STACK bytes of stack are left. The calls take no memory but that and what is lent, and keep no state.
@@ -76,7 +78,7 @@ extern "C" {
 
 /* The version: the first number rises when a caller has to change, the second when there is something new. It stands here alone. */
 #define OMPHIRUN_MAJOR 5
-#define OMPHIRUN_MINOR 3
+#define OMPHIRUN_MINOR 4
 #define OMPHIRUN_PATCH 0
 
 /* What a call returns. */
@@ -96,6 +98,7 @@ enum omphirun_number {
     OMPHIRUN_NOT_FINITE = 12,
     OMPHIRUN_TOO_FAR = 13,
     OMPHIRUN_BAD_SCALE = 14,
+    OMPHIRUN_NOT_FOURS = 17,
     OMPHIRUN_CUT_SHORT = 18,
     OMPHIRUN_BAD_KIND = 19,
     OMPHIRUN_BAD_PLACE = 20,
@@ -209,6 +212,16 @@ uint32_t omphirun_read_job(const uint8_t *file, size_t file_len, uint32_t *level
 uint32_t omphirun_write_job(uint32_t level, uint32_t kinds, const uint8_t *grid, size_t grid_len, const uint8_t *triangles,
                             size_t triangles_len, const uint8_t *quads, size_t quads_len, uint8_t *file, size_t file_len,
                             size_t *bytes);
+
+/* Accept: check a surface that came from elsewhere, four cell numbers a quad. *yes is 1 exactly when some grid of signs with nothing inside on its outer
+   points has this surface, the order of quads and the starting corner of each set aside, else 0. There is at most one such grid; on a yes its marks
+   and signs are the first P bytes of the grid, as after sign, and on a no the grid is as it was. What the grid held does not matter. An empty list
+   is accepted as all outside; a cell number outside the grid, a quad twice or the wrong way round, one too few or one too many is a no. What surface
+   writes is accepted and gives the grid that it was written from; what is accepted, written by surface again, is the same set of quads. The first P work
+   bytes are 0 after a yes and after a no, whatever they held. One pass over the list, and a fixed number of passes over the P bytes.
+   Refusals, in this order: 1, 2, 17, with *yes 0; never 5. */
+uint32_t omphirun_accept(uint32_t level, const uint16_t *list, size_t list_len, uint8_t *grid, size_t grid_len, uint8_t *work, size_t work_len,
+                         uint32_t *yes);
 
 #ifdef __cplusplus
 }

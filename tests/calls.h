@@ -23,6 +23,8 @@ struct calls {
                          uint32_t *triangles_at, uint32_t *triangles_len, uint32_t *quads_at, uint32_t *quads_len);
     uint32_t (*write_job)(uint32_t level, uint32_t kinds, const uint8_t *grid, size_t grid_len, const uint8_t *triangles,
                           size_t triangles_len, const uint8_t *quads, size_t quads_len, uint8_t *file, size_t file_len, size_t *bytes);
+    uint32_t (*accept)(uint32_t level, const uint16_t *list, size_t list_len, uint8_t *grid, size_t grid_len, uint8_t *work,
+                       size_t work_len, uint32_t *yes);
 };
 
 extern const struct calls the_library, the_reference;

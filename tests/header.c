@@ -39,7 +39,8 @@ static void hold_place(uint32_t place, uint32_t axis, uint32_t expected)
 
 int main(void)
 {
-    uint8_t grid[OMPHIRUN_POINTS(2)], other[OMPHIRUN_POINTS(2)], file[84];
+    uint8_t grid[OMPHIRUN_POINTS(2)], other[OMPHIRUN_POINTS(2)], work[OMPHIRUN_POINTS(2)], file[84];
+    const uint16_t fewer[3] = {0, 0, 0};
     size_t bytes = 9;
     uint32_t one = 9, two = 9, three = 9, four = 9, told[5];
     const int32_t low[9] = {262144, 0}, high[9] = {262144, 262144, 262144, 262144, 262144, 524287};
@@ -84,6 +85,13 @@ int main(void)
     hold((uint32_t)bytes, OMPHIRUN_DONE, "write_job's bytes");
     hold(omphirun_write_job(2, 6, NULL, 0, NULL, 0, NULL, 0, other, sizeof other, &bytes), OMPHIRUN_DONE, "write_job of empty bodies");
     hold(omphirun_read_job(other, bytes, &one, &two, &told[0], &told[1], &told[2], &told[3], &told[4]), OMPHIRUN_DONE, "read_job of them");
+    one = 9;
+    hold(omphirun_accept(1, NULL, 0, NULL, 0, NULL, 0, &one), OMPHIRUN_BAD_LEVEL, "accept");
+    hold(one, OMPHIRUN_DONE, "accept's yes");
+    hold(omphirun_accept(2, NULL, 0, grid, sizeof grid, NULL, 0, &one), OMPHIRUN_SHORT_BUFFER, "accept");
+    hold(omphirun_accept(2, fewer, 3, grid, sizeof grid, work, sizeof work, &one), OMPHIRUN_NOT_FOURS, "accept");
+    hold(omphirun_accept(2, NULL, 0, grid, sizeof grid, work, sizeof work, &one), OMPHIRUN_DONE, "accept without quads");
+    hold(one == 1 ? OMPHIRUN_DONE : OMPHIRUN_BAD_LEVEL, OMPHIRUN_DONE, "accept's yes without quads");
     grid[2 + 5 * (2 + 5 * 2)] = 1;
     hold(omphirun_sign(2, grid, sizeof grid), OMPHIRUN_ODD_FACE, "sign");
     return failures > 0;

@@ -9,6 +9,7 @@
 #define reference_write_stl omphirun_write_stl
 #define reference_read_job omphirun_read_job
 #define reference_write_job omphirun_write_job
+#define reference_accept omphirun_accept
 #define reference_mark_near omphirun_mark
 #define reference_mark_tree omphirun_mark_tree
 #define reference_add_marks second_add_marks
@@ -16,6 +17,7 @@
 #define reference_rim_cells second_rim_cells
 
 #include "reference.c"
+#include "reference_accept.c"
 #include "reference_mark.c"
 #include "reference_patch.c"
 #include "reference_stl.c"

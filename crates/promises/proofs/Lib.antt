@@ -11,3 +11,5 @@ pub mod Such
 pub mod Reading
 pub mod Writing
 pub mod Jobs
+pub mod Accepting
+pub mod Partner

@@ -10,7 +10,7 @@ use Rattle.refusals.specs.declared.Answer.the-variants.{Done, Refused}
 use Rattle.refusals.specs.Reasons.{answerNumber, readNumber}
 use Rattle.refusals.proofs.Reasons.{read-back}
 use Rattle.refusals.specs.declared.Refusal.the-variants.{BadLevel, ShortBuffer, NotNine, NoGrid, OddFace, SignsMisfit, ShortList}
-use Rattle.refusals.specs.declared.Refusal.the-variants.{WrongLength, TextForm, TooFar, BadScale, CutShort, BadKind, BadPlace}
+use Rattle.refusals.specs.declared.Refusal.the-variants.{WrongLength, TextForm, TooFar, BadScale, NotFours, CutShort, BadKind, BadPlace}
 use Rattle.marking.specs.declared.MarkAnswer.{MarkAnswer}
 use Rattle.marking.specs.declared.MarkAnswer.the-variants as Mark
 use Rattle.marking.specs.Outcome as Opening
@@ -65,6 +65,7 @@ mark-back (Mark.Refused WrongLength) g = refl
 mark-back (Mark.Refused TextForm) g = refl
 mark-back (Mark.Refused TooFar) g = refl
 mark-back (Mark.Refused BadScale) g = refl
+mark-back (Mark.Refused NotFours) g = refl
 mark-back (Mark.Refused CutShort) g = refl
 mark-back (Mark.Refused BadKind) g = refl
 mark-back (Mark.Refused BadPlace) g = refl

@@ -23,7 +23,7 @@ ghost use Rattle.rules.specs.Signs.{signBytes};
 ghost use Rattle.signing.specs.Call.{told, signCall};
 
 // Answers whether the far end of an x edge is inside, b being the byte of its near end.
-fn across(inside: bool, b: u8) -> bool
+pub fn across(inside: bool, b: u8) -> bool
     ensures { λ r. ⌜ r ≡ inside ⊕ has X b ⌝ }
 {
     inside != bit(b, Axis::X)

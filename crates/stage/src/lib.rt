@@ -1,5 +1,6 @@
 // The calls as C functions, for the slicer to link: an answer is its number, and counts go behind references. Each promise is
 // that of the call it hands on to, read the same way: number, counts and every buffer, for all inputs.
+use accepting::AcceptAnswer;
 use job_reading::ReadAnswer as ReadJobAnswer;
 use job_writing::WriteAnswer as WriteJobAnswer;
 use marking::MarkAnswer;
@@ -20,6 +21,7 @@ ghost use Rattle.stl_reading.specs.Call.{Outcome as ReadOutcome, readCall};
 ghost use Rattle.stl_writing.specs.Call.{Outcome as WriteOutcome, writeCall};
 ghost use Rattle.job_reading.specs.Read.{Numbers as JobNumbers, numbersOf, readCall as readJobCall};
 ghost use Rattle.job_writing.specs.Write.{Outcome as WriteJobOutcome, writeCall as writeJobCall};
+ghost use Rattle.accepting.specs.Call.{Outcome as AcceptOutcome, acceptCall};
 
 // Open (level, grid): the P bytes become 0.
 #[no_mangle]
@@ -265,5 +267,28 @@ pub extern "C" fn omphirun_write_job(
             0
         }
         WriteJobAnswer::Refused(why) => why.number(),
+    }
+}
+
+// Accept (level, list of u16, grid, work buffer): 1 for a list that is the surface of a grid of signs with nothing inside on its outer points, the order
+// of quads and the starting corner of each set aside, else 0; then that grid is given, marks and signs.
+#[no_mangle]
+pub extern "C" fn omphirun_accept(
+    level: u32,
+    list: &[u16],
+    grid: &mut [u8],
+    work: &mut [u8],
+    yes: &mut u32,
+) -> u32
+    ensures { λ r. ⌜ _≡_ {A = AcceptOutcome} (record { number = r; yes = now (yes .exit); grid = now (grid .exit); work = now (work .exit) }) (acceptCall level (now (list .entry)) (now (grid .entry)) (now (work .entry))) ⌝ }
+{
+    *yes = 0;
+    match accepting::accept(level, list, grid, work) {
+        AcceptAnswer::Yes => {
+            *yes = 1;
+            0
+        }
+        AcceptAnswer::No => 0,
+        AcceptAnswer::Refused(why) => why.number(),
     }
 }

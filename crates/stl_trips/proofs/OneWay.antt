@@ -19,9 +19,9 @@ use Rattle.rules.proofs.Numbers.{marks-inner}
 use Rattle.rules.proofs.PointOf.{pointOf-number}
 use Rattle.rules.proofs.Same.{each-same}
 use Rattle.lattice.specs.Cells.{Cell}
-use Rattle.surfacing.specs.Sides.{Four, Step, fours}
+use Rattle.surfacing.specs.Sides.{Four, Step, fours, four}
 use Rattle.surfacing.proofs.Exist.{quad-cells}
-use Rattle.surfacing.proofs.Fours.{four, quadOf, fours-quads}
+use Rattle.surfacing.proofs.Fours.{quadOf, fours-quads}
 use Rattle.surfacing.proofs.OneWay.{one-way}
 use Rattle.surfacing.proofs.Quads.{each-each}
 use Rattle.stl_records.specs.File.{facing, facings}

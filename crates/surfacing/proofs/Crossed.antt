@@ -22,9 +22,8 @@ use Rattle.rules.proofs.Rims.{down-up}
 use Rattle.rules.proofs.Store.{number-inj}
 use Rattle.lattice.specs.Cells.{Cell}
 use Rattle.lattice.proofs.PointSteps.{pred-most, pred-pos, up-down, down-cell}
-use Rattle.surfacing.specs.Sides.{Step, sides, isStep, Neighbours}
+use Rattle.surfacing.specs.Sides.{four, Step, sides, isStep, Neighbours}
 use Rattle.surfacing.proofs.Around.{Inside, down-other, down-last}
-use Rattle.surfacing.proofs.Fours.{four}
 
 -- ---- cells by their numbers
 cell-inj : (n : ℕ) (c d : Point) → Cell n c → Cell n d → cellNumber n c ≡ cellNumber n d → c ≡ d

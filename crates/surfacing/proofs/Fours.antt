@@ -12,18 +12,7 @@ use Rattle.rules.specs.Grid.{value}
 use Rattle.rules.specs.Quads.{next, quad, quads}
 use Rattle.rules.proofs.Lists.{all-weaken, all-map, all-kept}
 use Rattle.rules.proofs.Sums.{sum-map, sum-keep}
-use Rattle.surfacing.specs.Sides.{Four, fours}
-
--- the quad of an edge whose lower end is inside (true), or outside
-abbrev pub four : ℕ → Bool → Axis → Point → Four
-four n true a p =
-    let b = next a in
-    let c = next b in
-    record { first = cellNumber n (down b (down c p)); second = cellNumber n (down c p); third = cellNumber n p; fourth = cellNumber n (down b p) }
-four n false a p =
-    let b = next a in
-    let c = next b in
-    record { first = cellNumber n (down b (down c p)); second = cellNumber n (down b p); third = cellNumber n p; fourth = cellNumber n (down c p) }
+use Rattle.surfacing.specs.Sides.{Four, fours, four}
 
 abbrev pub quadOf : ℕ → (Point → Bool) → Place → Four
 quadOf n s e = four n (s (e .at)) (e .axis) (e .at)

@@ -9,11 +9,7 @@ use Rattle.rules.specs.Lists.{_⊕_, count}
 use Rattle.rules.specs.Lattice.{up, samePoint, Set}
 use Rattle.rules.specs.Quads.{quads}
 use Rattle.rules.proofs.Sums.{count-sum}
-use Rattle.surfacing.specs.Sides.{Four, sides, isStep, steps, sharing, OneWay}
-
--- the quad begun at its second corner
-abbrev begun : Four → Four
-begun q = record { first = q .second; second = q .third; third = q .fourth; fourth = q .first }
+use Rattle.surfacing.specs.Sides.{Four, begun, sides, isStep, steps, sharing, OneWay}
 
 -- a quad that starts at another corner keeps its turn: each step occurs as often
 pub any-corner : (q : Four) (c d : ℕ) → count (isStep c d) (sides (begun q)) ≡ count (isStep c d) (sides q)

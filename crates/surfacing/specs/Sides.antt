@@ -1,6 +1,6 @@
 -- A list of quads, four cell numbers each, and the steps along their sides. Assumes nothing.
 use mathlib.Core.Path.{_≡_}
-use mathlib.Core.Bool.{Bool, _&&_, _||_}
+use mathlib.Core.Bool.{Bool, true, false, _&&_, _||_}
 use mathlib.Core.List.{List, [], _∷_}
 use mathlib.Core.Logic.{_⊎_}
 use Prim.Native.Nat.{ℕ}
@@ -8,7 +8,8 @@ use lib.Dec.{eqb}
 use Rattle.rules.specs.declared.Axis.{Axis}
 use Rattle.rules.specs.declared.Point.{Point}
 use Rattle.rules.specs.Lists.{count, anyOf, each, All}
-use Rattle.rules.specs.Lattice.{up, cellNumber}
+use Rattle.rules.specs.Lattice.{up, down, cellNumber}
+use Rattle.rules.specs.Quads.{next}
 use Rattle.lattice.specs.Cells.{Cell}
 
 -- the four cell numbers of a quad
@@ -25,6 +26,21 @@ fours (a ∷ []) = []
 fours (a ∷ (b ∷ [])) = []
 fours (a ∷ (b ∷ (c ∷ []))) = []
 fours (a ∷ (b ∷ (c ∷ (d ∷ l)))) = record { first = a; second = b; third = c; fourth = d } ∷ fours l
+
+-- the quad of an edge whose lower end is inside (true), or outside
+abbrev pub four : ℕ → Bool → Axis → Point → Four
+four n true a p =
+    let b = next a in
+    let c = next b in
+    record { first = cellNumber n (down b (down c p)); second = cellNumber n (down c p); third = cellNumber n p; fourth = cellNumber n (down b p) }
+four n false a p =
+    let b = next a in
+    let c = next b in
+    record { first = cellNumber n (down b (down c p)); second = cellNumber n (down b p); third = cellNumber n p; fourth = cellNumber n (down c p) }
+
+-- the same quad, begun at its second corner
+abbrev pub begun : Four → Four
+begun q = record { first = q .second; second = q .third; third = q .fourth; fourth = q .first }
 
 -- a step from one cell to another
 pub record Step : Type 0 where

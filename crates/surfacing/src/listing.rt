@@ -30,7 +30,7 @@ pub fn next(a: Axis) -> Axis
 }
 
 // The step from a cell's number to that of the next cell along an axis.
-fn cell_step(n: usize, a: Axis) -> u16
+pub fn cell_step(n: usize, a: Axis) -> u16
     requires { ⌜ n ≤ 32 ⌝ }
     ensures { λ r. ⌜ r ≡ cellStep n a ⌝ }
 {
@@ -42,7 +42,7 @@ fn cell_step(n: usize, a: Axis) -> u16
 }
 
 // The number of a cell.
-fn cell_number(n: usize, c: Point) -> u16
+pub fn cell_number(n: usize, c: Point) -> u16
     requires { ⌜ (n ≤ 32) × Cell n c ⌝ }
     ensures { λ r. ⌜ r ≡ cellNumber n c ⌝ }
 {

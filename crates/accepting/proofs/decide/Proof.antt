@@ -1,0 +1,144 @@
+-- `accepting::decide` meets its contract. Assumes nothing.
+use borrow.Author.Needs.{needs}
+use mathlib.Core.Path.{sym, subst}
+use Prim.Native.Nat.{ℕ, _≤_}
+use native.Mathlib.Omega.{arith}
+use borrow.Author.Tests.{not-true, not-false}
+use Rattle.rules.specs.Lattice.{pointCount}
+use Rattle.accepting.proofs.Gathers.{blank-now, said-no, said-yes}
+use Rattle.accepting.proofs.decide.Statement.{statement}
+use Rattle.accepting.proofs.decide.Tie as tie
+
+point-count-requires : tie.Need-point-count-requires
+point-count-requires c κs = search needs
+
+clear-requires : tie.Need-clear-requires
+clear-requires c κs = omega (arith, c .before .point-count .ensures .0, c .before .before .before .before .before .pre .3)
+
+gather-requires : tie.Need-gather-requires
+gather-requires c κs =
+    let start = c .before .before .before .before .before .before .before .before .before in
+    let n = start .args .n in
+    let w = start .args .work .now in (
+      start .pre .0,
+      start .pre .1,
+      subst (λ (k : ℕ). pointCount n ≤ k) (sym (c .before .before .before .clear .kept .1 .0)) (start .pre .3),
+      start .pre .4,
+      blank-now n _ (start .args .list .now) (start .args .grid .now) w _ (c .before .before .before .before .before .point-count .ensures .0) (start .pre
+          .3) (c .before .before .before .clear .ensures),
+    )
+
+clear-requires-2 : tie.Need-clear-requires-2
+clear-requires-2 c κs = omega (
+  arith,
+  c .before .before .before .before .before .before .before .before .before .before .point-count .ensures .0,
+  c .before
+      .before .before .before .before .before .before .before .before .before .before .before .before .before .pre .3,
+  c .before .before .before .before
+      .before .before .before .before .clear .kept .1 .0,
+  c .before .before .before .before .gather .kept .1 .1 .0,
+)
+
+same-length : tie.Need-same-length
+same-length c = search needs
+
+returns : tie.Need-returns
+returns c =
+    let start = c .before .before .before .before .before .before .before .before .before .before .before .before .before .before .before .before .before in
+    said-no (start .args .n) _ (start .args .list .now) (start .args .grid .now) (start .args .work .now) _ (c .before .before .before .before .before
+    .before .before .before .before .before .before .before .before .point-count .ensures .0) (start .pre .3)
+    (c .before .before .before .before .before .before .before .before .before .before .before .clear .ensures) _ _ _ (c .before .before .before .before
+    .before .before .before .gather .ensures) (not-true _ (c .before .before .before .before .if1 .taken)) (c .before .before .clear2 .ensures)
+
+sign-grid-requires : tie.Need-sign-grid-requires
+sign-grid-requires c κs =
+    let start = c .before .before .before .before .before .before .before .before .before .before .before .before .before .before in
+    let told = c .before .before .before .before .gather .ensures in
+    let said = not-false _ (c .before .if1 .left) in (
+      (
+        start .pre .1,
+        omega (
+          arith,
+          start .pre .3,
+          c .before .before .before .before .before .before .before .before .clear .kept .1 .0,
+          c .before .before
+              .before .before .gather .kept .1 .1 .0,
+        ),
+      ),
+      (told .grid said, told .even said),
+    )
+
+copy-requires : tie.Need-copy-requires
+copy-requires c κs =
+    let start = c .before .before .before .before .before .before .before .before .before .before .before .before .before .before .before .before .before
+    .before .before in (
+      omega (
+        arith,
+        c .before .before .before .before .before .before .before .before .before .before .before .before .before .before .before .point-count
+            .ensures .0,
+        start .pre .3,
+        c .before .before .before .before .before .before .before .before .before .before .before .before .before .clear .kept
+            .1 .0,
+        c .before .before .before .before .before .before .before .before .before .gather .kept .1 .1 .0,
+        c .before .before .before .before
+            .sign-grid .kept .1 .0,
+      ),
+      omega (
+        arith,
+        c .before .before .before .before .before .before .before .before .before .before .before .before .before .before .before .point-count
+            .ensures .0,
+        start .pre .2,
+      ),
+    )
+
+clear-requires-3 : tie.Need-clear-requires-3
+clear-requires-3 c κs =
+    let start = c .before .before .before .before .before .before .before .before .before .before .before .before .before .before .before .before .before
+    .before .before .before .before .before .before in
+    omega (
+      arith,
+      c .before .before .before .before .before .before .before .before .before .before .before .before .before .before .before .before .before
+          .before .before .point-count .ensures .0,
+      start .pre .3,
+      c .before .before .before .before .before .before .before .before .before .before .before
+          .before .before .before .before .before .before .clear .kept .1 .0,
+      c .before .before .before .before .before .before .before .before .before
+          .before .before .before .before .gather .kept .1 .1 .0,
+      c .before .before .before .before .before .before .before .before .sign-grid .kept .1 .0,
+    )
+
+same-length-2 : tie.Need-same-length-2
+same-length-2 c = search needs
+
+same-length-3 : tie.Need-same-length-3
+same-length-3 c = search needs
+
+returns-2 : tie.Need-returns-2
+returns-2 c =
+    let start = c .before .before .before .before .before .before .before .before .before .before .before .before .before .before .before .before .before
+    .before .before .before .before .before .before .before .before .before in
+    said-yes (start .args .n) _ (start .args .list .now) (start .args .grid .now) (start .args .work .now) _ (c .before .before .before .before .before
+    .before .before .before .before .before .before .before .before .before .before .before .before .before .before .before .before .before
+    .point-count .ensures .0) (start .pre .3)
+    (c .before .before .before .before .before .before .before .before .before .before .before .before .before .before .before .before .before .before
+    .before .before .clear .ensures) _ _ _ _ _ (c .before .before .before .before .before .before .before .before .before .before .before .before
+    .before .before .before .before .gather .ensures) (not-false _ (c .before .before .before .before .before .before .before .before .before .before
+    .before .before .before .if1 .left)) (c .before .before .before .before .before .before .before .before .before .before .before .sign-grid
+    .ensures) (c .before .before .before .before .before .before .copy .ensures) (c .before .before .clear3 .ensures)
+
+pub decide-spec : {M : Type 1} → statement M
+decide-spec =
+    tie.close
+    (tie.spec
+    point-count-requires
+    clear-requires
+    gather-requires
+    clear-requires-2
+    same-length
+    returns
+    sign-grid-requires
+    copy-requires
+    clear-requires-3
+    same-length-2
+    same-length-3
+    returns-2)
