@@ -36,6 +36,7 @@ rmdir "$FAKE/at-work"
 
 class Repository:
     """A copy of what ./repair needs, with the pretended kit on the path."""
+    tool = "repair"
 
     def __init__(self, folder):
         self.folder, self.kit, self.room = (os.path.join(folder, name) for name in ("a repository", "kit", "room"))
@@ -57,7 +58,7 @@ class Repository:
     def start(self, **more):
         script.runs += 1
         env = environment(self.room, PATH=self.kit + "/bin:" + os.environ["PATH"], FAKE=self.kit, REAL=ROOT, RATTLE_HOME=self.kit, **more)
-        return subprocess.Popen([self.folder + "/repair"], stdin=subprocess.DEVNULL, stdout=subprocess.PIPE, stderr=subprocess.PIPE, env=env)
+        return subprocess.Popen([os.path.join(self.folder, self.tool)], stdin=subprocess.DEVNULL, stdout=subprocess.PIPE, stderr=subprocess.PIPE, env=env)
 
     def run(self, **more):
         process = self.start(**more)
