@@ -115,6 +115,11 @@ static void run_read_job(const struct calls *calls)
     hold(calls->read_job(job_file, job_bytes, &told[0], &told[1], &told[2], &told[3], &told[4], &told[5], &told[6]));
 }
 
+static void run_masks(const struct calls *calls)
+{
+    hold(calls->masks(level, grid, sizeof grid, written, sizeof written, &bytes));
+}
+
 /* Prints one row: the level, where the call has one, microseconds a call of either side, and the ratio. */
 static void row(const char *name, const char *input, job *run, int calls_a_run)
 {
@@ -162,6 +167,8 @@ static void time_grid(const char *input)
     printf("   %zu bytes\n", bytes);
     row("accept", input, run_accept, 1);
     printf("   %u quads\n", counts[0]);
+    row("masks", input, run_masks, 1);
+    printf("   %zu bytes\n", bytes);
 }
 
 static void set_level(uint32_t to)

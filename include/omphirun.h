@@ -1,5 +1,5 @@
-/* The repair stage for a slicer: five calls, mark in a second form, two that read and write binary STL, two that read and write job files, and
-   one that checks a surface, on memory that the caller lends.
+/* The repair stage for a slicer: five calls, mark in a second form, two that read and write binary STL, two that read and write job files, one
+   that checks a surface, and one that writes masks, on memory that the caller lends.
 
    Link with libstage.a, which `rt staticlib stage` writes to target/staticlib/ (x86-64). examples/slicer.c shows the calls in
    their order: open, mark for each triangle, patch, sign, surface.
@@ -36,10 +36,11 @@
      6  some face of a cell has an odd number of marked edges      sign
      7  point (0,0,0) inside, an edge whose ends differ in sign
         and that has no mark, or one with a mark whose ends do
-        not differ                                                 surface
+        not differ                                                 surface, write_stl, masks
      8  the list is shorter than four times the quads              surface
         the list is shorter than nine times the triangles          read_stl
         the byte buffer is shorter than the file                   write_stl, write_job
+        the byte buffer is shorter than the pictures               masks
      9  more than 100,000 triangles                                the program repair alone
     10  the file's length is not 84 + 50 * count                   read_stl
     11  nor that, and the file begins with `solid`: the text form  read_stl
@@ -78,7 +79,7 @@ extern "C" {
 
 /* The version: the first number rises when a caller has to change, the second when there is something new. It stands here alone. */
 #define OMPHIRUN_MAJOR 5
-#define OMPHIRUN_MINOR 4
+#define OMPHIRUN_MINOR 5
 #define OMPHIRUN_PATCH 0
 
 /* What a call returns. */
@@ -123,6 +124,10 @@ enum omphirun_number {
 
 /* A buffer that is long enough for every surface of a level as binary STL, in bytes. */
 #define OMPHIRUN_STL(level) (84 + 100 * OMPHIRUN_EDGES(level))
+
+/* The bytes of the masks of a level: a picture for each of n+1 layers, of a header and n+1 rows. */
+#define OMPHIRUN_MASKS(level) \
+    ((OMPHIRUN_CELLS(level) + 1) * ((OMPHIRUN_CELLS(level) < 9 ? 7 : 9) + (OMPHIRUN_CELLS(level) + 1) * ((OMPHIRUN_CELLS(level) + 8) / 8)))
 
 /* Bytes of stack that are enough for any call: patch was measured to take 6.4 kB, mark_tree 2.3, mark 1.2, every other call less
    than 1 kB. */
@@ -222,6 +227,14 @@ uint32_t omphirun_write_job(uint32_t level, uint32_t kinds, const uint8_t *grid,
    Refusals, in this order: 1, 2, 17, with *yes 0; never 5. */
 uint32_t omphirun_accept(uint32_t level, const uint16_t *list, size_t list_len, uint8_t *grid, size_t grid_len, uint8_t *work, size_t work_len,
                          uint32_t *yes);
+
+/* Masks for a resin screen: a binary PBM picture (Netpbm, P4) of each layer of points, k rising, one behind another. Each has its header, `P4`,
+   newline, width, one space, height, newline, and then n+1 rows of n+1 columns, x rising to the right and y rising downward; a point inside is
+   1. A row is padded with zeros to whole bytes, its first point in the highest bit. Grid and signs are those that surface takes. *bytes is the
+   number of bytes written, OMPHIRUN_MASKS(level), and those behind keep their contents. It looks at each point once besides the tests that
+   surface makes too.
+   Refusals, in this order: 1, 2, 5, 7, 8, with *bytes 0. */
+uint32_t omphirun_masks(uint32_t level, const uint8_t *grid, size_t grid_len, uint8_t *out, size_t out_len, size_t *bytes);
 
 #ifdef __cplusplus
 }

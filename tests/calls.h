@@ -25,6 +25,7 @@ struct calls {
                           size_t triangles_len, const uint8_t *quads, size_t quads_len, uint8_t *file, size_t file_len, size_t *bytes);
     uint32_t (*accept)(uint32_t level, const uint16_t *list, size_t list_len, uint8_t *grid, size_t grid_len, uint8_t *work,
                        size_t work_len, uint32_t *yes);
+    uint32_t (*masks)(uint32_t level, const uint8_t *grid, size_t grid_len, uint8_t *out, size_t out_len, size_t *bytes);
 };
 
 extern const struct calls the_library, the_reference;

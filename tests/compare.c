@@ -83,7 +83,7 @@ static int compare_one(uint64_t number, struct input *in)
         return 1;
     }
     if (in->call->also && (also = in->call->also(in))) {
-        printf("%s at call %" PRIu64 "\n", also, number);
+        printf("difference at call %" PRIu64 ": %s\n", number, also);
         print_input(in);
         return 1;
     }

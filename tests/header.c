@@ -16,6 +16,7 @@ HOLDS(range_3, OMPHIRUN_LOWEST(3) == 65536 && OMPHIRUN_HIGHEST(3) == 458751);
 HOLDS(range_4, OMPHIRUN_LOWEST(4) == 32768 && OMPHIRUN_HIGHEST(4) == 491519);
 HOLDS(range_5, OMPHIRUN_LOWEST(5) == 16384 && OMPHIRUN_HIGHEST(5) == 507903);
 HOLDS(edges_5, OMPHIRUN_EDGES(5) == 92256 && OMPHIRUN_LIST(5) == 369024 && OMPHIRUN_LIST(2) == 432 && OMPHIRUN_STL(2) == 10884);
+HOLDS(masks, OMPHIRUN_MASKS(2) == 60 && OMPHIRUN_MASKS(3) == 225 && OMPHIRUN_MASKS(4) == 1020 && OMPHIRUN_MASKS(5) == 5742);
 HOLDS(version, OMPHIRUN_MAJOR >= 1 && OMPHIRUN_MINOR >= 0 && OMPHIRUN_PATCH >= 0);
 
 static int failures;
@@ -39,7 +40,7 @@ static void hold_place(uint32_t place, uint32_t axis, uint32_t expected)
 
 int main(void)
 {
-    uint8_t grid[OMPHIRUN_POINTS(2)], other[OMPHIRUN_POINTS(2)], work[OMPHIRUN_POINTS(2)], file[84];
+    uint8_t grid[OMPHIRUN_POINTS(2)], other[OMPHIRUN_POINTS(2)], work[OMPHIRUN_POINTS(2)], file[84], masks[OMPHIRUN_MASKS(2)];
     const uint16_t fewer[3] = {0, 0, 0};
     size_t bytes = 9;
     uint32_t one = 9, two = 9, three = 9, four = 9, told[5];
@@ -92,6 +93,12 @@ int main(void)
     hold(omphirun_accept(2, fewer, 3, grid, sizeof grid, work, sizeof work, &one), OMPHIRUN_NOT_FOURS, "accept");
     hold(omphirun_accept(2, NULL, 0, grid, sizeof grid, work, sizeof work, &one), OMPHIRUN_DONE, "accept without quads");
     hold(one == 1 ? OMPHIRUN_DONE : OMPHIRUN_BAD_LEVEL, OMPHIRUN_DONE, "accept's yes without quads");
+    hold(omphirun_masks(1, NULL, 0, NULL, 0, &bytes), OMPHIRUN_BAD_LEVEL, "masks");
+    hold((uint32_t)bytes, OMPHIRUN_DONE, "masks' count");
+    hold(omphirun_masks(2, NULL, 0, NULL, 0, &bytes), OMPHIRUN_SHORT_BUFFER, "masks");
+    hold(omphirun_masks(2, grid, sizeof grid, masks, sizeof masks - 1, &bytes), OMPHIRUN_SHORT_LIST, "masks");
+    hold(omphirun_masks(2, grid, sizeof grid, masks, sizeof masks, &bytes), OMPHIRUN_DONE, "masks of no point");
+    hold((uint32_t)(bytes - sizeof masks), OMPHIRUN_DONE, "masks' 60 bytes");
     grid[2 + 5 * (2 + 5 * 2)] = 1;
     hold(omphirun_sign(2, grid, sizeof grid), OMPHIRUN_ODD_FACE, "sign");
     return failures > 0;

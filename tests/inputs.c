@@ -21,7 +21,7 @@ const struct kind kinds[BUFFERS] = {
 
 const struct call *const all_calls[] = {&call_open,    &call_mark,     &call_mark_tree, &call_patch,    &call_sign,
                                         &call_surface, &call_read_stl, &call_write_stl, &call_read_job, &call_write_job,
-                                        &call_accept};
+                                        &call_accept,   &call_masks};
 const size_t call_count = sizeof all_calls / sizeof *all_calls;
 
 size_t place_of(const struct call *call)

@@ -55,7 +55,7 @@ struct call {
 };
 
 extern const struct call call_open, call_mark, call_mark_tree, call_patch, call_sign, call_surface, call_read_stl, call_write_stl, call_read_job,
-    call_write_job, call_accept;
+    call_write_job, call_accept, call_masks;
 extern const struct call *const all_calls[];
 extern const size_t call_count;
 

@@ -89,9 +89,8 @@ static void write_quad(int n, int axis, const int at[3], int lower_inside, uint1
     }
 }
 
-uint32_t reference_surface(uint32_t level, const uint8_t *grid, size_t grid_len, uint16_t *list, size_t list_len, uint32_t *quads)
+uint32_t reference_judge_signs(uint32_t level, const uint8_t *grid, size_t grid_len)
 {
-    *quads = 0;
     if (!known_level(level))
         return 1;
     struct measures m = measures_of(level);
@@ -99,8 +98,16 @@ uint32_t reference_surface(uint32_t level, const uint8_t *grid, size_t grid_len,
         return 2;
     if (!is_grid(&m, grid))
         return 5;
-    if (signs_are_wrong(&m, grid))
-        return 7;
+    return signs_are_wrong(&m, grid) ? 7 : 0;
+}
+
+uint32_t reference_surface(uint32_t level, const uint8_t *grid, size_t grid_len, uint16_t *list, size_t list_len, uint32_t *quads)
+{
+    uint32_t refused = reference_judge_signs(level, grid, grid_len);
+    *quads = 0;
+    if (refused)
+        return refused;
+    struct measures m = measures_of(level);
     if (list_len < 4 * (size_t)marked_edges(&m, grid))
         return 8;
     for (int k = 0, p = 0; k <= m.n; k++)

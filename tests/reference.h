@@ -31,6 +31,9 @@ uint32_t reference_write_job(uint32_t level, uint32_t kinds, const uint8_t *grid
 uint32_t reference_accept(uint32_t level, const uint16_t *list, size_t list_len, uint8_t *grid, size_t grid_len, uint8_t *work,
                           size_t work_len, uint32_t *yes);
 
+/* Document 02, M-110. */
+uint32_t reference_masks(uint32_t level, const uint8_t *grid, size_t grid_len, uint8_t *out, size_t out_len, size_t *bytes);
+
 /* Mark once more: it looks only at the edges that reach into the triangle's bounding box. */
 uint32_t reference_mark_near(uint32_t level, uint8_t *grid, size_t grid_len, const int32_t *triangle, size_t triangle_len, uint32_t *place,
                              uint32_t *axis);

@@ -115,6 +115,9 @@ static inline void clear_signs(const struct measures *m, uint8_t *grid)
         grid[p] &= MARKS;
 }
 
+/* What surface is refused by before its list is looked at, 1, 2, 5 or 7; 0 for a grid whose signs fit its marks. */
+uint32_t reference_judge_signs(uint32_t level, const uint8_t *grid, size_t grid_len);
+
 /* Adds the marks of the edges that the triangle meets; level, coordinates and grid are known to be right. */
 void reference_add_marks(const struct measures *m, uint8_t *grid, const int32_t *triangle);
 

@@ -1,7 +1,7 @@
 #!/usr/bin/env python3
 """Runs ./repair as a user would and holds it to what it says: options, exit statuses, interrupts, streams without end, symlinks.
 
-usage: tests/script.py     (target/bin/repair and target/bin/layers are there and newer than the crates)
+usage: tests/script.py     (target/bin/repair, target/bin/layers and target/bin/masking are there and newer than the crates)
 """
 import os
 import re
@@ -110,6 +110,55 @@ def options():
         shutil.copy(os.path.join(ROOT, "models", "bowl.bin"), os.path.join(folder, "--quads"))
         status, out, _ = run(["--", "--quads"], cwd=folder)
         hold(status == 0 and out.startswith("--quads: repaired"), "-- ends the options")
+
+
+def contents(folder):
+    files = {}
+    for name in sorted(os.listdir(folder)):
+        with open(os.path.join(folder, name), "rb") as file:
+            files[name] = file.read()
+    return files
+
+
+def masks_of(picture, row):
+    """The masks as they have to be, by the layers that --picture prints."""
+    rows = re.findall(rf"^[#.]{{{row}}}$", picture, re.M)
+    packed = [int(r.replace("#", "1").replace(".", "0").ljust(-row // 8 * -8, "0"), 2).to_bytes(-(-row // 8), "big") for r in rows]
+    return {f"layer_{k:02}.pbm": b"P4\n%d %d\n" % (row, row) + b"".join(packed[row * k:row * (k + 1)]) for k in range(row)}
+
+
+def masks():
+    """A file for each layer, the same layers that --picture prints; no file is written over unless told, and none is there in part."""
+    with tempfile.TemporaryDirectory() as folder:
+        new, small = os.path.join(folder, "a new", "folder"), os.path.join(folder, "small")
+        status, out, said = run(["--picture", "--masks", new])
+        hold((status, said) == (0, "") and f"\n  masks      33, layer_00.pbm to layer_32.pbm in {new}\n" in out, f"--masks: {status} {said!r}")
+        right = masks_of(out, 33)
+        hold(len(right) == 33 and contents(new) == right, "the masks are the layers")
+        status, out, _ = run(["--masks", small, "--picture", "-"], input=b"\2" + POINT)
+        hold(status == 0 and len(contents(small)) == 5 and contents(small) == masks_of(out, 5), "the masks of level 2")
+        os.remove(os.path.join(new, "layer_00.pbm"))
+        with open(os.path.join(new, "layer_32.pbm"), "wb") as file:
+            file.write(b"kept")
+        there = contents(new)
+        hold("layer_01.pbm" in fails("a file that is there", ["--masks", new]) and contents(new) == there, "no file is written over, and none added")
+        for name in there:
+            if name != "layer_32.pbm":
+                os.remove(os.path.join(new, name))
+        hold("layer_32.pbm" in fails("a last file", ["--masks", new]) and contents(new) == {"layer_32.pbm": b"kept"}, "nor is any before it")
+        hold(run(["--masks", new, "--force"])[0] == 0 and contents(new) == right, "--force writes over it")
+        os.symlink("nowhere", os.path.join(folder, "layer_00.pbm"))
+        fails("a symlink that leads nowhere", ["--masks", folder])
+        os.remove(os.path.join(folder, "layer_00.pbm"))
+        os.mkdir(os.path.join(folder, "layer_00.pbm"))
+        fails("a folder where a mask has to be", ["--masks", folder, "--force"])
+        none = os.path.join(folder, "none")
+        hold(run(["--masks", none, "-"], input=b"")[0] == 1 and not os.path.exists(none), "a refused stream has no masks")
+        hold(sorted(os.listdir(folder)) == ["a new", "layer_00.pbm", "small"], "nothing is left beside the masks")
+        for words in (["--masks"], ["--masks", ""], ["--masks", "--quads"], ["--masks", none, "--masks", small], ["--force"],
+                      ["--masks", "/dev/null"], ["--masks", "/dev/null/folder"]):
+            fails("a folder that is none", words)
+        hold(not os.path.exists(none), "nor has a wrong command")
 
 
 def many_quads():
@@ -236,7 +285,7 @@ def hold_all(tests):
 
 if __name__ == "__main__":
     import script_build
-    failures = hold_all((reports, gaps_and_membranes, options, refusals, bad_coordinates, without_end, what_goes_wrong, early_reader, symlinks, interrupts))
+    failures = hold_all((reports, gaps_and_membranes, options, masks, refusals, bad_coordinates, without_end, what_goes_wrong, early_reader, symlinks, interrupts))
     failures += hold_all(script_build.TESTS)
     print(f"tests/script: ./repair in {runs + script_build.runs()} runs, {failures} failures")
     sys.exit(1 if failures else 0)

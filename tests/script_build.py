@@ -102,16 +102,16 @@ def runs_again():
         status, out, said = r.run()
         hold(status == 0 and out.startswith("lampshade.bin: repaired"), "the first run builds and repairs")
         hold("repair: rules proved (1 s)\nrepair: repair proved (1 s)\n" in said, f"a line for each crate: {said!r}")
-        hold(r.run() == (0, out, "") and r.lines("asked") == ["check repair"], "the second run asks nothing of rt")
+        hold(r.run() == (0, out, "") and r.lines("asked") == ["check repair", "check layers"], "the second run asks nothing of rt")
         r.touch()
-        hold(r.run()[0] == 0 and len(r.lines("asked")) == 2, "a crate that changed is built anew")
+        hold(r.run()[0] == 0 and len(r.lines("asked")) == 4, "a crate that changed is built anew")
         r.touch()
         os.utime(r.source, (0, 0))
-        hold(r.run()[0] == 0 and len(r.lines("asked")) == 3, "so is one that came with an old date")
+        hold(r.run()[0] == 0 and len(r.lines("asked")) == 6, "so is one that came with an old date")
         os.remove(r.source)
-        hold(r.run()[0] == 0 and len(r.lines("asked")) == 4, "so is one that lost a file")
+        hold(r.run()[0] == 0 and len(r.lines("asked")) == 8, "so is one that lost a file")
         os.remove(r.folder + "/target/bin/repair")
-        hold(r.run()[0] == 0 and len(r.lines("asked")) == 5, "so is a program that is gone")
+        hold(r.run()[0] == 0 and len(r.lines("asked")) == 9, "so is a program that is gone")
 
 
 def build_fails():
@@ -157,7 +157,7 @@ def two_at_once():
             process.communicate(timeout=SOON)
         hold("another run is building here" in said, f"the second says why it waits: {said!r}")
         hold((one.returncode, two.returncode) == (0, 0), "both repair")
-        hold(r.lines("asked") == ["check repair"] and not r.lines("two-at-once"), "and does not build again")
+        hold(r.lines("asked") == ["check repair", "check layers"] and not r.lines("two-at-once"), "and does not build again")
 
 
 def nothing_installed():

@@ -10,10 +10,12 @@
 #define reference_read_job omphirun_read_job
 #define reference_write_job omphirun_write_job
 #define reference_accept omphirun_accept
+#define reference_masks omphirun_masks
 #define reference_mark_near omphirun_mark
 #define reference_mark_tree omphirun_mark_tree
 #define reference_add_marks second_add_marks
 #define reference_add_marks_tree second_add_marks_tree
+#define reference_judge_signs second_judge_signs
 #define reference_rim_cells second_rim_cells
 
 #include "reference.c"
@@ -24,3 +26,4 @@
 #include "reference_write_stl.c"
 #include "reference_tree.c"
 #include "reference_job.c"
+#include "reference_masks.c"

@@ -1,12 +1,12 @@
 -- The layers of points as characters. Assumes nothing.
 use mathlib.Core.Bool.{Bool, cond}
 use mathlib.Core.List.{List, [], _∷_, _++_}
-use Prim.Native.Nat.{ℕ, suc}
+use Prim.Native.Nat.{ℕ}
 use lib.Dec.{ltb}
 use Rattle.rules.specs.declared.Point.{Point}
 use Rattle.rules.specs.Lists.{each}
-use Rattle.rules.specs.Lattice.{points}
 use Rattle.text.specs.Text.{ascii}
+use Rattle.masks.specs.Layers.{layer, layers}
 
 -- `#` inside, `.` outside
 abbrev pub character : Bool → ℕ
@@ -20,6 +20,6 @@ lineEnd n p = cond (ltb (p .i) n) [] (cond (ltb (p .j) n) (ascii "\n") (ascii "\
 abbrev pub pointText : ℕ → (Point → Bool) → Point → List ℕ
 pointText n s p = (character (s p) ∷ []) ++ lineEnd n p
 
--- the points by rising number: row by row, layer by layer
+-- row by row, layer by layer, as the masks have them
 unfoldable pub picture : ℕ → (Point → Bool) → List ℕ
-picture n s = each (pointText n s) (points (suc n))
+picture n s = layers (layer (each (pointText n s)) n) n

@@ -13,3 +13,4 @@ pub mod Writing
 pub mod Jobs
 pub mod Accepting
 pub mod Partner
+pub mod Masking

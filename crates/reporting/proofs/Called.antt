@@ -1,4 +1,4 @@
--- What patch, sign and surface come to on a buffer that is known to be a grid of the level: only what the program can meet is left to judge.
+-- What patch, sign, surface and masks come to on a buffer that is known to be a grid of the level: only what the program can meet is left to judge.
 -- Assumes nothing.
 use mathlib.Core.Path.{_≡_, sym, ap, _∙_}
 use mathlib.Core.Bool.{true, false}
@@ -24,6 +24,8 @@ use Rattle.patching.specs.Call.{Outcome as Patching, counted, patchRows, patchD
 use Rattle.signing.specs.Call.{done, signRows, signCall}
 use Rattle.surfacing.specs.Fit.{signsFit}
 use Rattle.surfacing.specs.Call.{listed, surfaceRows, surfaceCall}
+use Rattle.masks.specs.Mask.{masks}
+use Rattle.masks.specs.Call.{done as pictured, masksRows, masksCall}
 use Rattle.signing.proofs.Only.{signs-grid, signs-marks}
 use Rattle.surfacing.proofs.Misfit.{signs-fit}
 use Rattle.feeding.specs.Feed.{Ready}
@@ -52,6 +54,13 @@ module _ (l : Level) (g : List ℕ) (long : pointsOf l ≤ length g) (grid : isG
       → surfaceCall (numberOf l) g q ≡ listed (cellsOf l) (marks (cellsOf l) g) (inside (cellsOf l) g) q
   unfolding surfaceRows surfaceCall listed
   surface-listed fit q = rw (level-is, good, le-ltb (length g) (pointsOf l) long, grid, fit)
+
+  -- ---- masks is done where its buffer has room for the pictures
+  pub masks-done : signsFit (cellsOf l) (marks (cellsOf l) g) (inside (cellsOf l) g) ≡ true → (o : List ℕ)
+      → length (masks (cellsOf l) (inside (cellsOf l) g)) ≤ length o → masksCall (numberOf l) g o ≡ pictured (masks (cellsOf l) (inside (cellsOf l) g)) o
+  unfolding masksRows masksCall
+  masks-done fit o room =
+      rw (level-is, good, le-ltb (length g) (pointsOf l) long, grid, fit, le-ltb (length o) (length (masks (cellsOf l) (inside (cellsOf l) g))) room)
 
 -- ---- what patch leaves: a grid with the patched marks, no face of which is odd
 module _ (n : ℕ) (g : List ℕ) where

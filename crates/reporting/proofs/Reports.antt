@@ -23,11 +23,13 @@ use Rattle.surfacing.specs.declared.SurfaceAnswer.the-variants.{Done, Refused}
 use Rattle.surfacing.specs.Call.{Outcome, told, refused, surfaceDone, listed, surfaceCall}
 use Rattle.surfacing.specs.Listing.{quadCount}
 use Rattle.text.specs.Listing.{refusedLine, facesLine, listing}
+use Rattle.masks.specs.Mask.{masks}
+use Rattle.masks.specs.Call.{done as pictured, masksCall}
 use Rattle.picture.specs.Picture.{picture}
-use Rattle.reporting.specs.Report.{lentBytes, lentList, unless, closed, surfaced, layered}
+use Rattle.reporting.specs.Report.{lentBytes, lentList, unless, closed, surfaced, layered, masked}
 use Rattle.reporting.specs.Close.{Closed}
 use Rattle.feeding.proofs.Marked.{known}
-use Rattle.reporting.proofs.Called.{surface-listed}
+use Rattle.reporting.proofs.Called.{surface-listed, masks-done}
 
 -- a number that is not 0 is printed
 pub unless-some : (k : ℕ) (next : List ℕ) → (k ≡ 0 → ⊥) → unless k next ≡ refusedLine k
@@ -57,6 +59,14 @@ module _ (l : Level) (g : List ℕ) {rims flips ones threes : ℕ} {h v : List �
   pub picture-is : picture n (inside n h) ++ facesLine ones threes ≡ closed (levelNumber l) g (layered (levelNumber l))
   unfolding layered
   picture-is = rw (closed-is (layered (levelNumber l)), known l .1)
+
+  -- the masks, which are what the call masks writes where it has room
+  pub masks-shown : masks n (inside n h) ≡ closed (levelNumber l) g (masked (levelNumber l))
+  unfolding masked
+  masks-shown = rw (closed-is (masked (levelNumber l)), known l .1)
+
+  pub masks-called : (o : List ℕ) → length (masks n (inside n h)) ≤ length o → masksCall (levelNumber l) h o ≡ pictured (closed (levelNumber l) g (masked (levelNumber l))) o
+  masks-called o room = masks-done l h (k .long) (k .grid) (k .fits) o room ∙ ap (λ (f : List ℕ). pictured f o) masks-shown
 
   module _ (t : ℕ) (list′ : List ℕ) where
     surface-is : (a : SurfaceAnswer) → told a list′ ≡ listed n (marks n h) (inside n h) lentList → told a list′ ≡ surfaceCall (levelNumber l) h lentList

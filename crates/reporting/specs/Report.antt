@@ -12,6 +12,7 @@ use Rattle.signing.specs.Call.{Outcome as Signing, signCall}
 use Rattle.surfacing.specs.Call.{Outcome as Surfacing, surfaceCall}
 use Rattle.text.specs.declared.listing.Repaired.{Repaired}
 use Rattle.text.specs.Listing.{refusedLine, facesLine, listing}
+use Rattle.masks.specs.Mask.{masks}
 use Rattle.picture.specs.Picture.{picture}
 
 -- what is lent: bytes for the points of any level, and a list of 32,768 numbers
@@ -55,3 +56,7 @@ surfaced level t p b =
 -- the layers of points, and behind them the number of faces with one mark and with three
 unfoldable pub layered : ℕ → Patching → Signing → List ℕ
 layered level p b = let n = cellsOf (levelAt level) in picture n (inside n (b .grid)) ++ facesLine (p .ones) (p .threes)
+
+-- the masks of the layers of points
+unfoldable pub masked : ℕ → Patching → Signing → List ℕ
+masked level p b = let n = cellsOf (levelAt level) in masks n (inside n (b .grid))

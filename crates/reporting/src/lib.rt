@@ -1,5 +1,6 @@
-// What is done with the marks once all triangles are in: patch and sign, then surface and the listing, or the layers of points.
+// What is done with the marks once all triangles are in: patch and sign, then surface and the listing, the layers of points, or their masks.
 use lattice::level::Level;
+use masks::put_masks;
 use patching::Counts;
 use patching::patch_grid;
 use picture::count_inside;
@@ -17,7 +18,7 @@ ghost use lib.ListN.{length};
 ghost use Rattle.lattice.specs.Levels.{numberOf, pointsOf};
 ghost use Rattle.text.specs.Text.{Put};
 ghost use Rattle.feeding.specs.Feed.{Ready};
-ghost use Rattle.reporting.specs.Report.{lentBytes, lentList, closed, surfaced, layered};
+ghost use Rattle.reporting.specs.Report.{lentBytes, lentList, closed, surfaced, layered, masked};
 ghost use Rattle.reporting.specs.Close.{Closed};
 
 // Patches a grid and gives its points their signs.
@@ -70,4 +71,13 @@ pub fn show(l: Level, grid: &mut [u8], work: &mut [u8], out: &mut [u8]) -> usize
     let counts = close_grid(l, grid, work);
     let next = put_picture(out, l.cells(), grid);
     put_faces(out, next, counts.ones, counts.threes)
+}
+
+// Closes a grid and puts the masks of its layers; answers their length.
+pub fn show_masks(l: Level, grid: &mut [u8], work: &mut [u8], out: &mut [u8]) -> usize
+    requires { ⌜ Ready l (now grid) × (now work ≡ lentBytes) × (5742 ≤ length (now out)) ⌝ }
+    ensures { λ r. ⌜ Put (now (out .entry)) 0 (closed (numberOf l) (now (grid .entry)) (masked (numberOf l))) (now (out .exit)) r × (r ≤ length (now (out .exit))) ⌝ }
+{
+    close_grid(l, grid, work);
+    put_masks(out, grid, l.cells() + 1)
 }

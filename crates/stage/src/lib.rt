@@ -4,6 +4,7 @@ use accepting::AcceptAnswer;
 use job_reading::ReadAnswer as ReadJobAnswer;
 use job_writing::WriteAnswer as WriteJobAnswer;
 use marking::MarkAnswer;
+use masks::MasksAnswer;
 use patching::PatchAnswer;
 use stl_reading::ReadAnswer;
 use stl_writing::WriteAnswer;
@@ -22,6 +23,7 @@ ghost use Rattle.stl_writing.specs.Call.{Outcome as WriteOutcome, writeCall};
 ghost use Rattle.job_reading.specs.Read.{Numbers as JobNumbers, numbersOf, readCall as readJobCall};
 ghost use Rattle.job_writing.specs.Write.{Outcome as WriteJobOutcome, writeCall as writeJobCall};
 ghost use Rattle.accepting.specs.Call.{Outcome as AcceptOutcome, acceptCall};
+ghost use Rattle.masks.specs.Call.{Outcome as MasksOutcome, masksCall};
 
 // Open (level, grid): the P bytes become 0.
 #[no_mangle]
@@ -290,5 +292,20 @@ pub extern "C" fn omphirun_accept(
         }
         AcceptAnswer::No => 0,
         AcceptAnswer::Refused(why) => why.number(),
+    }
+}
+
+// Masks (level, grid, bytes): writes a picture of each layer of points, one behind another, and returns the number of bytes.
+#[no_mangle]
+pub extern "C" fn omphirun_masks(level: u32, grid: &[u8], out: &mut [u8], size: &mut usize) -> u32
+    ensures { λ r. ⌜ _≡_ {A = MasksOutcome} (record { number = r; bytes = now (size .exit); out = now (out .exit) }) (masksCall level (now (grid .entry)) (now (out .entry))) ⌝ }
+{
+    *size = 0;
+    match masks::masks(level, grid, out) {
+        MasksAnswer::Done { bytes: written } => {
+            *size = written;
+            0
+        }
+        MasksAnswer::Refused(why) => why.number(),
     }
 }

@@ -5,14 +5,15 @@ use Prim.Native.Nat.{ℕ}
 use Rattle.marking.specs.Open.{openCall}
 use Rattle.text.specs.Listing.{refusedLine}
 use Rattle.feeding.specs.Taken.{mostTriangles, Taken, marked, refusedBy, taken}
-use Rattle.reporting.specs.Report.{lentBytes, unless, closed, surfaced, layered}
+use Rattle.reporting.specs.Report.{lentBytes, unless, closed, surfaced, layered, masked}
 use Rattle.streaming.specs.declared.Wanted.{Wanted}
-use Rattle.streaming.specs.declared.Wanted.the-variants.{Listing, Layers}
+use Rattle.streaming.specs.declared.Wanted.the-variants.{Listing, Layers, Masks}
 
--- the program prints the listing; its companion `layers` prints the layers of points
+-- the program prints the listing; its companions `layers` and `masking` print the layers of points and their masks
 abbrev pub shown : Wanted → ℕ → ℕ → List ℕ → List ℕ
 shown Listing level t g = closed level g (surfaced level t)
 shown Layers level t g = closed level g (layered level)
+shown Masks level t g = closed level g (masked level)
 
 abbrev pub printedTaken : Wanted → ℕ → Taken → List ℕ
 printedTaken w level (marked t g) = shown w level t g

@@ -8,6 +8,7 @@ use libc::STDOUT_FILENO;
 use octets::wide;
 use reporting::report;
 use reporting::show;
+use reporting::show_masks;
 use text::listing::put_refusal;
 ghost use mathlib.Core.Path.{_≡_};
 ghost use Prim.Native.Nat.{_≤_};
@@ -16,10 +17,11 @@ ghost use Rattle.lattice.specs.Levels.{numberOf};
 ghost use Rattle.feeding.specs.Feed.{Ready};
 ghost use Rattle.streaming.specs.Read.{Streamed, PrintedAt, Printed};
 
-// What is printed for a stream that is not refused: the listing of its surface, or its layers of points.
+// What is printed for a stream that is not refused: the listing of its surface, its layers of points, or their masks.
 pub enum Wanted {
     Listing,
     Layers,
+    Masks,
 }
 
 // The bytes that are read at once: 113 triangles.
@@ -88,6 +90,7 @@ fn repair_at(wanted: Wanted, level: u32, l: Level, out: &mut [u8]) -> usize
                     report(level, l, triangles, &mut grid, &mut work, &mut list, out)
                 }
                 Wanted::Layers => show(l, &mut grid, &mut work, out),
+                Wanted::Masks => show_masks(l, &mut grid, &mut work, out),
             }
         }
         Fed::Refused { number } => put_refusal(out, number),

@@ -53,14 +53,7 @@ pub(crate) fn put_field(out: &mut [u8], at: usize, text: &[u8], n: u32) -> usize
 }
 
 // Puts two texts, each with a number behind it, at a place, and answers the place behind all.
-pub(crate) fn put_fields(
-    out: &mut [u8],
-    at: usize,
-    text: &[u8],
-    n: u32,
-    second: &[u8],
-    m: u32,
-) -> usize
+pub fn put_fields(out: &mut [u8], at: usize, text: &[u8], n: u32, second: &[u8], m: u32) -> usize
     requires { ⌜ at + length (now text ++ decimal n ++ (now second ++ decimal m)) ≤ length (now out) ⌝ }
     ensures { λ r. ⌜ Put (now (out .entry)) at (now (text .entry) ++ decimal n ++ (now (second .entry) ++ decimal m)) (now (out .exit)) r ⌝ }
 {

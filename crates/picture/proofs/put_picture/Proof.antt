@@ -12,7 +12,7 @@ use Rattle.grids.proofs.Points.{pointsFrom, points-start, points-end, At, at-st
 use Rattle.text.specs.Text.{Put}
 use Rattle.picture.specs.Picture.{pointText, picture}
 use Rattle.text.proofs.Texts.{put-none}
-use Rattle.picture.proofs.Pictures.{picture-next}
+use Rattle.picture.proofs.Pictures.{picture-points, picture-next}
 use Rattle.picture.proofs.put_picture.Statement.{statement}
 use Rattle.picture.proofs.put_picture.Tie as tie
 
@@ -33,9 +33,10 @@ point-count-requires : tie.Need-point-count-requires Inv-loop μ-loop
 point-count-requires c κs = c .before .before .pre .0
 
 loop-holds : tie.Need-loop-holds Inv-loop μ-loop
-unfolding picture
 loop-holds c =
-    (c .point-count .ensures .0, omega arith, omega arith, refl, at-start _, λ x r h. rw (points-start (c .before .before .before .args .n)) at h)
+    let a = c .before .before .before .args in
+    let e = picture-points (a .n) (inside (a .n) (a .grid .now)) in
+    (c .point-count .ensures .0, omega arith, omega arith, refl, at-start _, λ x r h. rw e (rw (points-start (a .n)) at h))
 
 shared-slice-read-character-of : tie.Need-shared-slice-read-character-of Inv-loop μ-loop
 shared-slice-read-character-of c = omega (arith, c .before .before .loop .inv .0, c .before .loop-test .taken, c .before .before .before .before .before .before .pre .1)

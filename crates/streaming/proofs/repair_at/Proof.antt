@@ -1,7 +1,7 @@
 -- `repair_at` meets its contract. Assumes nothing.
 use mathlib.Core.Path.{_∙_}
 use native.Mathlib.Omega.{arith}
-use Rattle.streaming.specs.declared.Wanted.the-variants.{Listing, Layers}
+use Rattle.streaming.specs.declared.Wanted.the-variants.{Listing, Layers, Masks}
 use Rattle.reporting.proofs.Lent.{bytes-lent, list-lent}
 use Rattle.streaming.proofs.Opened.{lent-ready, printed-done, printed-refused}
 use borrow.Author.Needs.{needs}
@@ -54,6 +54,18 @@ slice-aggregate-show-2 c = search needs
 show-requires : tie.Need-show-requires
 show-requires c κs = (c .before .before .before .before .before .before .before .before .before .before .feed-all .ensures .ready, c .before .before .before .before .before .empty-grid2 .ensures ∙ bytes-lent, omega (arith, c .before .before .before .before .before .before .before .before .before .before .before .before .before .before .pre .1))
 
+enum-told-3 : tie.Need-enum-told-3
+enum-told-3 c = search needs
+
+slice-aggregate-show-masks : tie.Need-slice-aggregate-show-masks
+slice-aggregate-show-masks c = search needs
+
+slice-aggregate-show-masks-2 : tie.Need-slice-aggregate-show-masks-2
+slice-aggregate-show-masks-2 c = search needs
+
+show-masks-requires : tie.Need-show-masks-requires
+show-masks-requires c κs = (c .before .before .before .before .before .before .before .before .before .before .feed-all .ensures .ready, c .before .before .before .before .before .empty-grid2 .ensures ∙ bytes-lent, omega (arith, c .before .before .before .before .before .before .before .before .before .before .before .before .before .before .pre .1))
+
 enum-known-number : tie.Need-enum-known-number
 enum-known-number c = search needs
 
@@ -89,6 +101,16 @@ same-length-3 c = search needs
 
 returns-3 : tie.Need-returns-3
 returns-3 c =
+    let s = rw (c .before .before .before .before .before .before .before .before .before .before .before .before .triangles .given .1, c .before .before .before .before .before .before .before .before .before .before .before .before .before .before .before .before .before .empty-grid .ensures ∙ bytes-lent) at (c .before .before .before .before .before .before .before .before .before .before .before .before .before .before .before .feed-all .ensures) in
+    let p = c .before .before .before .before .show-masks .ensures in
+    rw (c .before .before .before .before .before .before .before .before .enum-told3 .given .1)
+    (record { bytes = s .bytes; fits = p .1; text = p .0 .holds ∙ printed-done Masks (c .before .before .before .before .before .before .before .before .before .before .before .before .before .before .before .before .before .before .before .args .l) _ (c .before .before .before .before .before .before .before .before .before .before .before .before .triangles .given .0 .0) s })
+
+same-length-4 : tie.Need-same-length-4
+same-length-4 c = search needs
+
+returns-4 : tie.Need-returns-4
+returns-4 c =
     let s = rw (c .before .before .before .before .before .number .given .1, c .before .before .before .before .before .before .before .before .before .before .empty-grid .ensures ∙ bytes-lent) at (c .before .before .before .before .before .before .before .before .feed-all .ensures) in
     let p = c .before .before .put-refusal .ensures in
     record {
@@ -116,6 +138,10 @@ repair-at-spec =
     slice-aggregate-show
     slice-aggregate-show-2
     show-requires
+    enum-told-3
+    slice-aggregate-show-masks
+    slice-aggregate-show-masks-2
+    show-masks-requires
     enum-known-number
     put-refusal-requires
     same-length
@@ -123,4 +149,6 @@ repair-at-spec =
     same-length-2
     returns-2
     same-length-3
-    returns-3)
+    returns-3
+    same-length-4
+    returns-4)

@@ -1,0 +1,147 @@
+-- `masks` gives the first row that applies, and writes the pictures where none does. Assumes nothing.
+use mathlib.Core.Path.{_≡_, sym, ap, ap₂, subst, _∙_}
+use mathlib.Core.Bool.{true, false}
+use mathlib.Core.List.{List}
+use Prim.Native.Nat.{ℕ, suc, _+_, _*_, _≤_, _<_}
+use native.Mathlib.Nat.{mul-le-mul}
+use native.Mathlib.Numerals.{add-one}
+use native.Mathlib.Omega.{arith}
+use borrow.Author.Needs.{needs}
+use borrow.Author.Tests.{lt-ltb, le-ltb}
+use lib.ListN.{length}
+use Rattle.rules.specs.Lists.{each, upto}
+use Rattle.rules.specs.Grid.{marks, inside, isGrid}
+use Rattle.lattice.specs.declared.level.Level.{Level}
+use Rattle.lattice.specs.Levels.{cellsOf, pointsOf}
+use Rattle.lattice.proofs.LevelFacts.{cells-most}
+use Rattle.lattice.proofs.Tests.{fails, holds}
+use Rattle.refusals.proofs.Levels.{read-unknown, read-known}
+use Rattle.text.specs.Text.{Put}
+use Rattle.masks.specs.Mask.{masks, maskAt, maskSize}
+use Rattle.masks.specs.Call.{Outcome, refused, done, masksRows, masksCall}
+use Rattle.masks.proofs.Parted.{put-front}
+use Rattle.masks.proofs.Shown.{masks-are, masks-length}
+use Rattle.masks.proofs.masks.Statement.{statement}
+use Rattle.masks.proofs.masks.Tie as tie
+
+module _ (l : Level) (g : List ℕ) where
+  -- the pictures' length, as the code has it
+  room : (w size : ℕ) → w ≡ cellsOf l + 1 → size ≡ maskSize w → length (masks (cellsOf l) (inside (cellsOf l) g)) ≡ w * size
+  room w size e f = masks-length (cellsOf l) g ∙ rw (f, e, add-one (cellsOf l))
+
+  whole : (w r : ℕ) (o a : List ℕ) → w ≡ cellsOf l + 1 → Put o 0 (each (λ k. maskAt g (w * w * k) w) (upto 0 w)) a r
+      → _≡_ {A = Outcome} (record { number = 0; bytes = r; out = a }) (done (masks (cellsOf l) (inside (cellsOf l) g)) o)
+  whole w r o a e p =
+      let q = put-front (rw (e, add-one (cellsOf l), ← masks-are (cellsOf l) g) at p) in
+      ap₂ (λ (k : ℕ) (x : List ℕ). record { number = 0; bytes = k; out = x }) (q .0) (q .1)
+
+read-requires : tie.Need-read-requires
+read-requires c κs = search needs
+
+enum-known-l : tie.Need-enum-known-l
+enum-known-l c = search needs
+
+enum-told : tie.Need-enum-told
+enum-told c = search needs
+
+returns : tie.Need-returns
+unfolding masksRows masksCall
+returns c = rw (read-unknown _ (sym (c .before .before .read .ensures) ∙ c .enum-told .given .1))
+
+cells-requires : tie.Need-cells-requires
+cells-requires c κs = search needs
+
+points-requires : tie.Need-points-requires
+points-requires c κs = search needs
+
+returns-2 : tie.Need-returns-2
+unfolding masksRows masksCall
+returns-2 c =
+    let level = read-known _ _ (sym (c .before .before .before .before .before .before .read .ensures) ∙ c .before .before .before .before .l .given .1) in
+    simp (level .0, level .1, lt-ltb _ _ (rw (c .before .points .ensures) at (c .if1 .taken)))
+
+is-grid-requires : tie.Need-is-grid-requires
+is-grid-requires c κs = rw (c .before .before .cells .ensures) (cells-most (c .before .before .before .before .l .given .0 .0), rw (c .before .points .ensures) at (c .if1 .left))
+
+returns-3 : tie.Need-returns-3
+unfolding masksRows masksCall
+returns-3 c =
+    let level = read-known _ _ (sym (c .before .before .before .before .before .before .before .before .read .ensures) ∙ c .before .before .before .before .before .before .l .given .1) in
+    let none = fails (rw (c .before .before .before .before .cells .ensures) at (c .before .is-grid .ensures)) (c .if2 .taken) in
+    simp (level .0, level .1, le-ltb _ _ (rw (c .before .before .before .points .ensures) at (c .before .before .if1 .left)), none)
+
+signs-fit-requires : tie.Need-signs-fit-requires
+signs-fit-requires c κs =
+    let grid = holds (rw (c .before .before .before .before .cells .ensures) at (c .before .is-grid .ensures)) (c .if2 .left) in
+    rw (c .before .before .before .before .cells .ensures) (cells-most (c .before .before .before .before .before .before .l .given .0 .0), rw (c .before .before .before .points .ensures) at (c .before .before .if1 .left), grid)
+
+returns-4 : tie.Need-returns-4
+unfolding masksRows masksCall
+returns-4 c =
+    let level = read-known _ _ (sym (c .before .before .before .before .before .before .before .before .before .before .read .ensures) ∙ c .before .before .before .before .before .before .before .before .l .given .1) in
+    let grid = holds (rw (c .before .before .before .before .before .before .cells .ensures) at (c .before .before .before .is-grid .ensures)) (c .before .before .if2 .left) in
+    let out = fails (rw (c .before .before .before .before .before .before .cells .ensures) at (c .before .signs-fit .ensures)) (c .if3 .taken) in
+    simp (level .0, level .1, le-ltb _ _ (rw (c .before .before .before .before .before .points .ensures) at (c .before .before .before .before .if1 .left)), grid, out)
+
+add-w : tie.Need-add-w
+add-w c = search needs
+
+mask-size-requires : tie.Need-mask-size-requires
+mask-size-requires c κs = omega (arith, c .before .before .before .before .before .before .cells .ensures, cells-most (c .before .before .before .before .before .before .before .before .l .given .0 .0))
+
+mul-if4 : tie.Need-mul-if4
+mul-if4 c =
+    let a : c .before .before .before .before .before .before .before .cells .result + 1 ≤ 33 = omega (arith, c .before .before .before .before .before .before .before .cells .ensures, cells-most (c .before .before .before .before .before .before .before .before .before .l .given .0 .0)) in
+    omega (arith, mul-le-mul a (c .mask-size .ensures .1))
+
+returns-5 : tie.Need-returns-5
+unfolding masksRows masksCall
+returns-5 c =
+    let level = read-known _ _ (sym (c .before .before .before .before .before .before .before .before .before .before .before .before .read .ensures) ∙ c .before .before .before .before .before .before .before .before .before .before .l .given .1) in
+    let grid = holds (rw (c .before .before .before .before .before .before .before .before .cells .ensures) at (c .before .before .before .before .before .is-grid .ensures)) (c .before .before .before .before .if2 .left) in
+    let fit = holds (rw (c .before .before .before .before .before .before .before .before .cells .ensures) at (c .before .before .before .signs-fit .ensures)) (c .before .before .if3 .left) in
+    let size = room (c .before .before .before .before .before .before .before .before .before .before .l .given .0 .0) (c .before .before .before .before .before .before .before .before .before .before .before .before .before .before .before .args .grid .now) _ _ (ap (λ (n : ℕ). n + 1) (c .before .before .before .before .before .before .before .before .cells .ensures)) (c .before .mask-size .ensures .0) in
+    simp (level .0, level .1, le-ltb _ _ (rw (c .before .before .before .before .before .before .before .points .ensures) at (c .before .before .before .before .before .before .if1 .left)), grid, fit, lt-ltb _ _ (rw (← size) at (c .if4 .taken)))
+
+put-masks-requires : tie.Need-put-masks-requires
+put-masks-requires c κs =
+    let w : c .before .before .before .before .before .before .before .before .before .cells .result + 1 ≡ suc (cellsOf (c .before .before .before .before .before .before .before .before .before .before .before .l .given .0 .0)) = rw (c .before .before .before .before .before .before .before .before .before .cells .ensures, add-one (cellsOf (c .before .before .before .before .before .before .before .before .before .before .before .l .given .0 .0))) in
+    let room : (c .before .before .before .before .before .before .before .before .before .cells .result + 1) * maskSize (c .before .before .before .before .before .before .before .before .before .cells .result + 1) ≤ length (c .before .before .before .before .before .before .before .before .before .before .before .before .before .before .before .before .args .out .now) = rw (← c .before .before .mask-size .ensures .0) (c .before .if4 .left) in
+    (omega (arith, c .before .before .before .before .before .before .before .before .before .cells .ensures, cells-most (c .before .before .before .before .before .before .before .before .before .before .before .l .given .0 .0)), rw w (rw (c .before .before .before .before .before .before .before .before .points .ensures) at (c .before .before .before .before .before .before .before .if1 .left)), room)
+
+same-length : tie.Need-same-length
+same-length c = search needs
+
+returns-6 : tie.Need-returns-6
+unfolding masksRows masksCall
+returns-6 c =
+    let level = read-known _ _ (sym (c .before .before .before .before .before .before .before .before .before .before .before .before .before .before .before .before .read .ensures) ∙ c .before .before .before .before .before .before .before .before .before .before .before .before .before .before .l .given .1) in
+    let grid = holds (rw (c .before .before .before .before .before .before .before .before .before .before .before .before .cells .ensures) at (c .before .before .before .before .before .before .before .before .before .is-grid .ensures)) (c .before .before .before .before .before .before .before .before .if2 .left) in
+    let fit = holds (rw (c .before .before .before .before .before .before .before .before .before .before .before .before .cells .ensures) at (c .before .before .before .before .before .before .before .signs-fit .ensures)) (c .before .before .before .before .before .before .if3 .left) in
+    let w = ap (λ (n : ℕ). n + 1) (c .before .before .before .before .before .before .before .before .before .before .before .before .cells .ensures) in
+    let size = room (c .before .before .before .before .before .before .before .before .before .before .before .before .before .before .l .given .0 .0) (c .before .before .before .before .before .before .before .before .before .before .before .before .before .before .before .before .before .before .before .args .grid .now) _ _ w (c .before .before .before .before .before .mask-size .ensures .0) in
+    simp (level .0, level .1, le-ltb _ _ (rw (c .before .before .before .before .before .before .before .before .before .before .before .points .ensures) at (c .before .before .before .before .before .before .before .before .before .before .if1 .left)), grid, fit, le-ltb _ _ (rw (← size) at (c .before .before .before .before .if4 .left)))
+    (whole (c .before .before .before .before .before .before .before .before .before .before .before .before .before .before .l .given .0 .0) (c .before .before .before .before .before .before .before .before .before .before .before .before .before .before .before .before .before .before .before .args .grid .now) _ _ _ _ w (c .before .before .put-masks .ensures))
+
+pub masks-spec : {M : Type 1} → statement M
+masks-spec =
+    tie.close
+    (tie.spec
+    read-requires
+    enum-known-l
+    enum-told
+    returns
+    cells-requires
+    points-requires
+    returns-2
+    is-grid-requires
+    returns-3
+    signs-fit-requires
+    returns-4
+    add-w
+    mask-size-requires
+    mul-if4
+    returns-5
+    put-masks-requires
+    same-length
+    returns-6)

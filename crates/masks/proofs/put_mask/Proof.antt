@@ -1,0 +1,59 @@
+-- `put_mask` meets its contract: the header, and the rows behind it. Assumes nothing.
+use mathlib.Core.Path.{_≡_, ap, _∙_}
+use Prim.Native.Nat.{_+_, _*_, _≤_}
+use native.Mathlib.Omega.{arith}
+use borrow.Author.Needs.{needs}
+use lib.ListN.{length}
+use Rattle.text.specs.Text.{ascii, decimal}
+use Rattle.text.proofs.Texts.{put-both, fields-length}
+use Rattle.masks.specs.Mask.{rowBytes, maskAt}
+use Rattle.masks.proofs.put_mask.Statement.{statement}
+use Rattle.masks.proofs.put_mask.Tie as tie
+
+cast-width : tie.Need-cast-width
+cast-width c = search needs
+
+slice-aggregate-put-fields : tie.Need-slice-aggregate-put-fields
+slice-aggregate-put-fields c = search needs
+
+slice-aggregate-put-fields-2 : tie.Need-slice-aggregate-put-fields-2
+slice-aggregate-put-fields-2 c = search needs
+
+put-fields-requires : tie.Need-put-fields-requires
+put-fields-requires c κs =
+    let w = c .before .before .before .before .before .args .w in
+    omega (arith, c .before .before .before .before .before .pre .2, fields-length (ascii "P4\n") w (ascii " ") w)
+
+slice-aggregate-put-text : tie.Need-slice-aggregate-put-text
+slice-aggregate-put-text c = search needs
+
+put-text-requires : tie.Need-put-text-requires
+put-text-requires c κs =
+    let w = c .before .before .before .before .before .before .before .before .before .before .args .w in
+    omega (arith, c .before .before .before .before .before .before .before .before .before .before .pre .2, fields-length (ascii "P4\n") w (ascii " ") w, c .before .before .before .before .put-fields .ensures .place, c .before .before .before .before .put-fields .kept .0)
+
+put-rows-requires : tie.Need-put-rows-requires
+put-rows-requires c κs =
+    let w = c .before .before .before .before .before .before .before .before .before .before .before .before .before .before .args .w in
+    (c .before .before .before .before .before .before .before .before .before .before .before .before .before .before .pre .0, c .before .before .before .before .before .before .before .before .before .before .before .before .before .before .pre .1, omega (arith, c .before .before .before .before .before .before .before .before .before .before .before .before .before .before .pre .2, fields-length (ascii "P4\n") w (ascii " ") w, c .before .before .before .before .before .before .before .before .put-fields .ensures .place, c .before .before .before .before .before .before .before .before .put-fields .kept .0, c .before .before .before .put-text .ensures .place, c .before .before .before .put-text .kept .0))
+
+same-length : tie.Need-same-length
+same-length c = search needs
+
+returns : tie.Need-returns
+unfolding maskAt
+returns c = put-both (put-both (c .before .before .before .before .before .before .before .before .before .before .before .put-fields .ensures) (c .before .before .before .before .before .before .put-text .ensures)) (c .before .before .put-rows .ensures)
+
+pub put-mask-spec : {M : Type 1} → statement M
+put-mask-spec =
+    tie.close
+    (tie.spec
+    cast-width
+    slice-aggregate-put-fields
+    slice-aggregate-put-fields-2
+    put-fields-requires
+    slice-aggregate-put-text
+    put-text-requires
+    put-rows-requires
+    same-length
+    returns)

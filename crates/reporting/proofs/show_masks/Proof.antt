@@ -1,0 +1,64 @@
+-- `show_masks` meets its contract. Assumes nothing.
+use mathlib.Core.Path.{_≡_, sym}
+use Prim.Native.Nat.{suc, _+_, _≤_}
+use native.Mathlib.Numerals.{add-one}
+use native.Mathlib.Omega.{arith}
+use lib.ListN.{length}
+use borrow.Author.Needs.{needs}
+use Rattle.lattice.specs.Levels.{cellsOf, pointsOf}
+use Rattle.lattice.proofs.LevelFacts.{cells-most}
+use Rattle.masks.proofs.Sizes.{pictures-most}
+use Rattle.masks.proofs.Shown.{masks-are, masks-length}
+use Rattle.reporting.proofs.Lent.{bytes-long}
+use Rattle.reporting.proofs.Reports.{masks-shown}
+use Rattle.reporting.proofs.show_masks.Statement.{statement}
+use Rattle.reporting.proofs.show_masks.Tie as tie
+
+close-grid-requires : tie.Need-close-grid-requires
+close-grid-requires c κs = let s = c .before .before .before .before .before in (s .pre .0, rw (s .pre .1) (bytes-long (s .args .l)))
+
+cells-requires : tie.Need-cells-requires
+cells-requires c κs = search needs
+
+add-put-masks : tie.Need-add-put-masks
+add-put-masks c = let s = c .before .before .before .before .before .before .before .before .before .before .before .before .before in omega (arith, c .cells .ensures, cells-most (s .args .l))
+
+put-masks-requires : tie.Need-put-masks-requires
+put-masks-requires c κs =
+    let s = c .before .before .before .before .before .before .before .before .before .before .before .before .before in
+    let n = cellsOf (s .args .l) in
+    let small : suc n ≤ 33 = omega (arith, cells-most (s .args .l)) in
+    rw (c .cells .ensures, add-one n) (small, c .before .before .before .before .before .before .before .close-grid .ensures .long, omega (arith, pictures-most (suc n) small, s .pre .2))
+
+same-length : tie.Need-same-length
+same-length c = search needs
+
+same-length-2 : tie.Need-same-length-2
+same-length-2 c = search needs
+
+same-length-3 : tie.Need-same-length-3
+same-length-3 c = search needs
+
+returns : tie.Need-returns
+returns c =
+    let s = c .before .before .before .before .before .before .before .before .before .before .before .before .before .before .before .before in
+    let n = cellsOf (s .args .l) in
+    let h = c .before .before .before .before .before .before .before .before .before .before .close-grid .last .1 .0 in
+    let small : suc n ≤ 33 = omega (arith, cells-most (s .args .l)) in
+    let p = rw (c .before .before .before .cells .ensures, add-one n, ← masks-are n h) at (c .before .before .put-masks .ensures) in (
+      rw (sym (masks-shown (s .args .l) _ (rw (s .pre .1) at (c .before .before .before .before .before .before .before .before .before .before .close-grid .ensures)))) p,
+      omega (arith, p .place, masks-length n h, pictures-most (suc n) small, s .pre .2, c .before .before .put-masks .kept .0),
+    )
+
+pub show-masks-spec : {M : Type 1} → statement M
+show-masks-spec =
+    tie.close
+    (tie.spec
+    close-grid-requires
+    cells-requires
+    add-put-masks
+    put-masks-requires
+    same-length
+    same-length-2
+    same-length-3
+    returns)
