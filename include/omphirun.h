@@ -137,12 +137,12 @@ enum omphirun_number {
    Refusals: 1, 2. */
 uint32_t omphirun_open(uint32_t level, uint8_t *grid, size_t grid_len);
 
-/* Mark. The triangle is nine model coordinates, Ax Ay Az Bx By Bz Cx Cy Cz. The marks of all edges that it meets are added and
-   none is removed; all signs are cleared, also where no mark is added. An edge is met when none of thirteen axes separates it from the triangle; touching is
-   meeting. A triangle square to an axis adds marks only to edges along that axis that go through its plane, in one layer of cells, so
-   that a flat face does not thicken; one that is sloped can go through a grid point, and then meets all six edges there. Triangles of no
-   area are allowed. The order of triangles makes no difference, nor does marking one twice. Each call looks at all P bytes first, since
-   it takes any buffer and 5 has to be told: for a small triangle that is most of its time.
+/* Mark. The triangle is nine model coordinates, Ax Ay Az Bx By Bz Cx Cy Cz. The marks of all edges that it meets are added and none
+   is removed; all signs are cleared, also where no mark is added. An edge is met when none of thirteen axes separates it from the
+   triangle; touching is meeting. A triangle square to an axis adds marks only to edges along that axis that go through its plane, in
+   one layer of cells, so that a flat face does not thicken; one that is sloped can go through a grid point, and then meets all six
+   edges there. Triangles of no area are allowed. The order of triangles makes no difference, nor does marking one twice. Each call
+   looks at all P bytes first, since it takes any buffer and 5 has to be told: for a small triangle that is most of its time.
    When it is refused by 4 or 24, *place is the place of the first coordinate that is out, 0 to 8 in the order of the nine, and *axis its
    axis, 0 to 2; both are 0 in every other case.
    Refusals, in this order: 1, 2, 3, 4 or 24, 5. */
@@ -152,18 +152,18 @@ uint32_t omphirun_mark(uint32_t level, uint8_t *grid, size_t grid_len, const int
 /* Mark by a descent: the whole grid is one cube; a cube that an axis separates from the triangle is dropped, any other is divided into
    eight, down to single cells. Its promise is mark's own, word for word: nobody can tell the two apart, refusals, place and axis included,
    but by the time they take. Mark goes through all cells of the triangle's box, and is faster where that has up to some 2,000 cells; this
-   call goes through those near the triangle, and is faster where it has more: for a triangle or a needle through the whole grid of level 5,
-   several times.
+   call goes through those near the triangle, and is faster where it has more: a triangle and a needle through the whole grid of level 5
+   took it 0.55 and 0.26 of mark's time, both under an emulator (docs/landings/M-103.md).
    Refusals, in this order: 1, 2, 3, 4 or 24, 5. */
 uint32_t omphirun_mark_tree(uint32_t level, uint8_t *grid, size_t grid_len, const int32_t *triangle, size_t triangle_len, uint32_t *place,
                             uint32_t *axis);
 
-/* Patch. Marks are added and taken away until every face of every cell has an even number of marked edges, and all signs are cleared. The first P work bytes
-   are 0 afterwards, whatever they held. *rims is the number of rims, which are the faces with an odd number of marks, taken
-   together where they touch by a cell; *flips is the number of edges whose mark differs between entry and exit. No edge is altered
-   unless all four cells around it lie in the box of one rim. *ones and *threes are the numbers of faces with one marked edge and with
-   three, as the grid came in: where the marked surface ends, because the model lacks faces, and where three sheets of it meet, because
-   it has extra walls. Together they are the odd faces, and both are 0 exactly when *rims is.
+/* Patch. Marks are added and taken away until every face of every cell has an even number of marked edges, and all signs are cleared.
+   The first P work bytes are 0 afterwards, whatever they held. *rims is the number of rims, which are the faces with an odd number of
+   marks, taken together where they touch by a cell; *flips is the number of edges whose mark differs between entry and exit. No edge
+   is altered unless all four cells around it lie in the box of one rim. *ones and *threes are the numbers of faces with one marked
+   edge and with three, as the grid came in: where the marked surface ends, because the model lacks faces, and where three sheets of
+   it meet, because it has extra walls. Together they are the odd faces, and both are 0 exactly when *rims is.
    Refusals: 1, 2, 5, with all four counts 0. */
 uint32_t omphirun_patch(uint32_t level, uint8_t *grid, size_t grid_len, uint8_t *work, size_t work_len, uint32_t *rims,
                         uint32_t *flips, uint32_t *ones, uint32_t *threes);
@@ -174,17 +174,18 @@ uint32_t omphirun_patch(uint32_t level, uint8_t *grid, size_t grid_len, uint8_t 
    Refusals: 1, 2, 5, 6. */
 uint32_t omphirun_sign(uint32_t level, uint8_t *grid, size_t grid_len);
 
-/* Surface, of a grid that sign has signed. For each marked edge, by rising point number, x before y before z, one quad: the numbers of the four cells around the
-   edge, counterclockwise as seen from outside. *quads is their number, which is that of the marked edges; the first 4 * *quads
-   entries of the list are written, and those behind keep their contents.
+/* Surface, of a grid that sign has signed. For each marked edge, by rising point number, x before y before z, one quad: the numbers
+   of the four cells around the edge, counterclockwise as seen from outside. *quads is their number, which is that of the marked
+   edges; the first 4 * *quads entries of the list are written, and those behind keep their contents.
    Refusals: 1, 2, 5, 7, 8, with *quads 0. */
 uint32_t omphirun_surface(uint32_t level, const uint8_t *grid, size_t grid_len, uint16_t *list, size_t list_len, uint32_t *quads);
 
-/* Read a binary STL file: 80 header bytes, a little-endian u32 count, then 50 bytes a triangle (normal, three vertices, all f32, and a
-   u16). Each coordinate times 2^e is rounded to the nearest whole number, halves away from zero; normals and the u16 are not looked at.
-   The triangles go to the front of the list, nine numbers each in file order, and those behind keep their contents; *triangles is their
-   number. They are model coordinates as mark takes them; whether a triangle lies in a level's range is for mark to say. One pass over the vertices: at the first faulty one it is 12 when
-   any of its numbers is not finite, with the axis of the first such number in *axis, 0 to 2, and 13 otherwise; 2^30 itself is no fault.
+/* Read a binary STL file: 80 header bytes, a little-endian u32 count, then 50 bytes a triangle (normal, three vertices, all f32, and
+   a u16). Each coordinate times 2^e is rounded to the nearest whole number, halves away from zero; normals and the u16 are not looked
+   at. The triangles go to the front of the list, nine numbers each in file order, and those behind keep their contents; *triangles is
+   their number. They are model coordinates as mark takes them; whether a triangle lies in a level's range is for mark to say. One
+   pass over the vertices: at the first faulty one it is 12 when any of its numbers is not finite, with the axis of the first such
+   number in *axis, 0 to 2, and 13 otherwise; 2^30 itself is no fault.
    Refusals, in this order: 14, 11, 10, 8, then 12 or 13, with *triangles 0; *axis is 0 but with 12. */
 uint32_t omphirun_read_stl(const uint8_t *file, size_t file_len, int32_t e, int32_t *list, size_t list_len, uint32_t *triangles,
                            uint32_t *axis);
@@ -218,21 +219,22 @@ uint32_t omphirun_write_job(uint32_t level, uint32_t kinds, const uint8_t *grid,
                             size_t triangles_len, const uint8_t *quads, size_t quads_len, uint8_t *file, size_t file_len,
                             size_t *bytes);
 
-/* Accept: check a surface that came from elsewhere, four cell numbers a quad. *yes is 1 exactly when some grid of signs with nothing inside on its outer
-   points has this surface, the order of quads and the starting corner of each set aside, else 0. There is at most one such grid; on a yes its marks
-   and signs are the first P bytes of the grid, as after sign, and on a no the grid is as it was. What the grid held does not matter. An empty list
-   is accepted as all outside; a cell number outside the grid, a quad twice or the wrong way round, one too few or one too many is a no. What surface
-   writes is accepted and gives the grid that it was written from; what is accepted, written by surface again, is the same set of quads. The first P work
-   bytes are 0 after a yes and after a no, whatever they held. One pass over the list, and a fixed number of passes over the P bytes.
+/* Accept: check a surface that came from elsewhere, four cell numbers a quad. *yes is 1 exactly when some grid of signs with nothing
+   inside on its outer points has this surface, the order of quads and the starting corner of each set aside, else 0. There is at most
+   one such grid; on a yes its marks and signs are the first P bytes of the grid, as after sign, and on a no the grid is as it was.
+   What the grid held does not matter. An empty list is accepted as all outside; a cell number outside the grid, a quad twice or the
+   wrong way round, one too few or one too many is a no. What surface writes is accepted and gives the grid that it was written from;
+   what is accepted, written by surface again, is the same set of quads. The first P work bytes are 0 after a yes and after a no,
+   whatever they held. One pass over the list, and a fixed number of passes over the P bytes.
    Refusals, in this order: 1, 2, 17, with *yes 0; never 5. */
 uint32_t omphirun_accept(uint32_t level, const uint16_t *list, size_t list_len, uint8_t *grid, size_t grid_len, uint8_t *work, size_t work_len,
                          uint32_t *yes);
 
-/* Masks for a resin screen: a binary PBM picture (Netpbm, P4) of each layer of points, k rising, one behind another. Each has its header, `P4`,
-   newline, width, one space, height, newline, and then n+1 rows of n+1 columns, x rising to the right and y rising downward; a point inside is
-   1. A row is padded with zeros to whole bytes, its first point in the highest bit. Grid and signs are those that surface takes. *bytes is the
-   number of bytes written, OMPHIRUN_MASKS(level), and those behind keep their contents. It looks at each point once besides the tests that
-   surface makes too.
+/* Masks for a resin screen: a binary PBM picture (Netpbm, P4) of each layer of points, k rising, one behind another. Each has its
+   header, `P4`, newline, width, one space, height, newline, and then n+1 rows of n+1 columns, x rising to the right and y rising
+   downward; a point inside is 1. A row is padded with zeros to whole bytes, its first point in the highest bit. Grid and signs are
+   those that surface takes. *bytes is the number of bytes written, OMPHIRUN_MASKS(level), and those behind keep their contents. It
+   looks at each point once besides the tests that surface makes too.
    Refusals, in this order: 1, 2, 5, 7, 8, with *bytes 0. */
 uint32_t omphirun_masks(uint32_t level, const uint8_t *grid, size_t grid_len, uint8_t *out, size_t out_len, size_t *bytes);
 
