@@ -2,10 +2,10 @@
 // product; then the other axes, N first, are tried in turn until no edge is left. An axis is built when it is first reached, and
 // kept for the rest of the triangle. One dot product serves the three edges, since their upper ends' differ from it by a
 // coordinate of the axis. What is left is a byte as in the grid: 1 for the x edge, 2 for y, 4 for z.
+use cells::corner_edge;
 use lattice::byte::bit;
 use lattice::byte::low;
 use lattice::byte::turn;
-use lattice::cell::corner_edge;
 use lattice::level::Level;
 use lattice::number_of;
 use meeting::signed;

@@ -1,6 +1,6 @@
 // The face test: how many of a face's four edges are marked, 0 to 4. Rims, patch and sign learn of faces by it alone.
+use cells::edge_rule;
 use lattice::byte::mark_bit;
-use lattice::cell::edge_rule;
 use lattice::number_of;
 use rules::Axis;
 use rules::Place;

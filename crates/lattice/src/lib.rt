@@ -1,10 +1,8 @@
 // A point's number and its neighbours, and the small tools of every scan.
 pub mod byte;
-pub mod cell;
 pub mod level;
 
 use crate::byte::bit;
-use crate::cell::upper_face;
 use rules::Axis;
 use rules::Place;
 use rules::Point;
@@ -14,7 +12,7 @@ ghost use mathlib.Core.List.{_++_};
 ghost use lib.ListN.{length, getD, drop, replicate};
 ghost use Rattle.rules.specs.Lattice.{coord, earlier, later, up, pointNumber, pointCount, OfGrid};
 ghost use Rattle.rules.specs.Grid.{has};
-ghost use Rattle.lattice.specs.Cells.{indexOf, pointStep};
+ghost use Rattle.lattice.specs.Cells.{indexOf};
 
 // The number of a point.
 pub fn number_of(n: usize, p: Point) -> usize
@@ -53,14 +51,6 @@ pub fn up(p: Point, a: Axis) -> Point
         }
     }
     q
-}
-
-// By how much a point's number rises with one step along an axis.
-pub fn step(n: usize, a: Axis) -> usize
-    requires { ⌜ (1 ≤ n) × (n ≤ 32) ⌝ }
-    ensures { λ r. ⌜ r ≡ pointStep n a ⌝ }
-{
-    number_of(n, upper_face(a).at)
 }
 
 pub fn earlier(a: Axis) -> Axis

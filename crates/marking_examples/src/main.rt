@@ -141,6 +141,10 @@ fn show_examples() {
     show_both(b"example 8 after 9", &nine, &eight);
     show_both(b"example 9 after 8", &eight, &nine);
     show_both(b"example 8 twice", &eight, &eight);
+}
+
+// One of the nine numbers at an end of the range, beyond it, and at the ends of i32.
+fn show_ends() {
     show_nine(b"131072", 131_072);
     show_nine(b"131071", 131_071);
     show_nine(b"393215", 393_215);
@@ -245,39 +249,57 @@ fn show_plane() {
     );
 }
 
-fn show_refusals() {
-    let nine = [262_144; 9];
+fn show_lengths() {
     show(b"no number", &[0; 0]);
     show(b"eight numbers", &[262_144; 8]);
     show(b"ten numbers", &[262_144; 10]);
     show(b"eight numbers, all 0", &[0; 8]);
+}
+
+fn show_levels() {
+    let nine = [262_144; 9];
     show_put(b"level 0", 0, 0, 0, &nine);
     show_put(b"level 1", 1, 0, 0, &nine);
     show_put(b"level 6, eight numbers", 6, 0, 0, &[262_144; 8]);
     show_put(b"level 3, short, eight numbers", 3, 0, 0, &[262_144; 8]);
+}
+
+fn show_bytes() {
+    let nine = [262_144; 9];
     show_put(b"a mark on the outside", 2, 0, 1, &nine);
     show_put(b"a mark beyond the grid", 2, 64, 1, &nine);
     show_put(b"a byte of 16 behind the grid", 2, 125, 16, &nine);
     show_put(b"a mark that is there", 2, 31, 1, &nine);
+}
+
+fn show_no_bytes() {
     let mut none = [0u8; 0];
     say_count(
         b"mark, level 1, no bytes: ",
-        mark(1, &mut none, &nine).number(),
+        mark(1, &mut none, &[262_144; 9]).number(),
     );
     say_count(b"\nopen, level 1, no bytes: ", open(1, &mut none).number());
     say(b"\n");
 }
 
-fn main() {
+fn show_opens() {
     show_open(b"level 2", 2);
     show_open(b"level 1", 1);
     show_open(b"level 6", 6);
     show_open(b"level 3, short", 3);
     show_open_short();
+}
+
+fn main() {
+    show_opens();
     show_examples();
+    show_ends();
     show_byte_sixteen();
     show_points();
     show_lines();
     show_plane();
-    show_refusals();
+    show_lengths();
+    show_levels();
+    show_bytes();
+    show_no_bytes();
 }

@@ -1,10 +1,10 @@
 // Masks for the resin screen: a binary PBM picture of each layer of points, one behind another.
+use fitting::signs_fit;
 use grids::is_grid;
 use lattice::byte::is_inside;
 use lattice::level::Level;
 use lattice::level::LevelRead;
 use refusals::Refusal;
-use surfacing::fit::signs_fit;
 use text::put_fields;
 use text::put_text;
 ghost use mathlib.Core.Path.{_≡_};

@@ -5,12 +5,13 @@
 use patching::PatchAnswer;
 use patching::patch;
 use showing::all_hold;
+use showing::both_hold;
+use showing::build;
+use showing::fill;
 use showing::say;
 use showing::say_count;
 use showing::say_if;
 use showing::say_marks;
-ghost use Prim.Native.Nat.{_≤_, _<_};
-ghost use lib.ListN.{length};
 
 // The points of level 2, and the bytes of a buffer that is longer.
 const POINTS: usize = 125;
@@ -20,76 +21,6 @@ const LONG: usize = 130;
 const BEHIND: u8 = 201;
 
 const DIRTY: u8 = 90;
-
-// The value of a mark on the edge that a letter names.
-fn value(letter: u8) -> u8
-    ensures { λ r. ⌜ r ≤ 4 ⌝ }
-{
-    if letter == b'x' {
-        return 1;
-    }
-    if letter == b'y' {
-        return 2;
-    }
-    4
-}
-
-// The digit at a place of a text.
-fn digit(text: &[u8], at: usize) -> usize
-    ensures { λ r. ⌜ r ≤ 9 ⌝ }
-{
-    if text.len() <= at {
-        return 0;
-    }
-    let b = text[at];
-    if b < b'0' {
-        return 0;
-    }
-    if b'9' < b {
-        return 0;
-    }
-    (b - b'0') as usize
-}
-
-// Marks the edge that a text such as "x222" names at `at`.
-fn mark(text: &[u8], at: usize, grid: &mut [u8])
-    requires { ⌜ at < length (now text) ⌝ }
-{
-    let p = digit(text, at + 1) + 5 * (digit(text, at + 2) + 5 * digit(text, at + 3));
-    let v = value(text[at]);
-    if p < grid.len() {
-        let b = grid[p];
-        if b < 128 {
-            grid[p] = b + v;
-        }
-    }
-}
-
-// Marks the edges that a text names, four letters and a space each.
-fn build(text: &[u8], grid: &mut [u8]) {
-    let mut at: usize = 0;
-    while at < text.len() {
-        mark(text, at, grid);
-        at += 5;
-    }
-}
-
-// What a buffer filled with v holds at a place.
-fn filler(p: usize, v: u8) -> u8 {
-    if p < POINTS {
-        return v;
-    }
-    BEHIND
-}
-
-// Fills a buffer: v up to the points, and what stands behind them.
-fn fill(buffer: &mut [u8], v: u8) {
-    let mut p: usize = 0;
-    while p < buffer.len() {
-        buffer[p] = filler(p, v);
-        p += 1;
-    }
-}
 
 fn say_counts(number: u32, rims: u32, flips: u32, ones: u32, threes: u32) {
     say_count(b": ", number);
@@ -112,20 +43,12 @@ fn say_answer(answer: PatchAnswer) {
     }
 }
 
-// Whether the bytes of both buffers from `from` up to `to` hold what is given for each.
-fn both_hold(grid: &[u8], v: u8, work: &[u8], w: u8, from: usize, to: usize) -> bool {
-    if !all_hold(grid, from, to, v) {
-        return false;
-    }
-    all_hold(work, from, to, w)
-}
-
 // Patches the grid of the edges named, in buffers that are longer and with a dirty work buffer.
 fn show(name: &[u8], edges: &[u8]) {
     let mut grid = [0u8; LONG];
     let mut work = [0u8; LONG];
-    fill(&mut grid, 0);
-    fill(&mut work, DIRTY);
+    fill(&mut grid, 0, BEHIND);
+    fill(&mut work, DIRTY, BEHIND);
     build(edges, &mut grid);
     say(name);
     say_answer(patch(2, &mut grid, &mut work));
@@ -152,40 +75,72 @@ fn lend(level: u32, grid: &mut [u8], grid_length: usize, work: &mut [u8], work_l
 fn show_refusal(name: &[u8], level: u32, grid_length: usize, work_length: usize, v: u8) {
     let mut grid = [0u8; LONG];
     let mut work = [0u8; LONG];
-    fill(&mut grid, v);
-    fill(&mut work, DIRTY);
+    fill(&mut grid, v, BEHIND);
+    fill(&mut work, DIRTY, BEHIND);
     say(name);
     lend(level, &mut grid, grid_length, &mut work, work_length);
     say_if(both_hold(&grid, v, &work, DIRTY, 0, POINTS), b", kept");
     say(b"\n");
 }
 
-fn main() {
+// The examples of the rules.
+fn show_examples() {
     show(b"example 1", b"");
     show(b"example 2", b"x122 x222 y212 y222 z221 z222");
     show(b"example 3", b"x122 y212 y222 z221 z222");
     show(b"example 4", b"x222");
+}
+
+fn show_more_examples() {
     show(b"example 5", b"x011 x233");
     show(b"example 6", b"x222 x233");
     show(b"example 7", b"x122 x322 y212 y312 z221 z222 z321 z322");
+}
+
+// The grids that pin its choices.
+fn show_choices() {
     show(b"tie of x and y", b"x232 y232");
     show(b"tie of y and z", b"x122 x123 z122 z133");
     show(b"rounding", b"y222 y311 z321");
+}
+
+fn show_more_choices() {
     show(b"pairing", b"y321 y331 z230");
     show(b"path", b"z211 y211");
     show(b"two rims in one plane", b"y101 y111");
+}
+
+fn show_holes() {
     show(b"three edges of a face", b"x222 x232 y222");
     show(
         b"sheet with a hole",
         b"x211 x221 x231 x212 x232 x213 x223 x233",
     );
+}
+
+// What it refuses: levels and lengths.
+fn show_lengths() {
     show_refusal(b"level 1, no bytes", 1, 0, 0, 0);
     show_refusal(b"level 6", 6, 130, 130, 0);
     show_refusal(b"a grid byte short", 2, 124, 130, 0);
     show_refusal(b"a work byte short", 2, 130, 124, 0);
+}
+
+// What it refuses, and what it need not touch.
+fn show_bytes() {
     show_refusal(b"short, no grid", 2, 130, 124, 16);
     show_refusal(b"level 3, short", 3, 130, 130, 0);
     show_refusal(b"bytes of 16", 2, 130, 130, 16);
     show_refusal(b"marks on outer edges", 2, 130, 130, 7);
     show_refusal(b"nothing to patch", 2, 125, 125, 0);
+}
+
+fn main() {
+    show_examples();
+    show_more_examples();
+    show_choices();
+    show_more_choices();
+    show_holes();
+    show_lengths();
+    show_bytes();
 }

@@ -1,11 +1,11 @@
 // A quad read as an edge and the side of it that is inside, from whatever corner it begins.
 use grids::is_inner;
 use lattice::index;
+use quad_listing::quads::cell_number;
+use quad_listing::quads::cell_step;
+use quad_listing::quads::next;
 use rules::Axis;
 use rules::Point;
-use surfacing::listing::cell_number;
-use surfacing::listing::cell_step;
-use surfacing::listing::next;
 ghost use mathlib.Core.Path.{_≡_};
 ghost use Prim.Native.Nat.{_≤_};
 ghost use Rattle.rules.specs.Lattice.{sameAxis};

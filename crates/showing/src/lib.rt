@@ -1,5 +1,8 @@
-// What the example programs share: buffers filled and looked at, and the points and edges of level 2 printed.
+// What the example programs share: buffers filled and looked at, grids made of the edges that a text names, and the points and edges of
+// level 2 printed.
 use libc::STDOUT_FILENO;
+ghost use Prim.Native.Nat.{_≤_, _<_};
+ghost use lib.ListN.{length};
 
 // The points of level 2.
 const POINTS: usize = 125;
@@ -51,6 +54,84 @@ pub fn all_hold(buffer: &[u8], from: usize, to: usize, v: u8) -> bool {
         p += 1;
     }
     true
+}
+
+// Whether the bytes of both buffers from `from` up to `to` hold what is given for each.
+pub fn both_hold(grid: &[u8], v: u8, work: &[u8], w: u8, from: usize, to: usize) -> bool {
+    if !all_hold(grid, from, to, v) {
+        return false;
+    }
+    all_hold(work, from, to, w)
+}
+
+// The value of a mark on the edge that a letter names.
+fn value(letter: u8) -> u8
+    ensures { λ r. ⌜ r ≤ 4 ⌝ }
+{
+    if letter == b'x' {
+        return 1;
+    }
+    if letter == b'y' {
+        return 2;
+    }
+    4
+}
+
+// The digit at a place of a text.
+fn digit(text: &[u8], at: usize) -> usize
+    ensures { λ r. ⌜ r ≤ 9 ⌝ }
+{
+    if text.len() <= at {
+        return 0;
+    }
+    let b = text[at];
+    if b < b'0' {
+        return 0;
+    }
+    if b'9' < b {
+        return 0;
+    }
+    (b - b'0') as usize
+}
+
+// Marks the edge that a text such as "x222" names at `at`.
+fn mark(text: &[u8], at: usize, grid: &mut [u8])
+    requires { ⌜ at < length (now text) ⌝ }
+{
+    let p = digit(text, at + 1) + 5 * (digit(text, at + 2) + 5 * digit(text, at + 3));
+    let v = value(text[at]);
+    if p < grid.len() {
+        let b = grid[p];
+        if b < 128 {
+            grid[p] = b + v;
+        }
+    }
+}
+
+// Marks the edges that a text names, four letters and a space each.
+pub fn build(text: &[u8], grid: &mut [u8]) {
+    let mut at: usize = 0;
+    while at < text.len() {
+        mark(text, at, grid);
+        at += 5;
+    }
+}
+
+// What a buffer filled with v holds at a place.
+fn filler(p: usize, v: u8, behind: u8) -> u8 {
+    if p < POINTS {
+        return v;
+    }
+    behind
+}
+
+// Fills a buffer: v up to the points, and what stands behind them.
+pub fn fill(buffer: &mut [u8], v: u8, behind: u8) {
+    let mut p: usize = 0;
+    while p < buffer.len() {
+        buffer[p] = filler(p, v, behind);
+        p += 1;
+    }
 }
 
 // Prints the three coordinates of a point.

@@ -138,7 +138,7 @@ pub extern "C" fn omphirun_surface(
     ensures { λ r. ⌜ _≡_ {A = SurfaceOutcome} (record { number = r; quads = now (quads .exit); list = now (list .exit) }) (surfaceCall level (now (grid .entry)) (now (list .entry))) ⌝ }
 {
     *quads = 0;
-    match surfacing::surface(level, grid, list) {
+    match quad_listing::surface(level, grid, list) {
         SurfaceAnswer::Done { quads: q } => {
             *quads = q;
             0
@@ -161,7 +161,7 @@ pub extern "C" fn omphirun_read_stl(
 {
     *triangles = 0;
     *axis = 0;
-    match stl_reading::read_stl(file, e, list) {
+    match stl_call::read_stl(file, e, list) {
         ReadAnswer::Done { triangles: n } => {
             *triangles = n;
             0

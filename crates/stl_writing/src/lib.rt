@@ -1,17 +1,17 @@
 // The call that writes a surface as binary STL.
 pub mod listing;
 
+use fitting::signs_fit;
 use grids::is_grid;
 use lattice::clear;
 use lattice::level::Level;
 use lattice::level::LevelRead;
 use listing::put_quads;
 use octets::put_word;
+use quad_listing::quads::count_quads;
 use refusals::Refusal;
 use rounding::Scale;
 use rounding::scale_of;
-use surfacing::fit::signs_fit;
-use surfacing::listing::count_quads;
 ghost use mathlib.Core.Path.{_≡_};
 ghost use mathlib.Core.Bool.{true};
 ghost use Prim.Native.Nat.{_≤_, _*_};

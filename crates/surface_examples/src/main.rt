@@ -2,6 +2,7 @@
 // with one number less, and inputs that each call refuses. For sign it prints the number, and the marks and the points inside that the
 // grid has then; for surface the number, the count and the quads; `kept` says that nothing of the list changed, `rest` that what is
 // behind the last byte or quad is as it was.
+use quad_listing::surface;
 use showing::all_hold;
 use showing::put;
 use showing::say;
@@ -12,7 +13,6 @@ use showing::say_marks;
 use showing::say_point;
 use signing::sign;
 use surfacing::SurfaceAnswer;
-use surfacing::surface;
 
 // The points of level 2, and the bytes of a buffer that is longer.
 const POINTS: usize = 125;

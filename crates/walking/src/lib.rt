@@ -1,16 +1,16 @@
 // The cells of one rim, found by a walk that keeps its way back in the cells' bytes.
+use cells::face_rule;
+use cells::step;
+use cells::upper_face;
 use lattice::byte::departed;
 use lattice::byte::entered;
 use lattice::byte::odd_bit;
 use lattice::byte::seen_bit;
 use lattice::byte::way_back;
-use lattice::cell::face_rule;
-use lattice::cell::upper_face;
 use lattice::index;
 use lattice::least;
 use lattice::most;
 use lattice::number_of;
-use lattice::step;
 use rules::Axis;
 use rules::Box;
 use rules::Point;

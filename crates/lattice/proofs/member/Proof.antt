@@ -12,7 +12,7 @@ bit-requires : tie.Need-bit-requires
 bit-requires c κs = search needs
 
 returns : tie.Need-returns
-returns c = cc
+returns c = rw (c .before .before .number-of .ensures .0) at (c .bit .ensures)
 
 pub member-spec : {M : Type 1} → statement M
 member-spec = tie.close (tie.spec number-of-requires shared-slice-read-bit bit-requires returns)
