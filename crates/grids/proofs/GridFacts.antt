@@ -59,7 +59,8 @@ module _ (n : ℕ) (g : List ℕ) (long : pointCount n ≤ length g) (grid : isG
   -- and each of its bits is a mark
   pub grid-marks : (a : Axis) (p : Point) → OfGrid n p → has a (getD g (pointNumber n p) 0) ≡ marks n g a p
   grid-marks a p h =
-      sym (has-low a (getD g (pointNumber n p) 0)) ∙ ap (has a) (grid-byte p h) ∙ has-bit a (marks n g X p) (marks n g Y p) (marks n g Z p) ∙ three-of a (marks n g) p
+      sym (has-low a (getD g (pointNumber n p) 0)) ∙ ap (has a) (grid-byte p h) ∙ has-bit a (marks n g X p) (marks n g Y p) (marks n g Z p) ∙ three-of
+      a (marks n g) p
 
   -- an edge that is not inner has no mark
   no-mark : (b : Axis) (q : Point) → (inner n b q ≡ true → ⊥) → marks n g b q ≡ false

@@ -86,7 +86,8 @@ unfolding nextPoint
 at-next n p q a h = go (ltb (q .i) n) refl (ltb (q .j) n) refl
   where
     go : (c : Bool) → ltb (q .i) n ≡ c → (d : Bool) → ltb (q .j) n ≡ d →
-        At n (suc p) (cond c (record { i = q .i + 1; j = q .j; k = q .k }) (cond d (record { i = 0; j = q .j + 1; k = q .k }) (record { i = 0; j = 0; k = q .k + 1 })))
+        At n (suc p) (cond c (record { i = q .i + 1; j = q .j; k = q .k })
+        (cond d (record { i = 0; j = q .j + 1; k = q .k }) (record { i = 0; j = 0; k = q .k + 1 })))
     go true e d f = let x = ltb-true (q .i) n e in record { on-i = omega arith; on-j = a .on-j; is = omega arith }
     go false e true f =
         let x = ltb-false (q .i) n e in
@@ -121,7 +122,11 @@ deep-inner n p e a =
     let s = not (sameAxis a X) in
     let t = not (sameAxis a Y) in
     let u = not (sameAxis a Z) in
-    inBox← (whole n) s t u p (rest s (p .i) (between→ 1 n (p .i) (b .0)), rest t (p .j) (between→ 1 n (p .j) (b .1)), rest u (p .k) (between→ 1 n (p .k) (b .2)))
+    inBox← (whole n) s t u p (
+      rest s (p .i) (between→ 1 n (p .i) (b .0)),
+      rest t (p .j) (between→ 1 n (p .j) (b .1)),
+      rest u (p .k) (between→ 1 n (p .k) (b .2)),
+    )
   where
     rest : (s : Bool) (i : ℕ) → Bounds 1 n i → Bounds (raise s 0) n i
     rest true i c = c

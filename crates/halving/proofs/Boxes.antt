@@ -75,14 +75,16 @@ count-from b Y = mul-left-comm (side b X) (side b Y) (side b Z)
 count-from b Z = ap (λ (k : ℕ). side b X * k) (mul-comm (side b Y) (side b Z)) ∙ mul-left-comm (side b X) (side b Z) (side b Y)
 
 -- a box with one side shorter has fewer cells
-count-less : (c b : Box) (a : Axis) → side c a < side b a → side c (earlier a) ≡ side b (earlier a) → side c (later a) ≡ side b (later a) → 0 < side b (earlier a) → 0 < side b (later a) → cellCount c < cellCount b
+count-less : (c b : Box) (a : Axis) → side c a < side b a → side c (earlier a) ≡ side b (earlier a) → side c (later a) ≡ side b (later a) → 0 < side b
+    (earlier a) → 0 < side b (later a) → cellCount c < cellCount b
 count-less c b a l e f p q =
     subst (λ (k : ℕ). k < cellCount b) (sym (count-from c a ∙ ap₂ (λ (x y : ℕ). side c a * (x * y)) e f))
     (subst (λ (k : ℕ). side c a * (side b (earlier a) * side b (later a)) < k) (sym (count-from b a)) (mul-lt-mul-of-pos-right l (mul-pos p q)))
 
 module _ (n : ℕ) (b : Box) (h : Fits n b) (o : oneCell b ≡ false) (a : Axis) (m : ℕ) (ea : a ≡ longest b) (em : m ≡ middle b a) where
   bounds : Bounds (suc (coord a (b .lo))) (coord a (b .hi)) m
-  bounds = subst (λ (x : ℕ). Bounds (suc (coord a (b .lo))) (coord a (b .hi)) x) (sym em) (subst (λ (x : Axis). Bounds (suc (coord x (b .lo))) (coord x (b .hi)) (middle b x)) (sym ea) (middle-in b o))
+  bounds = subst (λ (x : ℕ). Bounds (suc (coord a (b .lo))) (coord a (b .hi)) x) (sym em)
+      (subst (λ (x : Axis). Bounds (suc (coord x (b .lo))) (coord x (b .hi)) (middle b x)) (sym ea) (middle-in b o))
 
   pub mid-low : coord a (b .lo) < m
   mid-low = let x = bounds in omega arith
@@ -102,7 +104,8 @@ module _ (n : ℕ) (b : Box) (h : Fits n b) (o : oneCell b ≡ false) (a : Axis)
       let e : side (lower b a m) a ≡ m - coord a (b .lo) = ap (λ (k : ℕ). k - coord a (b .lo)) (w .0) in
       let l = mid-low in
       let u = mid-high in
-      count-less (lower b a m) b a (omega arith) (ap (λ (k : ℕ). k - coord (earlier a) (b .lo)) (w .1)) (ap (λ (k : ℕ). k - coord (later a) (b .lo)) (w .2)) (side-some n b (earlier a) h) (side-some n b (later a) h)
+      count-less (lower b a m) b a (omega arith) (ap (λ (k : ℕ). k - coord (earlier a) (b .lo)) (w .1))
+      (ap (λ (k : ℕ). k - coord (later a) (b .lo)) (w .2)) (side-some n b (earlier a) h) (side-some n b (later a) h)
 
   pub up-falls : cellCount (upper b a m) < cellCount b
   up-falls =
@@ -110,7 +113,8 @@ module _ (n : ℕ) (b : Box) (h : Fits n b) (o : oneCell b ≡ false) (a : Axis)
       let e : side (upper b a m) a ≡ coord a (b .hi) - m = ap (λ (k : ℕ). coord a (b .hi) - k) (w .0) in
       let l = mid-low in
       let u = mid-high in
-      count-less (upper b a m) b a (omega arith) (ap (λ (k : ℕ). coord (earlier a) (b .hi) - k) (w .1)) (ap (λ (k : ℕ). coord (later a) (b .hi) - k) (w .2)) (side-some n b (earlier a) h) (side-some n b (later a) h)
+      count-less (upper b a m) b a (omega arith) (ap (λ (k : ℕ). coord (earlier a) (b .hi) - k) (w .1))
+      (ap (λ (k : ℕ). coord (later a) (b .hi) - k) (w .2)) (side-some n b (earlier a) h) (side-some n b (later a) h)
 
   module _ (w g w₁ g₁ w₂ g₂ w₃ g₃ : List ℕ) (k : pointCount n ≤ length w)
       (c-w : w₁ ≡ works n (cut b (stored n w) a m) w) (c-g : g₁ ≡ turns n (cut b (stored n w) a m) g)
@@ -129,27 +133,41 @@ module _ (n : ℕ) (b : Box) (h : Fits n b) (o : oneCell b ≡ false) (a : Axis)
     low-is = patchOf-cong (lower b a m) _ _ (λ d p f. raw₁ d p (face-grid n (lower b a m) low-fits d p f))
 
     raw₂ : (d : Axis) (p : Point) → OfGrid n p → stored n w₂ d p ≡ stored n w₁ d p ⊕ oddFace (setOf (patchOf (lower b a m) (stored n w₁))) d p
-    raw₂ d p l = ap (λ (s : List ℕ). stored n s d p) l-w ∙ stored-works n (patchOf (lower b a m) (stored n w₁)) w₁ (patch-edged n (lower b a m) (stored n w₁) low-fits) long₁ d p l
+    raw₂ d p l = ap (λ (s : List ℕ). stored n s d p) l-w ∙ stored-works n (patchOf (lower b a m) (stored n w₁)) w₁
+        (patch-edged n (lower b a m) (stored n w₁) low-fits) long₁ d p l
 
-    up-is : patchOf (upper b a m) (stored n w₂) ≡ patchOf (upper b a m) (symdiff (symdiff (stored n w) (oddFace (setOf (cut b (stored n w) a m)))) (oddFace (setOf (patchOf (lower b a m) (symdiff (stored n w) (oddFace (setOf (cut b (stored n w) a m))))))))
+    up-is : patchOf (upper b a m) (stored n w₂) ≡ patchOf (upper b a m)
+        (symdiff (symdiff (stored n w) (oddFace (setOf (cut b (stored n w) a m))))
+        (oddFace (setOf (patchOf (lower b a m) (symdiff (stored n w) (oddFace (setOf (cut b (stored n w) a m))))))))
     up-is = patchOf-cong (upper b a m) _ _ (λ d p f. let l = face-grid n (upper b a m) up-fits d p f in
         raw₂ d p l ∙ ap₂ (λ (x : Bool) (t : List Place). x ⊕ oddFace (setOf t) d p) (raw₁ d p l) low-is)
 
     all-is : patchOf b (stored n w) ≡ cut b (stored n w) a m ++ (patchOf (lower b a m) (stored n w₁) ++ patchOf (upper b a m) (stored n w₂))
     all-is = cut-eq a m ea em ∙ ap (λ (t : List Place). cut b (stored n w) a m ++ t) (ap₂ (λ (x y : List Place). x ++ y) (sym low-is) (sym up-is))
       where
-        cut-eq : (c : Axis) (j : ℕ) → c ≡ longest b → j ≡ middle b c → patchOf b (stored n w) ≡ cut b (stored n w) c j ++ (patchOf (lower b c j) (symdiff (stored n w) (oddFace (setOf (cut b (stored n w) c j)))) ++ patchOf (upper b c j) (symdiff (symdiff (stored n w) (oddFace (setOf (cut b (stored n w) c j)))) (oddFace (setOf (patchOf (lower b c j) (symdiff (stored n w) (oddFace (setOf (cut b (stored n w) c j)))))))))
+        cut-eq : (c : Axis) (j : ℕ) → c ≡ longest b → j ≡ middle b c → patchOf b (stored n w) ≡ cut b (stored n w) c j ++
+            (patchOf (lower b c j) (symdiff (stored n w) (oddFace (setOf (cut b (stored n w) c j)))) ++ patchOf (upper b c j)
+            (symdiff (symdiff (stored n w) (oddFace (setOf (cut b (stored n w) c j))))
+            (oddFace (setOf (patchOf (lower b c j) (symdiff (stored n w) (oddFace (setOf (cut b (stored n w) c j)))))))))
         cut-eq c j ec ej =
-            subst (λ (i : ℕ). patchOf b (stored n w) ≡ cut b (stored n w) c i ++ (patchOf (lower b c i) (symdiff (stored n w) (oddFace (setOf (cut b (stored n w) c i)))) ++ patchOf (upper b c i) (symdiff (symdiff (stored n w) (oddFace (setOf (cut b (stored n w) c i)))) (oddFace (setOf (patchOf (lower b c i) (symdiff (stored n w) (oddFace (setOf (cut b (stored n w) c i)))))))))) (sym ej)
-            (subst (λ (x : Axis). patchOf b (stored n w) ≡ cut b (stored n w) x (middle b x) ++ (patchOf (lower b x (middle b x)) (symdiff (stored n w) (oddFace (setOf (cut b (stored n w) x (middle b x))))) ++ patchOf (upper b x (middle b x)) (symdiff (symdiff (stored n w) (oddFace (setOf (cut b (stored n w) x (middle b x))))) (oddFace (setOf (patchOf (lower b x (middle b x)) (symdiff (stored n w) (oddFace (setOf (cut b (stored n w) x (middle b x))))))))))) (sym ec)
+            subst (λ (i : ℕ). patchOf b (stored n w) ≡ cut b (stored n w) c i ++
+            (patchOf (lower b c i) (symdiff (stored n w) (oddFace (setOf (cut b (stored n w) c i)))) ++ patchOf (upper b c i)
+            (symdiff (symdiff (stored n w) (oddFace (setOf (cut b (stored n w) c i))))
+            (oddFace (setOf (patchOf (lower b c i) (symdiff (stored n w) (oddFace (setOf (cut b (stored n w) c i)))))))))) (sym ej)
+            (subst (λ (x : Axis). patchOf b (stored n w) ≡ cut b (stored n w) x (middle b x) ++
+            (patchOf (lower b x (middle b x)) (symdiff (stored n w) (oddFace (setOf (cut b (stored n w) x (middle b x))))) ++ patchOf
+            (upper b x (middle b x)) (symdiff (symdiff (stored n w) (oddFace (setOf (cut b (stored n w) x (middle b x)))))
+            (oddFace (setOf (patchOf (lower b x (middle b x)) (symdiff (stored n w) (oddFace (setOf (cut b (stored n w) x (middle b x))))))))))) (sym ec)
             (patchOf-cut b (stored n w) o))
 
     pub halves-is : (g₃ ≡ turns n (patchOf b (stored n w)) g) × (w₃ ≡ works n (patchOf b (stored n w)) w)
     halves-is = (
       u-g ∙ ap (turns n (patchOf (upper b a m) (stored n w₂))) (l-g ∙ ap (turns n (patchOf (lower b a m) (stored n w₁))) c-g)
-          ∙ sym (ap (λ (t : List Place). turns n t g) all-is ∙ turns-append n (cut b (stored n w) a m) _ g ∙ turns-append n (patchOf (lower b a m) (stored n w₁)) (patchOf (upper b a m) (stored n w₂)) _),
+          ∙ sym (ap (λ (t : List Place). turns n t g) all-is ∙ turns-append n (cut b (stored n w) a m) _ g ∙ turns-append n
+          (patchOf (lower b a m) (stored n w₁)) (patchOf (upper b a m) (stored n w₂)) _),
       u-w ∙ ap (works n (patchOf (upper b a m) (stored n w₂))) (l-w ∙ ap (works n (patchOf (lower b a m) (stored n w₁))) c-w)
-          ∙ sym (ap (λ (t : List Place). works n t w) all-is ∙ works-append n (cut b (stored n w) a m) _ w ∙ works-append n (patchOf (lower b a m) (stored n w₁)) (patchOf (upper b a m) (stored n w₂)) _),
+          ∙ sym (ap (λ (t : List Place). works n t w) all-is ∙ works-append n (cut b (stored n w) a m) _ w ∙ works-append n
+          (patchOf (lower b a m) (stored n w₁)) (patchOf (upper b a m) (stored n w₂)) _),
     )
 
 -- ---- sides
@@ -185,15 +203,18 @@ one-is n b g w e = let p = patchOf-one b (stored n w) e in (ap (λ (l : List Pla
 
 module _ (n : ℕ) (b : Box) (h : Fits n b) (o : oneCell b ≡ false) (a : Axis) (m : ℕ) (ea : a ≡ longest b) (em : m ≡ middle b a) where
   pub low-ok : (t : ℕ) (r : Box) → cellCount b ≡ t → r ≡ lower b a m → (cellCount r < t) × Fits n r
-  low-ok t r et er = subst (λ (x : Box). (cellCount x < t) × Fits n x) (sym er) (subst (λ (k : ℕ). cellCount (lower b a m) < k) et (low-falls n b h o a m ea em), low-fits n b h o a m ea em)
+  low-ok t r et er = subst (λ (x : Box). (cellCount x < t) × Fits n x) (sym er)
+      (subst (λ (k : ℕ). cellCount (lower b a m) < k) et (low-falls n b h o a m ea em), low-fits n b h o a m ea em)
 
   pub up-ok : (t : ℕ) (r : Box) → cellCount b ≡ t → r ≡ upper b a m → (cellCount r < t) × Fits n r
-  up-ok t r et er = subst (λ (x : Box). (cellCount x < t) × Fits n x) (sym er) (subst (λ (k : ℕ). cellCount (upper b a m) < k) et (up-falls n b h o a m ea em), up-fits n b h o a m ea em)
+  up-ok t r et er = subst (λ (x : Box). (cellCount x < t) × Fits n x) (sym er)
+      (subst (λ (k : ℕ). cellCount (upper b a m) < k) et (up-falls n b h o a m ea em), up-fits n b h o a m ea em)
 
   pub halves-turn : (w g w₁ g₁ w₂ g₂ w₃ g₃ : List ℕ) (r s : Box) → pointCount n ≤ length w → r ≡ lower b a m → s ≡ upper b a m →
       (g₁ ≡ turns n (cut b (stored n w) a m) g) × (w₁ ≡ works n (cut b (stored n w) a m) w) →
       (g₂ ≡ turns n (patchOf r (stored n w₁)) g₁) × (w₂ ≡ works n (patchOf r (stored n w₁)) w₁) →
-      (g₃ ≡ turns n (patchOf s (stored n w₂)) g₂) × (w₃ ≡ works n (patchOf s (stored n w₂)) w₂) → (g₃ ≡ turns n (patchOf b (stored n w)) g) × (w₃ ≡ works n (patchOf b (stored n w)) w)
+      (g₃ ≡ turns n (patchOf s (stored n w₂)) g₂) × (w₃ ≡ works n (patchOf s (stored n w₂)) w₂) → (g₃ ≡ turns n (patchOf b (stored n w)) g) ×
+      (w₃ ≡ works n (patchOf b (stored n w)) w)
   halves-turn w g w₁ g₁ w₂ g₂ w₃ g₃ r s k er es c l u =
       halves-is n b h o a m ea em w g w₁ g₁ w₂ g₂ w₃ g₃ k (c .1) (c .0)
       (l .1 ∙ ap (λ (x : Box). works n (patchOf x (stored n w₁)) w₁) er) (l .0 ∙ ap (λ (x : Box). turns n (patchOf x (stored n w₁)) g₁) er)

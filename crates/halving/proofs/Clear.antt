@@ -33,7 +33,8 @@ sum-none : (a b : ℕ) → eqb (a + b) 0 ≡ eqb a 0 && eqb b 0
 sum-none a b =
     same-test (eqb (a + b) 0) (eqb a 0 && eqb b 0)
     (λ e. let s : a + b ≡ 0 = eqb→ (a + b) 0 e in both (eqb a 0) (eqb b 0) (eqb-yes a 0 (omega arith)) (eqb-yes b 0 (omega arith)))
-    (λ e. let p : a ≡ 0 = eqb→ a 0 (and-left (eqb a 0) (eqb b 0) e) in let q : b ≡ 0 = eqb→ b 0 (and-right (eqb a 0) (eqb b 0) e) in eqb-yes (a + b) 0 (omega arith))
+    (λ e. let p : a ≡ 0 = eqb→ a 0 (and-left (eqb a 0) (eqb b 0) e) in let q : b ≡ 0 = eqb→ b 0 (and-right (eqb a 0) (eqb b 0) e) in eqb-yes (a + b) 0
+    (omega arith))
 
 -- where the loop stands: k bytes are added up, and with the others they tell the whole row
 pub record Clearing (w : List ℕ) (from count held k : ℕ) : Type 0 where
@@ -42,7 +43,11 @@ pub record Clearing (w : List ℕ) (from count held k : ℕ) : Type 0 where
 
 module _ (w : List ℕ) (from count : ℕ) where
   pub clearing-start : Clearing w from count 0 0
-  clearing-start = record { small = omega arith; rest = ap₂ (rowClear w) (let e : from + 0 ≡ from = omega arith in e) (let e : count - 0 ≡ count = omega arith in e) }
+  clearing-start = record {
+    small = omega arith;
+    rest = ap₂ (rowClear w) (let e : from + 0 ≡ from = omega arith in e)
+        (let e : count - 0 ≡ count = omega arith in e);
+  }
 
   one-more : (k : ℕ) → k < count → rowClear w (from + k) (count - k) ≡ byteClear w (from + k) && rowClear w (from + (k + 1)) (count - (k + 1))
   unfolding rowClear
@@ -89,4 +94,5 @@ clear-face n b w e a p f =
 
 -- so nothing has to be done to it
 pub clear-is : (n : ℕ) (b : Box) (g w : List ℕ) → boxClear n b w ≡ true → (g ≡ turns n (patchOf b (stored n w)) g) × (w ≡ works n (patchOf b (stored n w)) w)
-clear-is n b g w e = let p = patchOf-clear b (stored n w) (clear-face n b w e) in (ap (λ (l : List Place). turns n l g) (sym p), ap (λ (l : List Place). works n l w) (sym p))
+clear-is n b g w e = let p = patchOf-clear b (stored n w) (clear-face n b w e) in
+    (ap (λ (l : List Place). turns n l g) (sym p), ap (λ (l : List Place). works n l w) (sym p))

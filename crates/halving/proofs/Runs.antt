@@ -38,9 +38,30 @@ more Z Y p h = h
 more Z Z p h = omega arith
 
 pub run-next : (n : ℕ) (b : Axis) (k : ℕ) (e : Place) → Run n b k e → 1 ≤ k → Run n b (k - 1) (ahead b e)
-run-next n X k e h l = record { fits = omega arith; next = h .next; last = h .last; one = more (earlier (e .axis)) X (e .at) (h .one); two = more (later (e .axis)) X (e .at) (h .two) }
-run-next n Y k e h l = record { fits = omega arith; next = h .next; last = h .last; one = more (earlier (e .axis)) Y (e .at) (h .one); two = more (later (e .axis)) Y (e .at) (h .two) }
-run-next n Z k e h l = record { fits = omega arith; next = h .next; last = h .last; one = more (earlier (e .axis)) Z (e .at) (h .one); two = more (later (e .axis)) Z (e .at) (h .two) }
+run-next n X k e h l = record {
+  fits = omega arith;
+  next = h .next;
+  last = h .last;
+  one = more (earlier (e .axis)) X (e .at) (h .one);
+  two = more
+      (later (e .axis)) X (e .at) (h .two);
+}
+run-next n Y k e h l = record {
+  fits = omega arith;
+  next = h .next;
+  last = h .last;
+  one = more (earlier (e .axis)) Y (e .at) (h .one);
+  two = more
+      (later (e .axis)) Y (e .at) (h .two);
+}
+run-next n Z k e h l = record {
+  fits = omega arith;
+  next = h .next;
+  last = h .last;
+  one = more (earlier (e .axis)) Z (e .at) (h .one);
+  two = more
+      (later (e .axis)) Z (e .at) (h .two);
+}
 
 pub along-step : (b : Axis) (k : ℕ) (e : Place) → 1 ≤ k → along b k e ≡ e ∷ along b (k - 1) (ahead b e)
 along-step b k e h = let q : k ≡ suc (k - 1) = omega arith in ap (λ (j : ℕ). along b j e) q
@@ -57,8 +78,10 @@ pub running-on : (n : ℕ) (b : Axis) (count : ℕ) (e : Place) (g₀ w₀ : Lis
     (at′ : Place) (g′ w′ : List ℕ) → at′ ≡ ahead b at → g′ ≡ turns n (at ∷ []) g → w′ ≡ works n (at ∷ []) w → Running n b count e g₀ w₀ (k - 1) at′ g′ w′
 running-on n b count e g₀ w₀ k at g w h l at′ g′ w′ ea eg ew = record {
   run = subst (Run n b (k - 1)) (sym ea) (run-next n b k at (h .run) l);
-  grid = ap₂ (λ (x : Place) (s : List ℕ). turns n (along b (k - 1) x) s) ea eg ∙ sym (turns-append n (at ∷ []) (along b (k - 1) (ahead b at)) g) ∙ ap (λ (m : List Place). turns n m g) (sym (along-step b k at l)) ∙ h .grid;
-  work = ap₂ (λ (x : Place) (s : List ℕ). works n (along b (k - 1) x) s) ea ew ∙ sym (works-append n (at ∷ []) (along b (k - 1) (ahead b at)) w) ∙ ap (λ (m : List Place). works n m w) (sym (along-step b k at l)) ∙ h .work;
+  grid = ap₂ (λ (x : Place) (s : List ℕ). turns n (along b (k - 1) x) s) ea eg ∙ sym (turns-append n (at ∷ []) (along b (k - 1) (ahead b at)) g) ∙ ap
+      (λ (m : List Place). turns n m g) (sym (along-step b k at l)) ∙ h .grid;
+  work = ap₂ (λ (x : Place) (s : List ℕ). works n (along b (k - 1) x) s) ea ew ∙ sym (works-append n (at ∷ []) (along b (k - 1) (ahead b at)) w) ∙ ap
+      (λ (m : List Place). works n m w) (sym (along-step b k at l)) ∙ h .work;
   g-long = ap length eg ∙ turns-length n (at ∷ []) g ∙ h .g-long;
   w-long = ap length ew ∙ turns-length n (each facesOf (at ∷ [])) w ∙ h .w-long;
 }
@@ -67,12 +90,14 @@ pub run-low : (n : ℕ) (b : Axis) (k : ℕ) (e : Place) → Run n b k e → 1 �
 run-low n b k e h l = let f = h .fits in omega arith
 
 -- ---- the path as two runs
-steps-u : (a : Axis) (m v i k : ℕ) → map (λ j. record { axis = later a; at = pointAt a m j v }) (upto i k) ≡ along (earlier a) k (record { axis = later a; at = pointAt a m i v })
+steps-u : (a : Axis) (m v i k : ℕ) → map (λ j. record { axis = later a; at = pointAt a m j v }) (upto i k) ≡ along (earlier a) k
+    (record { axis = later a; at = pointAt a m i v })
 steps-u a m v i zero = refl
 steps-u a m v i (suc k) = ap (λ (l : List Place). record { axis = later a; at = pointAt a m i v } ∷ l)
     (steps-u a m v (suc i) k ∙ ap (λ (p : Point). along (earlier a) k (record { axis = later a; at = p })) (sym (up-earlier a m i v)))
 
-steps-v : (a : Axis) (m u i k : ℕ) → map (λ j. record { axis = earlier a; at = pointAt a m u j }) (upto i k) ≡ along (later a) k (record { axis = earlier a; at = pointAt a m u i })
+steps-v : (a : Axis) (m u i k : ℕ) → map (λ j. record { axis = earlier a; at = pointAt a m u j }) (upto i k) ≡ along (later a) k
+    (record { axis = earlier a; at = pointAt a m u i })
 steps-v a m u i zero = refl
 steps-v a m u i (suc k) = ap (λ (l : List Place). record { axis = earlier a; at = pointAt a m u i } ∷ l)
     (steps-v a m u (suc i) k ∙ ap (λ (p : Point). along (later a) k (record { axis = earlier a; at = p })) (sym (up-later a m u i)))
@@ -86,8 +111,12 @@ second-run a m p q = along (later a) (max (p .v) (q .v) - min (p .v) (q .v)) (re
 pub path-runs : (a : Axis) (m : ℕ) (p q : Spot) → path a m p q ≡ first-run a m p q ++ second-run a m p q
 path-runs a m p q =
     ap₂ (λ (x y : List Place). x ++ y)
-    (steps-u a m (p .v) (suc (min (p .u) (q .u))) (max (p .u) (q .u) - min (p .u) (q .u)) ∙ ap (λ (k : ℕ). along (earlier a) (max (p .u) (q .u) - min (p .u) (q .u)) (record { axis = later a; at = pointAt a m k (p .v) })) (sym (add-one (min (p .u) (q .u)))))
-    (steps-v a m (q .u) (suc (min (p .v) (q .v))) (max (p .v) (q .v) - min (p .v) (q .v)) ∙ ap (λ (k : ℕ). along (later a) (max (p .v) (q .v) - min (p .v) (q .v)) (record { axis = earlier a; at = pointAt a m (q .u) k })) (sym (add-one (min (p .v) (q .v)))))
+    (steps-u a m (p .v) (suc (min (p .u) (q .u))) (max (p .u) (q .u) - min (p .u) (q .u)) ∙ ap
+    (λ (k : ℕ). along (earlier a) (max (p .u) (q .u) - min (p .u) (q .u)) (record { axis = later a; at = pointAt a m k (p .v) }))
+    (sym (add-one (min (p .u) (q .u)))))
+    (steps-v a m (q .u) (suc (min (p .v) (q .v))) (max (p .v) (q .v) - min (p .v) (q .v)) ∙ ap
+    (λ (k : ℕ). along (later a) (max (p .v) (q .v) - min (p .v) (q .v)) (record { axis = earlier a; at = pointAt a m (q .u) k }))
+    (sym (add-one (min (p .v) (q .v)))))
 
 module _ (n : ℕ) (a : Axis) (m : ℕ) (l₁ : 1 ≤ m) (l₂ : m ≤ n) (p q : Spot) (hp : Placed n p) (hq : Placed n q) where
   pub run-1 : Run n (earlier a) (max (p .u) (q .u) - min (p .u) (q .u)) (record { axis = later a; at = pointAt a m (min (p .u) (q .u) + 1) (p .v) })
@@ -109,11 +138,15 @@ module _ (n : ℕ) (a : Axis) (m : ℕ) (l₁ : 1 ≤ m) (l₂ : m ≤ n) (p q :
   along-edged : (b : Axis) (k : ℕ) (e : Place) → Run n b k e → All (Edged n) (along b k e)
   along-edged b zero e h = tt
   along-edged b (suc k) e h =
-      let o : suc k - 1 ≡ k = omega arith in
-      (run-edge n b (suc k) e h (omega arith), along-edged b k (ahead b e) (subst (λ (j : ℕ). Run n b j (ahead b e)) o (run-next n b (suc k) e h (omega arith))))
+      let o : suc k - 1 ≡ k = omega arith in (
+        run-edge n b (suc k) e h (omega arith),
+        along-edged b k (ahead b e)
+            (subst (λ (j : ℕ). Run n b j (ahead b e)) o (run-next n b (suc k) e h (omega arith))),
+      )
 
   pub path-edged : All (Edged n) (path a m p q)
-  path-edged = subst (All (Edged n)) (sym (path-runs a m p q)) (all-append (Edged n) (first-run a m p q) (second-run a m p q) (along-edged _ _ _ run-1) (along-edged _ _ _ run-2))
+  path-edged = subst (All (Edged n)) (sym (path-runs a m p q))
+      (all-append (Edged n) (first-run a m p q) (second-run a m p q) (along-edged _ _ _ run-1) (along-edged _ _ _ run-2))
 
 pub placed-low : (n : ℕ) (a : Axis) (m : ℕ) (q : Spot) → m ≤ n → Placed n q → OfGrid n (pointAt a m (q .u) (q .v))
 placed-low n X m q l h = omega arith
@@ -122,15 +155,18 @@ placed-low n Z m q l h = omega arith
 
 -- ---- the join of a pair
 module _ (n : ℕ) (a : Axis) (m : ℕ) (p q : Spot) (b c : Axis) (eb : b ≡ earlier a) (ec : c ≡ later a) where
-  pub join-run : (b′ c′ : Axis) → b′ ≡ earlier a → c′ ≡ later a → 1 ≤ m → m ≤ n → Placed n p → Placed n q → (i j : ℕ) (s : Point) → i ≡ min (p .u) (q .u) → j ≡ max (p .u) (q .u) → s ≡ pointAt a m (i + 1) (p .v) →
+  pub join-run : (b′ c′ : Axis) → b′ ≡ earlier a → c′ ≡ later a → 1 ≤ m → m ≤ n → Placed n p → Placed n q → (i j : ℕ) (s : Point) → i ≡ min (p .u)
+      (q .u) → j ≡ max (p .u) (q .u) → s ≡ pointAt a m (i + 1) (p .v) →
       Run n b′ (j - i) (record { axis = c′; at = s })
   join-run b′ c′ xb xc l₁ l₂ hp hq i j s ei ej es = rw (xb, xc, es, ei, ej) (run-1 n a m l₁ l₂ p q hp hq)
 
-  pub join-run₂ : (b′ c′ : Axis) → b′ ≡ earlier a → c′ ≡ later a → 1 ≤ m → m ≤ n → Placed n p → Placed n q → (i j : ℕ) (s : Point) → i ≡ min (p .v) (q .v) → j ≡ max (p .v) (q .v) → s ≡ pointAt a m (q .u) (i + 1) →
+  pub join-run₂ : (b′ c′ : Axis) → b′ ≡ earlier a → c′ ≡ later a → 1 ≤ m → m ≤ n → Placed n p → Placed n q → (i j : ℕ) (s : Point) → i ≡ min (p .v)
+      (q .v) → j ≡ max (p .v) (q .v) → s ≡ pointAt a m (q .u) (i + 1) →
       Run n c′ (j - i) (record { axis = b′; at = s })
   join-run₂ b′ c′ xb xc l₁ l₂ hp hq i j s ei ej es = rw (xb, xc, es, ei, ej) (run-2 n a m l₁ l₂ p q hp hq)
 
-  pub join-is : (i j k l : ℕ) (s t : Point) → i ≡ min (p .u) (q .u) → j ≡ max (p .u) (q .u) → s ≡ pointAt a m (i + 1) (p .v) → k ≡ min (p .v) (q .v) → l ≡ max (p .v) (q .v) → t ≡ pointAt a m (q .u) (k + 1) →
+  pub join-is : (i j k l : ℕ) (s t : Point) → i ≡ min (p .u) (q .u) → j ≡ max (p .u) (q .u) → s ≡ pointAt a m (i + 1) (p .v) → k ≡ min (p .v) (q .v) →
+      l ≡ max (p .v) (q .v) → t ≡ pointAt a m (q .u) (k + 1) →
       along b (j - i) (record { axis = c; at = s }) ++ along c (l - k) (record { axis = b; at = t }) ≡ path a m p q
   join-is i j k l s t ei ej es ek el et = rw (es, et, ei, ej, ek, el, eb, ec) (sym (path-runs a m p q))
 
@@ -141,9 +177,14 @@ pub two-works : (n : ℕ) (l k r : List Place) (g g₁ g₂ : List ℕ) → l ++
 two-works n l k r g g₁ g₂ e h₁ h₂ = h₂ ∙ ap (works n k) h₁ ∙ sym (works-append n l k g) ∙ ap (λ (x : List Place). works n x g) e
 
 module _ (n : ℕ) (a : Axis) (m : ℕ) (p q : Spot) (b c : Axis) (eb : b ≡ earlier a) (ec : c ≡ later a) (i j k l : ℕ) (s t : Point)
-    (ei : i ≡ min (p .u) (q .u)) (ej : j ≡ max (p .u) (q .u)) (es : s ≡ pointAt a m (i + 1) (p .v)) (ek : k ≡ min (p .v) (q .v)) (el : l ≡ max (p .v) (q .v)) (et : t ≡ pointAt a m (q .u) (k + 1)) where
-  pub join-turns : (g g₁ g₂ : List ℕ) → g₁ ≡ turns n (along b (j - i) (record { axis = c; at = s })) g → g₂ ≡ turns n (along c (l - k) (record { axis = b; at = t })) g₁ → g₂ ≡ turns n (path a m p q) g
-  join-turns g g₁ g₂ h₁ h₂ = two-runs n (along b (j - i) (record { axis = c; at = s })) (along c (l - k) (record { axis = b; at = t })) (path a m p q) g g₁ g₂ (join-is n a m p q b c eb ec i j k l s t ei ej es ek el et) h₁ h₂
+    (ei : i ≡ min (p .u) (q .u)) (ej : j ≡ max (p .u) (q .u)) (es : s ≡ pointAt a m (i + 1) (p .v)) (ek : k ≡ min (p .v) (q .v))
+    (el : l ≡ max (p .v) (q .v)) (et : t ≡ pointAt a m (q .u) (k + 1)) where
+  pub join-turns : (g g₁ g₂ : List ℕ) → g₁ ≡ turns n (along b (j - i) (record { axis = c; at = s })) g → g₂ ≡ turns n
+      (along c (l - k) (record { axis = b; at = t })) g₁ → g₂ ≡ turns n (path a m p q) g
+  join-turns g g₁ g₂ h₁ h₂ = two-runs n (along b (j - i) (record { axis = c; at = s })) (along c (l - k) (record { axis = b; at = t })) (path a m p q)
+      g g₁ g₂ (join-is n a m p q b c eb ec i j k l s t ei ej es ek el et) h₁ h₂
 
-  pub join-works : (g g₁ g₂ : List ℕ) → g₁ ≡ works n (along b (j - i) (record { axis = c; at = s })) g → g₂ ≡ works n (along c (l - k) (record { axis = b; at = t })) g₁ → g₂ ≡ works n (path a m p q) g
-  join-works g g₁ g₂ h₁ h₂ = two-works n (along b (j - i) (record { axis = c; at = s })) (along c (l - k) (record { axis = b; at = t })) (path a m p q) g g₁ g₂ (join-is n a m p q b c eb ec i j k l s t ei ej es ek el et) h₁ h₂
+  pub join-works : (g g₁ g₂ : List ℕ) → g₁ ≡ works n (along b (j - i) (record { axis = c; at = s })) g → g₂ ≡ works n
+      (along c (l - k) (record { axis = b; at = t })) g₁ → g₂ ≡ works n (path a m p q) g
+  join-works g g₁ g₂ h₁ h₂ = two-works n (along b (j - i) (record { axis = c; at = s })) (along c (l - k) (record { axis = b; at = t }))
+      (path a m p q) g g₁ g₂ (join-is n a m p q b c eb ec i j k l s t ei ej es ek el et) h₁ h₂

@@ -54,10 +54,12 @@ turn-above n f s i h = go (ℕ-discrete i (pointNumber n (f .at)))
     b : ℕ
     b = toggle (f .axis) (getD s (pointNumber n (f .at)) 0)
 
-    go : Dec (i ≡ pointNumber n (f .at)) → above (getD (set s (pointNumber n (f .at)) (toggle (f .axis) (getD s (pointNumber n (f .at)) 0))) i 0) ≡ above (getD s i 0)
+    go : Dec (i ≡ pointNumber n (f .at)) → above (getD (set s (pointNumber n (f .at)) (toggle (f .axis) (getD s (pointNumber n (f .at)) 0))) i 0) ≡
+        above (getD s i 0)
     go (yes e) =
         ap (λ (k : ℕ). above (getD (turnOne n f s) k 0)) e
-        ∙ ap above (getD-set-same s (pointNumber n (f .at)) b 0 h) ∙ toggle-above (f .axis) (getD s (pointNumber n (f .at)) 0) ∙ ap (λ (k : ℕ). above (getD s k 0)) (sym e)
+        ∙ ap above (getD-set-same s (pointNumber n (f .at)) b 0 h) ∙ toggle-above (f .axis) (getD s (pointNumber n (f .at)) 0) ∙ ap
+        (λ (k : ℕ). above (getD s k 0)) (sym e)
     go (no e) = ap above (getD-set-other s (pointNumber n (f .at)) i b 0 e)
 
 turn-past : (n : ℕ) (f : Place) (s : List ℕ) (i : ℕ) → pointNumber n (f .at) < i → getD (turnOne n f s) i 0 ≡ getD s i 0
@@ -81,15 +83,20 @@ module _ (n : ℕ) where
       let b = num-below n (f .at) (h .0) in
       turns-past l (turnOne n f s) i (h .1) k ∙ turn-past n f s i (omega arith)
 
-  stored-turn : (f : Place) (s : List ℕ) → OfGrid n (f .at) → pointCount n ≤ length s → (a : Axis) (p : Point) → OfGrid n p → stored n (turnOne n f s) a p ≡ stored n s a p ⊕ samePlace f (record { axis = a; at = p })
+  stored-turn : (f : Place) (s : List ℕ) → OfGrid n (f .at) → pointCount n ≤ length s → (a : Axis) (p : Point) → OfGrid n p → stored n (turnOne n f s)
+      a p ≡ stored n s a p ⊕ samePlace f (record { axis = a; at = p })
   unfolding turnAt
-  stored-turn f s b k a p h = stored-set n s (f .at) (toggle (f .axis) (getD s (pointNumber n (f .at)) 0)) (omega arith) k a p (omega arith) ∙ go (samePoint (f .at) p) refl
+  stored-turn f s b k a p h = stored-set n s (f .at) (toggle (f .axis) (getD s (pointNumber n (f .at)) 0)) (omega arith) k a p (omega arith) ∙ go
+      (samePoint (f .at) p) refl
     where
-      go : (c : Bool) → samePoint (f .at) p ≡ c → cond c (has a (toggle (f .axis) (getD s (pointNumber n (f .at)) 0))) (stored n s a p) ≡ stored n s a p ⊕ (sameAxis (f .axis) a && c)
-      go true e = toggle-any (f .axis) a (getD s (pointNumber n (f .at)) 0) ∙ ap₂ _⊕_ (ap (λ (r : Point). stored n s a r) (samePoint→ (f .at) p e)) (sym (&&-true (sameAxis (f .axis) a)))
+      go : (c : Bool) → samePoint (f .at) p ≡ c → cond c (has a (toggle (f .axis) (getD s (pointNumber n (f .at)) 0))) (stored n s a p) ≡ stored n s a
+          p ⊕ (sameAxis (f .axis) a && c)
+      go true e = toggle-any (f .axis) a (getD s (pointNumber n (f .at)) 0) ∙ ap₂ _⊕_ (ap (λ (r : Point). stored n s a r) (samePoint→ (f .at) p e))
+          (sym (&&-true (sameAxis (f .axis) a)))
       go false e = sym (ap (λ (b : Bool). stored n s a p ⊕ b) (&&-false (sameAxis (f .axis) a)) ∙ ⊕-false (stored n s a p))
 
-  pub stored-turns : (l : List Place) (s : List ℕ) → All (Low n) l → pointCount n ≤ length s → (a : Axis) (p : Point) → OfGrid n p → stored n (turns n l s) a p ≡ stored n s a p ⊕ setOf l a p
+  pub stored-turns : (l : List Place) (s : List ℕ) → All (Low n) l → pointCount n ≤ length s → (a : Axis) (p : Point) → OfGrid n p → stored n
+      (turns n l s) a p ≡ stored n s a p ⊕ setOf l a p
   stored-turns [] s h k a p b = sym (⊕-false (stored n s a p))
   stored-turns (f ∷ l) s h k a p b =
       let e = turn-length n f s in
@@ -100,7 +107,9 @@ module _ (n : ℕ) where
 -- ---- the four faces of an edge
 pred-eq : (k m : ℕ) → 1 ≤ k → eqb (pred k) m ≡ eqb k (suc m)
 pred-eq zero m h = absurd (omega arith)
-pred-eq (suc k) m h = let q : pred (suc k) ≡ k = omega arith in same-test (eqb (pred (suc k)) m) (eqb (suc k) (suc m)) (λ e. let r = eqb→ (pred (suc k)) m e in eqb-yes (suc k) (suc m) (omega arith)) (λ e. let r = eqb→ (suc k) (suc m) e in eqb-yes (pred (suc k)) m (omega arith))
+pred-eq (suc k) m h = let q : pred (suc k) ≡ k = omega arith in same-test (eqb (pred (suc k)) m) (eqb (suc k) (suc m))
+    (λ e. let r = eqb→ (pred (suc k)) m e in eqb-yes (suc k) (suc m) (omega arith))
+    (λ e. let r = eqb→ (suc k) (suc m) e in eqb-yes (pred (suc k)) m (omega arith))
 
 same-down : (a : Axis) (p q : Point) → 1 ≤ coord a p → samePoint (down a p) q ≡ samePoint p (up a q)
 same-down X p q h = ap (λ (b : Bool). b && (eqb (p .j) (q .j) && eqb (p .k) (q .k))) (pred-eq (p .i) (q .i) h)
@@ -119,7 +128,8 @@ tail-3 x y = simp xors
 tail-4 : (x y : Bool) → x ⊕ (false ⊕ (y ⊕ (false ⊕ false))) ≡ ((false ⊕ false) ⊕ (false ⊕ false)) ⊕ ((x ⊕ false) ⊕ (y ⊕ false))
 tail-4 x y = simp xors
 
-four-faces : (c : Axis) (p : Point) → 1 ≤ coord (earlier c) p → 1 ≤ coord (later c) p → (d : Axis) (q : Point) → setOf (facesOf (record { axis = c; at = p })) d q ≡ oddFace (setOf (record { axis = c; at = p } ∷ [])) d q
+four-faces : (c : Axis) (p : Point) → 1 ≤ coord (earlier c) p → 1 ≤ coord (later c) p → (d : Axis) (q : Point) → setOf
+    (facesOf (record { axis = c; at = p })) d q ≡ oddFace (setOf (record { axis = c; at = p } ∷ [])) d q
 four-faces X p h k X q = refl
 four-faces X p h k Y q = ap (λ (y : Bool). samePoint p q ⊕ (false ⊕ (y ⊕ (false ⊕ false)))) (same-down Z p q k) ∙ tail-1 (samePoint p q) (samePoint p (up Z q))
 four-faces X p h k Z q = ap (λ (y : Bool). false ⊕ (samePoint p q ⊕ (false ⊕ (y ⊕ false)))) (same-down Y p q h) ∙ tail-3 (samePoint p q) (samePoint p (up Y q))
@@ -146,7 +156,8 @@ low-faces n (e ∷ l) h =
     let b = h .0 .in-grid in
     (b, (b, (down-grid n (later (e .axis)) (e .at) b, (down-grid n (earlier (e .axis)) (e .at) b, low-faces n l (h .1)))))
 
-pub stored-works : (n : ℕ) (l : List Place) (s : List ℕ) → All (Edged n) l → pointCount n ≤ length s → (a : Axis) (p : Point) → OfGrid n p → stored n (works n l s) a p ≡ stored n s a p ⊕ oddFace (setOf l) a p
+pub stored-works : (n : ℕ) (l : List Place) (s : List ℕ) → All (Edged n) l → pointCount n ≤ length s → (a : Axis) (p : Point) → OfGrid n p → stored n
+    (works n l s) a p ≡ stored n s a p ⊕ oddFace (setOf l) a p
 stored-works n l s h k a p b = stored-turns n (each facesOf l) s (low-faces n l h) k a p b ∙ ap (λ (x : Bool). stored n s a p ⊕ x) (each-faces n l h a p)
 
 -- ---- the four faces of an edge, by the table: two of the cell whose lowest corner is its point, two of the cell that has it as its upper edge
@@ -200,10 +211,12 @@ module _ (n : ℕ) (a : Axis) (at : ℕ) (h : Edged n (record { axis = a; at = p
   lower-fits b f e = face-fits at f (lowerFace b) p e (here-is b) (omega arith) (h .in-grid)
 
   pub earlier-fits : (k : ℕ) → Below k → (f : Place) → f ≡ upperFace (earlier a) → OfGrid n (f .at) × (at - k + pointNumber n (f .at) < pointCount n)
-  earlier-fits k b f e = face-fits (at - k) f (upperFace (earlier a)) (down (later a) p) e (b .one) (step-grid (earlier a) some-cells refl) (down-grid n (later a) p (h .in-grid))
+  earlier-fits k b f e = face-fits (at - k) f (upperFace (earlier a)) (down (later a) p) e (b .one) (step-grid (earlier a) some-cells refl)
+      (down-grid n (later a) p (h .in-grid))
 
   pub later-fits : (k : ℕ) → Below k → (f : Place) → f ≡ upperFace (later a) → OfGrid n (f .at) × (at - k + pointNumber n (f .at) < pointCount n)
-  later-fits k b f e = face-fits (at - k) f (upperFace (later a)) (down (earlier a) p) e (b .two) (step-grid (later a) some-cells refl) (down-grid n (earlier a) p (h .in-grid))
+  later-fits k b f e = face-fits (at - k) f (upperFace (later a)) (down (earlier a) p) e (b .two) (step-grid (later a) some-cells refl)
+      (down-grid n (earlier a) p (h .in-grid))
 
   pub edge-fits : (e : Place) → e ≡ upperEdge a → OfGrid n (e .at)
   edge-fits e q = subst (λ (x : Place). OfGrid n (x .at)) (sym q) (go a)
@@ -217,13 +230,15 @@ module _ (n : ℕ) (a : Axis) (at : ℕ) (h : Edged n (record { axis = a; at = p
       s′ ≡ turnAt (k + pointNumber n (f .at)) (f .axis) s → s′ ≡ turnOne n (record { axis = g .axis; at = q }) s
   face-turn k f g q e r s s′ t = t ∙ ap (λ (x : Place). turnAt (k + pointNumber n (x .at)) (x .axis) s) e ∙ ap (λ (i : ℕ). turnAt i (g .axis) s) r
 
-  pub faces-turn : (k : ℕ) → Below k → (f₁ f₂ f₃ f₄ : Place) → f₁ ≡ lowerFace (earlier a) → f₂ ≡ lowerFace (later a) → f₃ ≡ upperFace (earlier a) → f₄ ≡ upperFace (later a) →
+  pub faces-turn : (k : ℕ) → Below k → (f₁ f₂ f₃ f₄ : Place) → f₁ ≡ lowerFace (earlier a) → f₂ ≡ lowerFace (later a) → f₃ ≡ upperFace (earlier a) → f₄
+      ≡ upperFace (later a) →
       (s s₁ s₂ s₃ s₄ : List ℕ) → s₁ ≡ turnAt (at + pointNumber n (f₁ .at)) (f₁ .axis) s → s₂ ≡ turnAt (at + pointNumber n (f₂ .at)) (f₂ .axis) s₁ →
       s₃ ≡ turnAt (at - k + pointNumber n (f₃ .at)) (f₃ .axis) s₂ → s₄ ≡ turnAt (at - k + pointNumber n (f₄ .at)) (f₄ .axis) s₃ →
       s₄ ≡ works n (record { axis = a; at = pointOf n at } ∷ []) s
   faces-turn k b f₁ f₂ f₃ f₄ e₁ e₂ e₃ e₄ s s₁ s₂ s₃ s₄ t₁ t₂ t₃ t₄ =
       face-turn (at - k) f₄ (upperFace (later a)) (down (earlier a) p) e₄ (b .two) s₃ s₄ t₄
-      ∙ ap (turnOne n (record { axis = later a; at = down (earlier a) p })) (face-turn (at - k) f₃ (upperFace (earlier a)) (down (later a) p) e₃ (b .one) s₂ s₃ t₃
+      ∙ ap (turnOne n (record { axis = later a; at = down (earlier a) p }))
+      (face-turn (at - k) f₃ (upperFace (earlier a)) (down (later a) p) e₃ (b .one) s₂ s₃ t₃
       ∙ ap (turnOne n (record { axis = earlier a; at = down (later a) p })) (face-turn at f₂ (lowerFace (later a)) p e₂ (here-is (later a)) s₁ s₂ t₂
       ∙ ap (turnOne n (record { axis = later a; at = p })) (face-turn at f₁ (lowerFace (earlier a)) p e₁ (here-is (earlier a)) s s₁ t₁)))
 

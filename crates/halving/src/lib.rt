@@ -169,7 +169,8 @@ fn pair_row(
     v: usize,
     first: Unpaired,
 ) -> Unpaired
-    requires { ⌜ (n ≤ 32) × (pointCount n ≤ length (now grid)) × (pointCount n ≤ length (now work)) × (1 ≤ m) × (m ≤ n) × (to ≤ n) × (v < n) × Placed n (first .spot) ⌝ }
+    requires { ⌜ (n ≤ 32) × (pointCount n ≤ length (now grid)) × (pointCount n ≤ length (now work)) × (1 ≤ m) × (m ≤ n) × (to ≤ n) × (v < n)
+        × Placed n (first .spot) ⌝ }
     ensures { λ r. ⌜ (_≡_ {A = Scan} (record { unpaired = r; grid = now (grid .exit); work = now (work .exit) }) (scanAll n a m (rowOf from (to - from) v) (record { unpaired = first; grid = now (grid .entry); work = now (work .entry) }))) × Placed n (r .spot) ⌝ }
 {
     let mut h = first;
@@ -183,8 +184,10 @@ fn pair_row(
 
 // Takes the working faces in the plane m of a box in pairs, by rising point number, and joins each pair.
 fn cut_plane(n: usize, grid: &mut [u8], work: &mut [u8], b: Box, a: Axis, m: usize)
-    requires { ⌜ (n ≤ 32) × (pointCount n ≤ length (now grid)) × (pointCount n ≤ length (now work)) × Fits n b × (coord a (b .lo) < m) × (m < coord a (b .hi)) ⌝ }
-    ensures { λ _. ⌜ (now (grid .exit) ≡ turns n (cut b (stored n (now (work .entry))) a m) (now (grid .entry))) × (now (work .exit) ≡ works n (cut b (stored n (now (work .entry))) a m) (now (work .entry))) ⌝ }
+    requires { ⌜ (n ≤ 32) × (pointCount n ≤ length (now grid)) × (pointCount n ≤ length (now work)) × Fits n b × (coord a (b .lo) < m)
+        × (m < coord a (b .hi)) ⌝ }
+    ensures { λ _. ⌜ (now (grid .exit) ≡ turns n (cut b (stored n (now (work .entry))) a m) (now (grid .entry)))
+        × (now (work .exit) ≡ works n (cut b (stored n (now (work .entry))) a m) (now (work .entry))) ⌝ }
 {
     let lo = b.lo;
     let hi = b.hi;
@@ -207,7 +210,8 @@ fn cut_plane(n: usize, grid: &mut [u8], work: &mut [u8], b: Box, a: Axis, m: usi
 // Patches a box: cuts its longest side, joins the working faces in the cut plane in pairs, and treats the two halves the same way.
 pub fn patch_box(n: usize, grid: &mut [u8], work: &mut [u8], b: Box)
     requires { ⌜ (n ≤ 32) × (pointCount n ≤ length (now grid)) × (pointCount n ≤ length (now work)) × Fits n b ⌝ }
-    ensures { λ _. ⌜ (now (grid .exit) ≡ turns n (patchOf b (stored n (now (work .entry)))) (now (grid .entry))) × (now (work .exit) ≡ works n (patchOf b (stored n (now (work .entry)))) (now (work .entry))) ⌝ }
+    ensures { λ _. ⌜ (now (grid .exit) ≡ turns n (patchOf b (stored n (now (work .entry)))) (now (grid .entry)))
+        × (now (work .exit) ≡ works n (patchOf b (stored n (now (work .entry)))) (now (work .entry))) ⌝ }
 {
     if is_one_cell(n, b) {
         return;

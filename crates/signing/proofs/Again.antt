@@ -35,7 +35,15 @@ done-again level g c =
     let long : pointsOf l ≤ length g = none-short (pointsOf l) (g ∷ []) (c .1 .0) .0 in
     let room : pointsOf l ≤ length h = (let m = signs-length n E in let k = length-append (signBytes n E) (drop (pointsOf l) g) in omega arith) in
     let marked : marks n h ≡ E = signs-marks n E (marks-inner n g) (drop (pointsOf l) g) in
-    simp (c .0, le-ltb _ _ long, le-ltb _ _ room, not-false (isGrid n g) (c .1 .1 .0), not-false (evenFaces n E) (c .1 .1 .1 .0), signs-grid n E (marks-inner n g) (drop (pointsOf l) g), marked)
+    simp (
+      c .0,
+      le-ltb _ _ long,
+      le-ltb _ _ room,
+      not-false (isGrid n g) (c .1 .1 .0),
+      not-false (evenFaces n E) (c .1 .1 .1 .0),
+      signs-grid n E (marks-inner n g) (drop (pointsOf l) g),
+      marked,
+    )
     (ap (λ (r : List ℕ). done (signBytes n E ++ r)) (drop-at (signBytes n E) (drop (pointsOf l) g) (pointsOf l) (signs-length n E)))
 
 pub sign-again : (level : ℕ) (g : List ℕ) → signCall level (signCall level g .grid) ≡ signCall level g
@@ -43,7 +51,8 @@ unfolding signCall
 sign-again level g = go (noneOf (signRows level g)) refl
   where
     left : (b : Bool) → noneOf (signRows level g) ≡ b → signCall level g .grid ≡ cond b (signed level g) g
-    left b e = answered-part (λ (o : Outcome). o .grid) (refused g) (done (signed level g)) g (λ k. refl) (signRows level g) ∙ ap (λ (c : Bool). cond c (signed level g) g) e
+    left b e = answered-part (λ (o : Outcome). o .grid) (refused g) (done (signed level g)) g (λ k. refl) (signRows level g) ∙ ap
+        (λ (c : Bool). cond c (signed level g) g) e
 
     go : (b : Bool) → noneOf (signRows level g) ≡ b → signCall level (signCall level g .grid) ≡ signCall level g
     go true e = ap (signCall level) (left true e) ∙ done-again level g (none-clear (signRows level g) e)

@@ -58,7 +58,8 @@ module _ (n : ℕ) (E : Set) where
       }
 
   -- and no others of a grid with these marks do
-  pub signs-only : (s : List ℕ) → pointCount n ≤ length s → isGrid n s ≡ true → marks n s ≡ E → Consistent n E (inside n s) → take (pointCount n) s ≡ signBytes n E
+  pub signs-only : (s : List ℕ) → pointCount n ≤ length s → isGrid n s ≡ true → marks n s ≡ E → Consistent n E (inside n s) → take (pointCount n) s ≡
+      signBytes n E
   unfolding signBytes
   signs-only s long grid e k =
       sym (take-upto s (pointCount n) long)

@@ -63,6 +63,7 @@ module _ (n : ℕ) (g : List ℕ) (long : pointCount n ≤ length g) (grid : isG
         go (no l) at e =
             let r : suc p ≡ 0 + suc n * suc (p / suc n) = (let r = mod-add-div p (suc n) in omega arith) in
             let z : suc p % suc n ≡ 0 = ap (λ (i : ℕ). i % suc n) r ∙ add-mul-mod-self-left 0 (suc n) (suc (p / suc n)) ∙ zero-mod (suc n) in
-            let u = is-false (marks n g X (pointOf n p)) (λ t. let b = inBox→ (whole n) false true true (pointOf n p) (marks-inner n g X (pointOf n p) t) in omega arith) in
+            let u = is-false (marks n g X (pointOf n p))
+            (λ t. let b = inBox→ (whole n) false true true (pointOf n p) (marks-inner n g X (pointOf n p) t) in omega arith) in
             grid-outer n g grid even X (pointOf n (suc p)) (inl z)
             ∙ sym (ap₂ _⊕_ (grid-outer n g grid even X (pointOf n p) (inr (omega arith))) (sym e ∙ u))

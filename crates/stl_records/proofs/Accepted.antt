@@ -13,5 +13,6 @@ use Rattle.stl_records.specs.File.{facings, header, fileOf}
 use Rattle.stl_records.specs.Example.{rows, example}
 
 pub example-holds : fileOf 262144 (pos 3) (facings 4 (setOf single) (sign (setOf single))) ≡ example
-unfolding single rows example facings header fileOf word vertexBytes triangleBytes pairBytes coordOf round units odd span climb size trailingZeros ofBits ofFields toBits
+unfolding single rows example facings header fileOf word vertexBytes triangleBytes pairBytes coordOf round units odd span climb size trailingZeros
+    ofBits ofFields toBits
 example-holds = refl

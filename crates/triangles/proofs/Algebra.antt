@@ -47,4 +47,5 @@ pub dot-times : (n : Vector) (w : ℕ) (v : Vector) → dot n (times w v) ≡ po
 unfolding dot times
 dot-times n w v =
     (λ i. weight-out w (n .x) (v .x) i +ℤ weight-out w (n .y) (v .y) i +ℤ weight-out w (n .z) (v .z) i)
-    ∙ sym (over-sum (pos w) (n .x *ℤ v .x +ℤ n .y *ℤ v .y) (n .z *ℤ v .z) ∙ ap (λ x. x +ℤ pos w *ℤ (n .z *ℤ v .z)) (over-sum (pos w) (n .x *ℤ v .x) (n .y *ℤ v .y)))
+    ∙ sym (over-sum (pos w) (n .x *ℤ v .x +ℤ n .y *ℤ v .y) (n .z *ℤ v .z) ∙ ap (λ x. x +ℤ pos w *ℤ (n .z *ℤ v .z))
+    (over-sum (pos w) (n .x *ℤ v .x) (n .y *ℤ v .y)))

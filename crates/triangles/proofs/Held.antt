@@ -49,5 +49,6 @@ pub near-own : (f : ℤ → ℤ → ℤ) {m : ℕ} (p q : ℤ) → mag p < 2 ^ 6
 near-own f p q g h k = record { is = λ i. f (plain p g i) (plain q h i); size = k }
 
 -- the spans as they are built, at the numbers that the locals stand for
-pub three-span : {s u v : Span} {p q r x y z : ℤ} → s ≡ spanAt p → u ≡ spanWith s q → v ≡ spanWith u r → p ≡ x → q ≡ y → r ≡ z → v ≡ spanWith (spanWith (spanAt x) y) z
+pub three-span : {s u v : Span} {p q r x y z : ℤ} → s ≡ spanAt p → u ≡ spanWith s q → v ≡ spanWith u r → p ≡ x → q ≡ y → r ≡ z → v ≡ spanWith
+    (spanWith (spanAt x) y) z
 three-span a b c f g h = cc

@@ -27,7 +27,8 @@ listed-at f (suc n) i (suc k) h = listed-at f n (suc i) k (le-of-suc-le-suc h) �
 -- the nine crossed axes by number: unit vector k / 3, side k % 3
 pub crossed-at : (t : Triangle) (k : ℕ) → k < 9 → getD (crossed t) k nought ≡ cross (getD units (k / 3) nought) (getD (sides t) (k % 3) nought)
 unfolding crossed crossEach units sides
-crossed-at t k h = listed-at (λ j. cross (getD units (j / 3) nought) (getD (sides t) (j % 3) nought)) 9 0 k h ∙ ap (λ (j : ℕ). cross (getD units (j / 3) nought) (getD (sides t) (j % 3) nought)) (zero-add k)
+crossed-at t k h = listed-at (λ j. cross (getD units (j / 3) nought) (getD (sides t) (j % 3) nought)) 9 0 k h ∙ ap
+    (λ (j : ℕ). cross (getD units (j / 3) nought) (getD (sides t) (j % 3) nought)) (zero-add k)
 
 -- the ten axes behind the unit vectors are ten
 pub ten : (t : Triangle) {k : ℕ} → k < 10 → k < length (laterAxes t)

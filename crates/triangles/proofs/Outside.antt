@@ -37,7 +37,8 @@ module _ (t : Triangle) (e : Ends) (d : ℕ) (h : d < 3) (m : ℤ) where
   unit-enough s = separated-not-met t e d (omega arith) (rw (axis-unit t d h) s)
 
   -- no vertex reaches past m, and both ends lie past it
-  pub triangle-first-not-met : along (t .a) d ≤ℤ m → along (t .b) d ≤ℤ m → along (t .c) d ≤ℤ m → m <ℤ along (e .from) d → m <ℤ along (e .to) d → edgeMet t e ≡ false
+  pub triangle-first-not-met : along (t .a) d ≤ℤ m → along (t .b) d ≤ℤ m → along (t .c) d ≤ℤ m → m <ℤ along (e .from) d → m <ℤ along (e .to) d →
+      edgeMet t e ≡ false
   unfolding separates
   triangle-first-not-met a b c p q =
       unit-enough

@@ -28,10 +28,12 @@ module _ (t : Triangle) (e : Ends) (h : Shared t e) (n : Vector) where
   unfolding of-vertices of-ends
   same-dot = sym vertices ∙ ap (dot n) (h .same-place) ∙ ends
     where
-      vertices : dot n (plus (plus (times (h .of-a) (t .a)) (times (h .of-b) (t .b))) (times (h .of-c) (t .c))) ≡ pos (h .of-a) *ℤ dot n (t .a) +ℤ pos (h .of-b) *ℤ dot n (t .b) +ℤ pos (h .of-c) *ℤ dot n (t .c)
+      vertices : dot n (plus (plus (times (h .of-a) (t .a)) (times (h .of-b) (t .b))) (times (h .of-c) (t .c))) ≡ pos (h .of-a) *ℤ dot n (t .a) +ℤ pos
+          (h .of-b) *ℤ dot n (t .b) +ℤ pos (h .of-c) *ℤ dot n (t .c)
       vertices =
           dot-plus n (plus (times (h .of-a) (t .a)) (times (h .of-b) (t .b))) (times (h .of-c) (t .c))
-          ∙ (λ i. (dot-plus n (times (h .of-a) (t .a)) (times (h .of-b) (t .b)) ∙ (λ j. dot-times n (h .of-a) (t .a) j +ℤ dot-times n (h .of-b) (t .b) j)) i +ℤ dot-times n (h .of-c) (t .c) i)
+          ∙ (λ i. (dot-plus n (times (h .of-a) (t .a)) (times (h .of-b) (t .b)) ∙
+          (λ j. dot-times n (h .of-a) (t .a) j +ℤ dot-times n (h .of-b) (t .b) j)) i +ℤ dot-times n (h .of-c) (t .c) i)
 
       ends : dot n (plus (times (h .of-from) (e .from)) (times (h .of-to) (e .to))) ≡ pos (h .of-from) *ℤ dot n (e .from) +ℤ pos (h .of-to) *ℤ dot n (e .to)
       ends =

@@ -66,6 +66,7 @@ ends-held n e =
     record { from-held = still-held s (dot n (e .to)) (alone-held (dot n (e .from))); to-held = new-held s (dot n (e .to)) }
 
 -- and an edge whose spans share a number with the triangle's on each axis is met
-pub touching-meets : (t : Triangle) (e : Ends) (p : ℕ → ℤ) → ((k : ℕ) → k < 13 → Holds (triangleSpan (getD (axes t) k nought) t) (p k) × Holds (edgeSpan (getD (axes t) k nought) e) (p k)) → edgeMet t e ≡ true
+pub touching-meets : (t : Triangle) (e : Ends) (p : ℕ → ℤ) →
+    ((k : ℕ) → k < 13 → Holds (triangleSpan (getD (axes t) k nought) t) (p k) × Holds (edgeSpan (getD (axes t) k nought) e) (p k)) → edgeMet t e ≡ true
 unfolding separates
 touching-meets t e p h = met-exactly t e .1 (λ k b. touching-not-apart (h k b .0) (h k b .1))

@@ -29,7 +29,8 @@ unit-dot (suc (suc zero)) h v = (λ i. zero-*ℤ (v .x) i +ℤ zero-*ℤ (v .y) 
 unit-dot (suc (suc (suc d))) h v = absurd (none h)
 
 -- so its spans are those of the coordinates
-pub triangle-along : (d : ℕ) → d < 3 → (t : Triangle) → triangleSpan (getD units d nought) t ≡ spanWith (spanWith (spanAt (along (t .a) d)) (along (t .b) d)) (along (t .c) d)
+pub triangle-along : (d : ℕ) → d < 3 → (t : Triangle) → triangleSpan (getD units d nought) t ≡ spanWith
+    (spanWith (spanAt (along (t .a) d)) (along (t .b) d)) (along (t .c) d)
 unfolding triangleSpan
 triangle-along d h t = simp (unit-dot d h)
 

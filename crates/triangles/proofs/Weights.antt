@@ -58,7 +58,8 @@ no-gap : (a : ℤ) (k : ℕ) → 0 < k → Gap (a +ℤ pos k) a → ⊥
 no-gap a k h g =
     let e : a +ℤ pos (k + g .by) ≡ a = sym (+ℤ-assoc a (pos k) (pos (g .by))) ∙ g .is in
     let z : k + g .by ≡ 0 =
-    ap natAbs (sym (+ℤ-idl (pos (k + g .by))) ∙ ap (λ x. x +ℤ pos (k + g .by)) (sym (+ℤ-invl a)) ∙ +ℤ-assoc (negℤ a) a (pos (k + g .by)) ∙ ap (λ x. negℤ a +ℤ x) e ∙ +ℤ-invl a) in
+    ap natAbs (sym (+ℤ-idl (pos (k + g .by))) ∙ ap (λ x. x +ℤ pos (k + g .by)) (sym (+ℤ-invl a)) ∙ +ℤ-assoc (negℤ a) a (pos (k + g .by)) ∙ ap
+    (λ x. negℤ a +ℤ x) e ∙ +ℤ-invl a) in
     omega arith
 
 some : {a b : ℤ} (n : ℕ) → a +ℤ pos n ≡ b → a <ℤ b → 0 < n

@@ -18,7 +18,8 @@ use Rattle.walking.proofs.Steps.{start-live, step-live}
 
 module _ (n : ℕ) (w₀ : List ℕ) (seed : Point) (size : pointCount n ≤ length w₀) (fine : Fine n w₀) where
   -- one step takes one from what is left
-  step-left : (s : Walked) → Live n (oddIn n w₀) w₀ seed s → s .walk .on ≡ true → Live n (oddIn n w₀) w₀ seed (stepOf n (oddIn n w₀) s) × (suc (left n (stepOf n (oddIn n w₀) s)) ≡ left n s)
+  step-left : (s : Walked) → Live n (oddIn n w₀) w₀ seed s → s .walk .on ≡ true → Live n (oddIn n w₀) w₀ seed (stepOf n (oddIn n w₀) s) ×
+      (suc (left n (stepOf n (oddIn n w₀) s)) ≡ left n s)
   step-left s h o =
       let k = step-live n (oddIn n w₀) w₀ seed (odd-inside n w₀) size (odd-face n w₀ fine) s (h .on o) in
       (k .0, k .1 ∙ sym (ap (λ (x : Bool). cond x (suc (s .walk .depth + 2 * darkCells n (s .work))) (2 * darkCells n (s .work))) o))
@@ -40,7 +41,8 @@ module _ (n : ℕ) (w₀ : List ℕ) (seed : Point) (size : pointCount n ≤ len
       go false e = (0, s, stay, e)
   ends (suc m) s h l = go (s .walk .on) refl (ends m)
     where
-      go : (x : Bool) → s .walk .on ≡ x → ((t : Walked) → Live n (oddIn n w₀) w₀ seed t → left n t ≤ m → (k : ℕ) × (u : Walked) × Steps n (oddIn n w₀) t k u × (u .walk .on ≡ false)) →
+      go : (x : Bool) → s .walk .on ≡ x → ((t : Walked) → Live n (oddIn n w₀) w₀ seed t → left n t ≤ m → (k : ℕ) × (u : Walked) × Steps n (oddIn n w₀)
+          t k u × (u .walk .on ≡ false)) →
           (k : ℕ) × (t : Walked) × Steps n (oddIn n w₀) s k t × (t .walk .on ≡ false)
       go true e r =
           let i = step-left s h e in
@@ -50,7 +52,8 @@ module _ (n : ℕ) (w₀ : List ℕ) (seed : Point) (size : pointCount n ≤ len
       go false e r = (0, s, stay, e)
 
 -- every walk ends
-pub walk-ends : (n : ℕ) (w : List ℕ) (seed : Point) → Cell n seed → seenB n w seed ≡ false → Fine n w → pointCount n ≤ length w → (k : ℕ) × (u : List ℕ) × Whole n w k u
+pub walk-ends : (n : ℕ) (w : List ℕ) (seed : Point) → Cell n seed → seenB n w seed ≡ false → Fine n w → pointCount n ≤ length w → (k : ℕ) ×
+    (u : List ℕ) × Whole n w k u
 walk-ends n w seed cell unseen fine long =
     let t = ends n w seed long fine _ (startOf n w seed) (start-live n (oddIn n w) w seed (odd-inside n w) long (odd-face n w fine) cell unseen) (le-refl _) in
     (t .0, t .1 .work, record { seed = seed; cell = cell; unseen = unseen; fine = fine; long = long; last = t .1; steps = t .2; off = t .3; work = refl })
@@ -58,9 +61,11 @@ walk-ends n w seed cell unseen fine long =
 -- it takes one step less than twice the cells that it sees
 pub walk-steps : (n : ℕ) (w : List ℕ) (k : ℕ) (u : List ℕ) → Whole n w k u → k + 1 + 2 * darkCells n u ≡ 2 * darkCells n w
 walk-steps n w k u h =
-    let e = steps-left n w (h .seed) (h .long) (h .fine) (h .steps) (start-live n (oddIn n w) w (h .seed) (odd-inside n w) (h .long) (odd-face n w (h .fine)) (h .cell) (h .unseen)) in
+    let e = steps-left n w (h .seed) (h .long) (h .fine) (h .steps)
+    (start-live n (oddIn n w) w (h .seed) (odd-inside n w) (h .long) (odd-face n w (h .fine)) (h .cell) (h .unseen)) in
     let d = dark-enter n (h .seed) 0 (let z : 0 < 8 = omega arith in z) w (h .long) (h .cell) (h .unseen) in
-    let o : left n (h .last) ≡ 2 * darkCells n (h .last .work) = ap (λ (x : Bool). cond x (suc (h .last .walk .depth + 2 * darkCells n (h .last .work))) (2 * darkCells n (h .last .work))) (h .off) in
+    let o : left n (h .last) ≡ 2 * darkCells n (h .last .work) = ap
+    (λ (x : Bool). cond x (suc (h .last .walk .depth + 2 * darkCells n (h .last .work))) (2 * darkCells n (h .last .work))) (h .off) in
     let q : darkCells n (h .last .work) ≡ darkCells n u = ap (darkCells n) (h .work) in
     omega arith
 

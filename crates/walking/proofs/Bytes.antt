@@ -33,7 +33,8 @@ bit-less false false = refl
 pub odd-face : (n : ℕ) (w : List ℕ) → Fine n w → (a : Axis) (p : Point) → OfGrid n p → aside n w a p ≡ oddIn n w a p
 unfolding oddIn
 odd-face n w h a p b =
-    same-test (aside n w a p) (faceIn (whole n) a p && aside n w a p) (λ e. both _ _ (h .between a p b e) e) (λ e. and-right (faceIn (whole n) a p) (aside n w a p) e)
+    same-test (aside n w a p) (faceIn (whole n) a p && aside n w a p) (λ e. both _ _ (h .between a p b e) e)
+    (λ e. and-right (faceIn (whole n) a p) (aside n w a p) e)
 
 pub odd-inside : (n : ℕ) (w : List ℕ) (a : Axis) (p : Point) → oddIn n w a p ≡ true → faceIn (whole n) a p ≡ true
 unfolding oddIn
@@ -111,4 +112,5 @@ module _ (n : ℕ) (d : Point) (v : ℕ) (small : v < 8) (w : List ℕ) (long : 
 
   -- what has been seen stays seen
   pub light-grows : (q : Point) → OfGrid n q → seenB n w q ≡ true → seenB n (lightOf n d v w) q ≡ true
-  light-grows q h e = at-or (λ p. seenB n (lightOf n d v w) p ≡ true) q h light-seen (λ k. seen-same n w (lightOf n d v w) q (light-other (pointNumber n q) k) ∙ e)
+  light-grows q h e = at-or (λ p. seenB n (lightOf n d v w) p ≡ true) q h light-seen
+      (λ k. seen-same n w (lightOf n d v w) q (light-other (pointNumber n q) k) ∙ e)

@@ -60,7 +60,8 @@ dark-same n w v h (suc k) l =
     ap₂ (λ (x : Bool) (m : ℕ). cond x m (suc m)) (h (cellOf n k) (is-cell n k (omega arith))) (dark-same n w v h k (omega arith))
 
 -- one more cell has been seen
-module _ (n : ℕ) (w v : List ℕ) (d : Point) (cell : Cell n d) (dark : seenB n w d ≡ false) (lit : seenB n v d ≡ true) (rest : (q : Point) → Cell n q → (q ≡ d → ⊥) → seenB n v q ≡ seenB n w q) where
+module _ (n : ℕ) (w v : List ℕ) (d : Point) (cell : Cell n d) (dark : seenB n w d ≡ false) (lit : seenB n v d ≡ true)
+    (rest : (q : Point) → Cell n q → (q ≡ d → ⊥) → seenB n v q ≡ seenB n w q) where
   below : (k : ℕ) → k ≤ cellNumber n d → k ≤ n * n * n → darkBelow n v k ≡ darkBelow n w k
   below zero h l = refl
   below (suc k) h l =
@@ -72,7 +73,8 @@ module _ (n : ℕ) (w v : List ℕ) (d : Point) (cell : Cell n d) (dark : seenB 
   from zero h l = absurd (omega arith)
   from (suc k) h l = go (ℕ-discrete (cellNumber n d) k) (from k)
     where
-      go : Dec (cellNumber n d ≡ k) → (cellNumber n d < k → k ≤ n * n * n → suc (darkBelow n v k) ≡ darkBelow n w k) → suc (darkBelow n v (suc k)) ≡ darkBelow n w (suc k)
+      go : Dec (cellNumber n d ≡ k) → (cellNumber n d < k → k ≤ n * n * n → suc (darkBelow n v k) ≡ darkBelow n w k) → suc (darkBelow n v (suc k)) ≡
+          darkBelow n w (suc k)
       go (yes e) r =
           let p : cellOf n k ≡ d = ap (cellOf n) (sym e) ∙ cell-of n d cell in
           let x : seenB n v (cellOf n k) ≡ true = ap (seenB n v) p ∙ lit in
@@ -83,7 +85,8 @@ module _ (n : ℕ) (w v : List ℕ) (d : Point) (cell : Cell n d) (dark : seenB 
           (rest (cellOf n k) (is-cell n k (omega arith)) (λ q. e (ap (cellNumber n) (sym q) ∙ number-cell n k)))
           (r (omega arith) (omega arith))
         where
-          keep : (x y : Bool) → y ≡ x → suc (darkBelow n v k) ≡ darkBelow n w k → suc (cond y (darkBelow n v k) (suc (darkBelow n v k))) ≡ cond x (darkBelow n w k) (suc (darkBelow n w k))
+          keep : (x y : Bool) → y ≡ x → suc (darkBelow n v k) ≡ darkBelow n w k → suc (cond y (darkBelow n v k) (suc (darkBelow n v k))) ≡ cond x
+              (darkBelow n w k) (suc (darkBelow n w k))
           keep true true p s = s
           keep true false p s = absurd (true≢false (sym p))
           keep false true p s = absurd (true≢false p)
@@ -95,7 +98,8 @@ module _ (n : ℕ) (w v : List ℕ) (d : Point) (cell : Cell n d) (dark : seenB 
 -- a cell is seen that had not been, or that had been
 module _ (n : ℕ) (d : Point) (v : ℕ) (small : v < 8) (w : List ℕ) (long : pointCount n ≤ length w) (cell : Cell n d) where
   others : (q : Point) → Cell n q → (q ≡ d → ⊥) → seenB n (lightOf n d v w) q ≡ seenB n w q
-  others q c h = seen-same n w (lightOf n d v w) q (light-other n d v small w long (cell-grid n d cell) (pointNumber n q) (λ e. h (number-inj n q d (cell-grid n q c) (cell-grid n d cell) e)))
+  others q c h = seen-same n w (lightOf n d v w) q
+      (light-other n d v small w long (cell-grid n d cell) (pointNumber n q) (λ e. h (number-inj n q d (cell-grid n q c) (cell-grid n d cell) e)))
 
   pub dark-enter : seenB n w d ≡ false → suc (darkBelow n (lightOf n d v w) (n * n * n)) ≡ darkBelow n w (n * n * n)
   dark-enter e = dark-less n w (lightOf n d v w) d cell e (light-seen n d v small w long (cell-grid n d cell)) others

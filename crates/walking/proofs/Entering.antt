@@ -26,7 +26,8 @@ use Rattle.walking.proofs.Dark.{dark-enter}
 use Rattle.walking.proofs.Trail.{not-same, trailOf, Trail, trail-new, trail-lit, byte-on, new-on, trail-on, new-was, each-on, done-on}
 use Rattle.walking.proofs.Invariant.{Settled, Inv, left}
 
-module _ (n : ℕ) (F : Set) (w₀ : List ℕ) (seed : Point) (inside : (a : Axis) (p : Point) → F a p ≡ true → faceIn (whole n) a p ≡ true) (size : pointCount n ≤ length w₀) where
+module _ (n : ℕ) (F : Set) (w₀ : List ℕ) (seed : Point) (inside : (a : Axis) (p : Point) → F a p ≡ true → faceIn (whole n) a p ≡ true)
+    (size : pointCount n ≤ length w₀) where
   module _ (s : Walked) (h : Inv n F w₀ seed s) (f : ℕ) (l : f < 6) (o : openB n F (s .work) (s .walk .cell) f ≡ true) where
     abbrev c : Point
     c = s .walk .cell

@@ -184,7 +184,8 @@ module _ (a : Axis) (e : Place) (q : e ≡ upperFace a) where
       go Z k = (omega arith, omega arith, omega arith)
 
   offset-is : (c : Point) (x y : ℕ) →
-      record { i = c .i + x * e .at .i - y * e .at .i; j = c .j + x * e .at .j - y * e .at .j; k = c .k + x * e .at .k - y * e .at .k } ≡ withCoord a (coord a c + x - y) c
+      record { i = c .i + x * e .at .i - y * e .at .i; j = c .j + x * e .at .j - y * e .at .j; k = c .k + x * e .at .k - y * e .at .k } ≡ withCoord a
+      (coord a c + x - y) c
   offset-is c x y = rw q (go a)
     where
       none : (k : ℕ) → k + x * 0 - y * 0 ≡ k
@@ -194,7 +195,12 @@ module _ (a : Axis) (e : Place) (q : e ≡ upperFace a) where
       one k = omega arith
 
       go : (b : Axis) →
-          record { i = c .i + x * up b origin .i - y * up b origin .i; j = c .j + x * up b origin .j - y * up b origin .j; k = c .k + x * up b origin .k - y * up b origin .k }
+          record {
+            i = c .i + x * up b origin .i - y * up b origin .i;
+            j = c .j + x * up b origin .j - y * up b origin .j;
+            k = c .k + x * up b
+                origin .k - y * up b origin .k;
+          }
           ≡ withCoord b (coord b c + x - y) c
       go X = λ t. record { i = one (c .i) t; j = none (c .j) t; k = none (c .k) t }
       go Y = λ t. record { i = none (c .i) t; j = one (c .j) t; k = none (c .k) t }

@@ -28,7 +28,8 @@ module _ (n : ℕ) (F : Set) (w₀ : List ℕ) (seed : Point) where
     pub each : (q : Point) → OfGrid n q → (getD (s .work) (pointNumber n q) 0 ≡ getD w₀ (pointNumber n q) 0) ⊎ New n F w₀ (s .work) seed q
     pub first : New n F w₀ (s .work) seed seed
     pub trail : Trail n F w₀ seed (s .work) (s .walk .depth) (s .walk .cell)
-    pub closed : (q : Point) → New n F w₀ (s .work) seed q → anyOf (samePoint q) (trailOf n (s .work) (s .walk .depth) (s .walk .cell)) ≡ false → Settled (s .work) q
+    pub closed : (q : Point) → New n F w₀ (s .work) seed q → anyOf (samePoint q) (trailOf n (s .work) (s .walk .depth) (s .walk .cell)) ≡ false →
+        Settled (s .work) q
     pub holds : (q : Point) → New n F w₀ (s .work) seed q → Sub (cellBox q) (s .walk .reach)
     pub least : (c : Box) → ((q : Point) → New n F w₀ (s .work) seed q → Sub (cellBox q) c) → Sub (s .walk .reach) c
     pub room : s .walk .depth + 2 * darkCells n (s .work) ≤ 2 * (n * n * n)

@@ -25,7 +25,8 @@ use Rattle.walking.proofs.FirstOpen.{first-none}
 use Rattle.walking.proofs.Trail.{not-same, trailOf, Trail, trail-new, byte-on, new-on, trail-on, new-was, each-on, done-on}
 use Rattle.walking.proofs.Invariant.{Settled, Inv, left}
 
-module _ (n : ℕ) (F : Set) (w₀ : List ℕ) (seed : Point) (inside : (a : Axis) (p : Point) → F a p ≡ true → faceIn (whole n) a p ≡ true) (size : pointCount n ≤ length w₀)
+module _ (n : ℕ) (F : Set) (w₀ : List ℕ) (seed : Point) (inside : (a : Axis) (p : Point) → F a p ≡ true → faceIn (whole n) a p ≡ true)
+    (size : pointCount n ≤ length w₀)
     (bits : (a : Axis) (p : Point) → OfGrid n p → aside n w₀ a p ≡ F a p) where
   module _ (s : Walked) (h : Inv n F w₀ seed s) (none : 6 ≤ firstOpen n F (s .work) (s .walk .cell) 6 0) where
     abbrev c : Point
@@ -90,7 +91,8 @@ module _ (n : ℕ) (F : Set) (w₀ : List ℕ) (seed : Point) (inside : (a : Axi
           where
             go : (x : Bool) → seenB n w (acrossOf f c) ≡ x → seenB n w (acrossOf f c) ≡ true
             go true e = e
-            go false e = absurd (true≢false (sym (both (oddAt F f c) (not (seenB n w (acrossOf f c))) o (ap not e)) ∙ first-none n F w c 6 0 none f (omega arith) l))
+            go false e = absurd (true≢false (sym (both (oddAt F f c) (not (seenB n w (acrossOf f c))) o (ap not e)) ∙ first-none n F w c 6 0 none f
+                (omega arith) l))
 
         faces : (a : Axis) → stored n u a c ≡ F a c
         faces a = light-low n _ _ little w size″ here-grid a ∙ h .odds a c here-grid ∙ bits a c here-grid

@@ -41,12 +41,15 @@ module _ (n : ℕ) (w : List ℕ) (at f : ℕ) (cell : Cell n (pointOf n at)) (f
   pub some-cells : 1 ≤ n
   some-cells = omega arith
 
-  pub odd-is : (e : Place) → e ≡ faceRule f → (p : ℕ) → p ≡ pointNumber n (faceOf f (pointOf n at) .at) → odd (e .axis) (getD w p 0) ≡ oddAt (oddIn n w) f (pointOf n at)
+  pub odd-is : (e : Place) → e ≡ faceRule f → (p : ℕ) → p ≡ pointNumber n (faceOf f (pointOf n at) .at) → odd (e .axis) (getD w p 0) ≡ oddAt
+      (oddIn n w) f (pointOf n at)
   unfolding faceOf
-  odd-is e q p h = ap₂ (λ (x : Place) (i : ℕ). odd (x .axis) (getD w i 0)) q h ∙ odd-face n w fine (faceRule f .axis) (moved c (faceRule f) .at) (face-grid n f c cell)
+  odd-is e q p h = ap₂ (λ (x : Place) (i : ℕ). odd (x .axis) (getD w i 0)) q h ∙ odd-face n w fine (faceRule f .axis) (moved c (faceRule f) .at)
+      (face-grid n f c cell)
 
   -- the cell across a lower face that is odd
-  lower-number : f < 3 → oddAt (oddIn n w) f (pointOf n at) ≡ true → pointNumber n (acrossOf f (pointOf n at)) + pointStep n (faceOf f (pointOf n at) .axis) ≡ at
+  lower-number : f < 3 → oddAt (oddIn n w) f (pointOf n at) ≡ true → pointNumber n (acrossOf f (pointOf n at)) + pointStep n
+      (faceOf f (pointOf n at) .axis) ≡ at
   lower-number h o = go (which f l)
     where
       go : ((a : Axis) × (f ≡ indexOf a)) ⊎ ((a : Axis) × (f ≡ indexOf a + 3)) → pointNumber n (acrossOf f c) + pointStep n (faceOf f c .axis) ≡ at
@@ -74,7 +77,8 @@ module _ (n : ℕ) (w : List ℕ) (at f : ℕ) (cell : Cell n (pointOf n at)) (f
           rw z (omega arith)
 
   -- seen or not, beside odd or not
-  pub open-lower : (e : Place) → e ≡ faceRule f → f < 3 → (o d q s : ℕ) → o ≡ value (oddAt (oddIn n w) f (pointOf n at)) 1 → d ≡ pointStep n (e .axis) → q ≡ at - o * d → s ≡ value (seen (getD w q 0)) 1 →
+  pub open-lower : (e : Place) → e ≡ faceRule f → f < 3 → (o d q s : ℕ) → o ≡ value (oddAt (oddIn n w) f (pointOf n at)) 1 → d ≡ pointStep n (e .axis)
+      → q ≡ at - o * d → s ≡ value (seen (getD w q 0)) 1 →
       ltb s o ≡ openB n (oddIn n w) w (pointOf n at) f
   unfolding faceOf seenB
   open-lower e r h o d q s eo ed eq es = go (oddAt (oddIn n w) f c) refl
@@ -91,8 +95,10 @@ module _ (n : ℕ) (w : List ℕ) (at f : ℕ) (cell : Cell n (pointOf n at)) (f
           let z : o ≡ 0 = eo ∙ ap (λ (x : Bool). value x 1) y in
           ap (ltb s) z ∙ le-ltb s 0 (omega arith) ∙ sym (ap (λ (x : Bool). x && not (seen (getD w (pointNumber n (acrossOf f c)) 0))) y)
 
-  pub open-upper : 3 ≤ f → (o p s : ℕ) → o ≡ value (oddAt (oddIn n w) f (pointOf n at)) 1 → p ≡ pointNumber n (faceOf f (pointOf n at) .at) → s ≡ value (seen (getD w p 0)) 1 → ltb s o ≡ openB n (oddIn n w) w (pointOf n at) f
+  pub open-upper : 3 ≤ f → (o p s : ℕ) → o ≡ value (oddAt (oddIn n w) f (pointOf n at)) 1 → p ≡ pointNumber n (faceOf f (pointOf n at) .at) → s ≡
+      value (seen (getD w p 0)) 1 → ltb s o ≡ openB n (oddIn n w) w (pointOf n at) f
   unfolding seenB acrossOf
   open-upper h o p s eo ep es =
-      let k : p ≡ pointNumber n (acrossOf f c) = ep ∙ ap (pointNumber n) (sym (ap (λ (b : Bool). cond b (down (faceOf f c .axis) (faceOf f c .at)) (faceOf f c .at)) (le-ltb f 3 h))) in
+      let k : p ≡ pointNumber n (acrossOf f c) = ep ∙ ap (pointNumber n)
+      (sym (ap (λ (b : Bool). cond b (down (faceOf f c .axis) (faceOf f c .at)) (faceOf f c .at)) (le-ltb f 3 h))) in
       ap₂ ltb (es ∙ ap (λ (i : ℕ). value (seen (getD w i 0)) 1) k) eo ∙ bit-less (oddAt (oddIn n w) f c) (seen (getD w (pointNumber n (acrossOf f c)) 0))

@@ -25,10 +25,12 @@ use Rattle.walking.proofs.Invariant.{Inv, Live, left}
 use Rattle.walking.proofs.Entering.{push-inv, push-left}
 use Rattle.walking.proofs.Leaving.{leave-long, pop-inv, pop-left, stop-found, stop-left}
 
-module _ (n : ℕ) (F : Set) (w₀ : List ℕ) (seed : Point) (inside : (a : Axis) (p : Point) → F a p ≡ true → faceIn (whole n) a p ≡ true) (size : pointCount n ≤ length w₀)
+module _ (n : ℕ) (F : Set) (w₀ : List ℕ) (seed : Point) (inside : (a : Axis) (p : Point) → F a p ≡ true → faceIn (whole n) a p ≡ true)
+    (size : pointCount n ≤ length w₀)
     (bits : (a : Axis) (p : Point) → OfGrid n p → aside n w₀ a p ≡ F a p) where
   -- ---- the beginning
-  pub start-live : Cell n seed → seenB n w₀ seed ≡ false → Live n F w₀ seed (record { walk = record { cell = seed; depth = 0; reach = cellBox seed; on = true }; work = lightOf n seed 0 w₀ })
+  pub start-live : Cell n seed → seenB n w₀ seed ≡ false → Live n F w₀ seed
+      (record { walk = record { cell = seed; depth = 0; reach = cellBox seed; on = true }; work = lightOf n seed 0 w₀ })
   start-live cell unseen = record {
     on = λ e. record {
       long = light-length n seed 0 zero-small w₀ size in-grid;
@@ -66,7 +68,8 @@ module _ (n : ℕ) (F : Set) (w₀ : List ℕ) (seed : Point) (inside : (a : Axi
           go (inr k) = absurd (true≢false (sym (k .lit) ∙ k .dark))
 
   -- ---- one step
-  pub step-live : (s : Walked) → Inv n F w₀ seed s → Live n F w₀ seed (stepOf n F s) × (suc (left n (stepOf n F s)) ≡ suc (s .walk .depth + 2 * darkCells n (s .work)))
+  pub step-live : (s : Walked) → Inv n F w₀ seed s → Live n F w₀ seed (stepOf n F s) ×
+      (suc (left n (stepOf n F s)) ≡ suc (s .walk .depth + 2 * darkCells n (s .work)))
   unfolding stepOf
   step-live s h = go (ltb (firstOpen n F (s .work) (s .walk .cell) 6 0) 6) refl
     where
@@ -75,15 +78,23 @@ module _ (n : ℕ) (F : Set) (w₀ : List ℕ) (seed : Point) (inside : (a : Axi
 
       no-face : (y : Bool) → eqb (s .walk .depth) 0 ≡ y → 6 ≤ firstOpen n F (s .work) (s .walk .cell) 6 0 → Goal (cond y (stopOf n s) (popOf n s))
       no-face true e l =
-          let z = eqb-true (s .walk .depth) 0 e in
-          (record { on = λ k. absurd (false≢true k); off = λ k. stop-found n F w₀ seed inside size bits s h l z; long = leave-long n F w₀ seed inside size bits s h l }, stop-left n F w₀ seed inside size bits s h l z)
+          let z = eqb-true (s .walk .depth) 0 e in (
+            record {
+              on = λ k. absurd (false≢true k);
+              off = λ k. stop-found n F w₀ seed inside size bits s h l z;
+              long = leave-long n F w₀ seed inside
+                  size bits s h l;
+            },
+            stop-left n F w₀ seed inside size bits s h l z,
+          )
       no-face false e l =
           let z = eqb-false (s .walk .depth) 0 e in
           let q : s .walk .depth ≡ suc (s .walk .depth - 1) = omega arith in
           let i = pop-inv n F w₀ seed inside size bits s h l (s .walk .depth - 1) q in
           (record { on = λ k. i; off = λ k. absurd (true≢false k); long = i .long }, pop-left n F w₀ seed inside size bits s h l (s .walk .depth - 1) q)
 
-      go : (x : Bool) → ltb (firstOpen n F (s .work) (s .walk .cell) 6 0) 6 ≡ x → Goal (cond x (pushOf n (firstOpen n F (s .work) (s .walk .cell) 6 0) s) (cond (eqb (s .walk .depth) 0) (stopOf n s) (popOf n s)))
+      go : (x : Bool) → ltb (firstOpen n F (s .work) (s .walk .cell) 6 0) 6 ≡ x → Goal
+          (cond x (pushOf n (firstOpen n F (s .work) (s .walk .cell) 6 0) s) (cond (eqb (s .walk .depth) 0) (stopOf n s) (popOf n s)))
       go true e =
           let l = ltb-true (firstOpen n F (s .work) (s .walk .cell) 6 0) 6 e in
           let o = first-is n F (s .work) (s .walk .cell) 6 0 (omega arith) in

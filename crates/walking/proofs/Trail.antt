@@ -47,14 +47,16 @@ module _ (n : ℕ) (F : Set) (w₀ : List ℕ) (seed : Point) where
 
   -- a cell that has not been seen is not on the trail
   pub trail-lit : (w : List ℕ) (d : Point) → seenB n w d ≡ false → (k : ℕ) (c : Point) → Trail w k c → anyOf (samePoint d) (trailOf n w k c) ≡ false
-  trail-lit w d e zero c h = is-false (samePoint d c || false) (λ t. true≢false (sym (h .lit) ∙ ap (seenB n w) (sym (samePoint→ d c (one (samePoint d c) t))) ∙ e))
+  trail-lit w d e zero c h = is-false (samePoint d c || false)
+      (λ t. true≢false (sym (h .lit) ∙ ap (seenB n w) (sym (samePoint→ d c (one (samePoint d c) t))) ∙ e))
     where
       one : (x : Bool) → x || false ≡ true → x ≡ true
       one true t = refl
       one false t = t
   trail-lit w d e (suc k) c h = go (samePoint d c) refl (trail-lit w d e k (backOf n w c) (h .1))
     where
-      go : (x : Bool) → samePoint d c ≡ x → anyOf (samePoint d) (trailOf n w k (backOf n w c)) ≡ false → x || anyOf (samePoint d) (trailOf n w k (backOf n w c)) ≡ false
+      go : (x : Bool) → samePoint d c ≡ x → anyOf (samePoint d) (trailOf n w k (backOf n w c)) ≡ false → x || anyOf (samePoint d)
+          (trailOf n w k (backOf n w c)) ≡ false
       go true t i = absurd (true≢false (sym (h .0 .new .lit) ∙ ap (seenB n w) (sym (samePoint→ d c t)) ∙ e))
       go false t i = i
 
@@ -70,7 +72,8 @@ module _ (n : ℕ) (F : Set) (w₀ : List ℕ) (seed : Point) where
     new-on q h = record { cell = h .cell; dark = h .dark; lit = light-grows n d v small w long b q (cell-grid n q (h .cell)) (h .lit); route = h .route }
 
     -- the rest of the trail stays as it is
-    pub trail-on : (k : ℕ) (c : Point) → anyOf (samePoint d) (trailOf n w k c) ≡ false → Trail w k c → (trailOf n (lightOf n d v w) k c ≡ trailOf n w k c) × Trail (lightOf n d v w) k c
+    pub trail-on : (k : ℕ) (c : Point) → anyOf (samePoint d) (trailOf n w k c) ≡ false → Trail w k c →
+        (trailOf n (lightOf n d v w) k c ≡ trailOf n w k c) × Trail (lightOf n d v w) k c
     trail-on zero c e h = (refl, new-on c h)
     trail-on (suc k) c e h =
         let u = lightOf n d v w in
@@ -92,7 +95,8 @@ module _ (n : ℕ) (F : Set) (w₀ : List ℕ) (seed : Point) where
         )
 
     -- a cell that is new afterwards was new, or is d
-    pub new-was : (q : Point) → OfGrid n q → (getD w (pointNumber n q) 0 ≡ getD w₀ (pointNumber n q) 0) ⊎ New n F w₀ w seed q → New n F w₀ (lightOf n d v w) seed q → (q ≡ d) ⊎ New n F w₀ w seed q
+    pub new-was : (q : Point) → OfGrid n q → (getD w (pointNumber n q) 0 ≡ getD w₀ (pointNumber n q) 0) ⊎ New n F w₀ w seed q → New n F w₀
+        (lightOf n d v w) seed q → (q ≡ d) ⊎ New n F w₀ w seed q
     new-was q g (inr k) h = inr k
     new-was q g (inl k) h = go (ℕ-discrete (pointNumber n q) (pointNumber n d))
       where
@@ -100,12 +104,14 @@ module _ (n : ℕ) (F : Set) (w₀ : List ℕ) (seed : Point) where
         go (yes e) = inl (number-inj n q d g b e)
         go (no e) = absurd (true≢false (sym (h .lit) ∙ seen-same n w₀ (lightOf n d v w) q (light-other n d v small w long b (pointNumber n q) e ∙ k) ∙ h .dark))
 
-    pub each-on : New n F w₀ (lightOf n d v w) seed d → (q : Point) → OfGrid n q → (getD w (pointNumber n q) 0 ≡ getD w₀ (pointNumber n q) 0) ⊎ New n F w₀ w seed q →
+    pub each-on : New n F w₀ (lightOf n d v w) seed d → (q : Point) → OfGrid n q → (getD w (pointNumber n q) 0 ≡ getD w₀ (pointNumber n q) 0) ⊎ New n
+        F w₀ w seed q →
         (getD (lightOf n d v w) (pointNumber n q) 0 ≡ getD w₀ (pointNumber n q) 0) ⊎ New n F w₀ (lightOf n d v w) seed q
     each-on new q g (inr k) = inr (new-on q k)
     each-on new q g (inl k) = go (ℕ-discrete (pointNumber n q) (pointNumber n d))
       where
-        go : Dec (pointNumber n q ≡ pointNumber n d) → (getD (lightOf n d v w) (pointNumber n q) 0 ≡ getD w₀ (pointNumber n q) 0) ⊎ New n F w₀ (lightOf n d v w) seed q
+        go : Dec (pointNumber n q ≡ pointNumber n d) → (getD (lightOf n d v w) (pointNumber n q) 0 ≡ getD w₀ (pointNumber n q) 0) ⊎ New n F w₀
+            (lightOf n d v w) seed q
         go (yes e) = inr (subst (New n F w₀ (lightOf n d v w) seed) (sym (number-inj n q d g b e)) new)
         go (no e) = inl (light-other n d v small w long b (pointNumber n q) e ∙ k)
 

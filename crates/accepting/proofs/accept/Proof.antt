@@ -30,38 +30,45 @@ points-requires c κs = search needs
 
 returns-2 : tie.Need-returns-2
 returns-2 c =
+    let l = c .before .before .before .before .l in
+    let read = c .before .before .before .before .before .before .read in
     let start = c .before .before .before .before .before .before .before .before .before .before in
-    let level = read-known _ _ (sym (c .before .before .before .before .before .before .read .ensures) ∙ c .before .before .before .before .l .given .1) in
+    let level = read-known _ _ (sym (read .ensures) ∙ l .given .1) in
     short-grid (start .args .level) (start .args .list .now) (start .args .grid .now) (start .args .work .now) _ level (rw (c .before .points .ensures) at
     (c .if1 .taken))
 
 returns-3 : tie.Need-returns-3
 returns-3 c =
+    let points = c .before .before .points in
+    let l = c .before .before .before .before .before .l in
+    let read = c .before .before .before .before .before .before .before .read in
     let start = c .before .before .before .before .before .before .before .before .before .before .before in
-    let level = read-known _ _ (sym (c .before .before .before .before .before .before .before .read .ensures) ∙ c .before .before .before .before .before
-    .l .given .1) in
+    let level = read-known _ _ (sym (read .ensures) ∙ l .given .1) in
     short-work (start .args .level) (start .args .list .now) (start .args .grid .now) (start .args .work .now) _ level
-    (rw (c .before .before .points .ensures) at (c .before .if1 .left)) (rw (c .before .before .points .ensures) at (c .if2 .taken))
+    (rw (points .ensures) at (c .before .if1 .left)) (rw (points .ensures) at (c .if2 .taken))
 
 returns-4 : tie.Need-returns-4
 returns-4 c =
+    let points = c .before .before .before .points in
+    let l = c .before .before .before .before .before .before .l in
+    let read = c .before .before .before .before .before .before .before .before .read in
     let start = c .before .before .before .before .before .before .before .before .before .before .before .before in
-    let level = read-known _ _ (sym (c .before .before .before .before .before .before .before .before .read .ensures) ∙ c .before .before .before .before
-    .before .before .l .given .1) in
+    let level = read-known _ _ (sym (read .ensures) ∙ l .given .1) in
     not-fours (start .args .level) (start .args .list .now) (start .args .grid .now) (start .args .work .now) _ level
-    (rw (c .before .before .before .points .ensures) at (c .before .before .if1 .left)) (rw (c .before .before .before .points .ensures) at (c .before .if2
-    .left)) (c .if3 .taken)
+    (rw (points .ensures) at (c .before .before .if1 .left)) (rw (points .ensures) at (c .before .if2 .left)) (c .if3 .taken)
 
 decide-requires : tie.Need-decide-requires
 decide-requires c κs =
-    let v = c .before .before .before .before .before .before .before .before .l .given .0 .0 in
-    rw (c .before .before .before .before .before .before .cells .ensures) (
+    let if1 = c .before .before .before .before .if1 in
+    let points = c .before .before .before .before .before .points in
+    let cells = c .before .before .before .before .before .before .cells in
+    let l = c .before .before .before .before .before .before .before .before .l in
+    let v = l .given .0 .0 in
+    rw (cells .ensures) (
       cells-more v,
       cells-most v,
-      rw (c .before .before .before .before .before
-          .points .ensures) at (c .before .before .before .before .if1 .left),
-      rw (c .before .before .before .before .before .points .ensures) at (c .before
-          .before .before .if2 .left),
+      rw (points .ensures) at (if1 .left),
+      rw (points .ensures) at (c .before .before .before .if2 .left),
       c .before .before .if3 .left,
     )
 
@@ -73,17 +80,20 @@ same-length-2 c = search needs
 
 returns-5 : tie.Need-returns-5
 returns-5 c =
-    let start = c .before .before .before .before .before .before .before .before .before .before .before .before .before .before .before .before .before
-    .before .before in
-    let level = read-known _ _ (sym (c .before .before .before .before .before .before .before .before .before .before .before .before .before .before
-    .before .read .ensures) ∙ c .before .before .before .before .before .before .before .before .before .before .before .before .before .l .given .1) in
-    rw (c .before .before .before .before .before .before .before .before .before .before .before .cells .ensures) at (c .before .before .before .before
-    .decide .ensures)
+    let decide = c .before .before .before .before .decide in
+    let if3 = c .before .before .before .before .before .before .before .if3 in
+    let if2 = c .before .before .before .before .before .before .before .before .if2 in
+    let if1 = c .before .before .before .before .before .before .before .before .before .if1 in
+    let points = c .before .before .before .before .before .before .before .before .before .before .points in
+    let cells = c .before .before .before .before .before .before .before .before .before .before .before .cells in
+    let l = c .before .before .before .before .before .before .before .before .before .before .before .before .before .l in
+    let read = c .before .before .before .before .before .before .before .before .before .before .before .before .before .before .before .read in
+    let back = c .before .before .before .before .before .before .before .before .before .before in
+    let start = back .before .before .before .before .before .before .before .before .before in
+    let level = read-known _ _ (sym (read .ensures) ∙ l .given .1) in
+    rw (cells .ensures) at (decide .ensures)
     ∙ goes-on (start .args .level) (start .args .list .now) (start .args .grid .now) (start .args .work .now) _ level
-    (rw (c .before .before .before .before .before .before .before .before .before .before .points .ensures) at (c .before .before .before .before .before
-    .before .before .before .before .if1 .left)) (rw (c .before .before .before .before .before .before .before .before .before .before .points
-    .ensures) at (c .before .before .before .before .before .before .before .before .if2 .left)) (c .before .before .before .before .before .before
-    .before .if3 .left)
+    (rw (points .ensures) at (if1 .left)) (rw (points .ensures) at (if2 .left)) (if3 .left)
 
 pub accept-spec : {M : Type 1} → statement M
 accept-spec =

@@ -17,41 +17,49 @@ clear-requires c κs = omega (arith, c .before .point-count .ensures .0, c .befo
 
 gather-requires : tie.Need-gather-requires
 gather-requires c κs =
+    let clear = c .before .before .before .clear in
+    let point-count = c .before .before .before .before .before .point-count in
     let start = c .before .before .before .before .before .before .before .before .before in
     let n = start .args .n in
     let w = start .args .work .now in (
       start .pre .0,
       start .pre .1,
-      subst (λ (k : ℕ). pointCount n ≤ k) (sym (c .before .before .before .clear .kept .1 .0)) (start .pre .3),
+      subst (λ (k : ℕ). pointCount n ≤ k) (sym (clear .kept .1 .0)) (start .pre .3),
       start .pre .4,
-      blank-now n _ (start .args .list .now) (start .args .grid .now) w _ (c .before .before .before .before .before .point-count .ensures .0) (start .pre
-          .3) (c .before .before .before .clear .ensures),
+      blank-now n _ (start .args .list .now) (start .args .grid .now) w _ (point-count .ensures .0) (start .pre .3) (clear .ensures),
     )
 
 clear-requires-2 : tie.Need-clear-requires-2
-clear-requires-2 c κs = omega (
-  arith,
-  c .before .before .before .before .before .before .before .before .before .before .point-count .ensures .0,
-  c .before
-      .before .before .before .before .before .before .before .before .before .before .before .before .before .pre .3,
-  c .before .before .before .before
-      .before .before .before .before .clear .kept .1 .0,
-  c .before .before .before .before .gather .kept .1 .1 .0,
-)
+clear-requires-2 c κs =
+    let gather = c .before .before .before .before .gather in
+    let clear = c .before .before .before .before .before .before .before .before .clear in
+    let point-count = c .before .before .before .before .before .before .before .before .before .before .point-count in
+    let start-2 = c .before .before .before .before .before .before .before .before .before .before .before .before .before .before in
+    omega (
+      arith,
+      point-count .ensures .0,
+      start-2 .pre .3,
+      clear .kept .1 .0,
+      gather .kept .1 .1 .0,
+    )
 
 same-length : tie.Need-same-length
 same-length c = search needs
 
 returns : tie.Need-returns
 returns c =
+    let if1 = c .before .before .before .before .if1 in
+    let gather = c .before .before .before .before .before .before .before .gather in
+    let clear = c .before .before .before .before .before .before .before .before .before .before .before .clear in
+    let point-count = c .before .before .before .before .before .before .before .before .before .before .before .before .before .point-count in
     let start = c .before .before .before .before .before .before .before .before .before .before .before .before .before .before .before .before .before in
-    said-no (start .args .n) _ (start .args .list .now) (start .args .grid .now) (start .args .work .now) _ (c .before .before .before .before .before
-    .before .before .before .before .before .before .before .before .point-count .ensures .0) (start .pre .3)
-    (c .before .before .before .before .before .before .before .before .before .before .before .clear .ensures) _ _ _ (c .before .before .before .before
-    .before .before .before .gather .ensures) (not-true _ (c .before .before .before .before .if1 .taken)) (c .before .before .clear2 .ensures)
+    said-no (start .args .n) _ (start .args .list .now) (start .args .grid .now) (start .args .work .now) _ (point-count .ensures .0) (start .pre .3)
+    (clear .ensures) _ _ _ (gather .ensures) (not-true _ (if1 .taken)) (c .before .before .clear2 .ensures)
 
 sign-grid-requires : tie.Need-sign-grid-requires
 sign-grid-requires c κs =
+    let gather = c .before .before .before .before .gather in
+    let clear = c .before .before .before .before .before .before .before .before .clear in
     let start = c .before .before .before .before .before .before .before .before .before .before .before .before .before .before in
     let told = c .before .before .before .before .gather .ensures in
     let said = not-false _ (c .before .if1 .left) in (
@@ -60,9 +68,8 @@ sign-grid-requires c κs =
         omega (
           arith,
           start .pre .3,
-          c .before .before .before .before .before .before .before .before .clear .kept .1 .0,
-          c .before .before
-              .before .before .gather .kept .1 .1 .0,
+          clear .kept .1 .0,
+          gather .kept .1 .1 .0,
         ),
       ),
       (told .grid said, told .even said),
@@ -70,41 +77,43 @@ sign-grid-requires c κs =
 
 copy-requires : tie.Need-copy-requires
 copy-requires c κs =
-    let start = c .before .before .before .before .before .before .before .before .before .before .before .before .before .before .before .before .before
-    .before .before in (
+    let sign-grid = c .before .before .before .before .sign-grid in
+    let gather = c .before .before .before .before .before .before .before .before .before .gather in
+    let clear = c .before .before .before .before .before .before .before .before .before .before .before .before .before .clear in
+    let back = c .before .before .before .before .before .before .before .before .before .before in
+    let point-count = back .before .before .before .before .before .point-count in
+    let start = c .before .before .before .before .before .before .before .before .before .before .before .before .before .before .before .before .before .before .before in (
       omega (
         arith,
-        c .before .before .before .before .before .before .before .before .before .before .before .before .before .before .before .point-count
-            .ensures .0,
+        point-count .ensures .0,
         start .pre .3,
-        c .before .before .before .before .before .before .before .before .before .before .before .before .before .clear .kept
-            .1 .0,
-        c .before .before .before .before .before .before .before .before .before .gather .kept .1 .1 .0,
-        c .before .before .before .before
-            .sign-grid .kept .1 .0,
+        clear .kept .1 .0,
+        gather .kept .1 .1 .0,
+        sign-grid .kept .1 .0,
       ),
       omega (
         arith,
-        c .before .before .before .before .before .before .before .before .before .before .before .before .before .before .before .point-count
-            .ensures .0,
+        point-count .ensures .0,
         start .pre .2,
       ),
     )
 
 clear-requires-3 : tie.Need-clear-requires-3
 clear-requires-3 c κs =
-    let start = c .before .before .before .before .before .before .before .before .before .before .before .before .before .before .before .before .before
-    .before .before .before .before .before .before in
+    let sign-grid = c .before .before .before .before .before .before .before .before .sign-grid in
+    let gather = c .before .before .before .before .before .before .before .before .before .before .before .before .before .gather in
+    let back = c .before .before .before .before .before .before .before .before .before .before in
+    let clear = back .before .before .before .before .before .before .before .clear in
+    let point-count = back .before .before .before .before .before .before .before .before .before .point-count in
+    let back = c .before .before .before .before .before .before .before .before .before .before in
+    let start = back .before .before .before .before .before .before .before .before .before .before .before .before .before in
     omega (
       arith,
-      c .before .before .before .before .before .before .before .before .before .before .before .before .before .before .before .before .before
-          .before .before .point-count .ensures .0,
+      point-count .ensures .0,
       start .pre .3,
-      c .before .before .before .before .before .before .before .before .before .before .before
-          .before .before .before .before .before .before .clear .kept .1 .0,
-      c .before .before .before .before .before .before .before .before .before
-          .before .before .before .before .gather .kept .1 .1 .0,
-      c .before .before .before .before .before .before .before .before .sign-grid .kept .1 .0,
+      clear .kept .1 .0,
+      gather .kept .1 .1 .0,
+      sign-grid .kept .1 .0,
     )
 
 same-length-2 : tie.Need-same-length-2
@@ -115,16 +124,18 @@ same-length-3 c = search needs
 
 returns-2 : tie.Need-returns-2
 returns-2 c =
-    let start = c .before .before .before .before .before .before .before .before .before .before .before .before .before .before .before .before .before
-    .before .before .before .before .before .before .before .before .before in
-    said-yes (start .args .n) _ (start .args .list .now) (start .args .grid .now) (start .args .work .now) _ (c .before .before .before .before .before
-    .before .before .before .before .before .before .before .before .before .before .before .before .before .before .before .before .before
-    .point-count .ensures .0) (start .pre .3)
-    (c .before .before .before .before .before .before .before .before .before .before .before .before .before .before .before .before .before .before
-    .before .before .clear .ensures) _ _ _ _ _ (c .before .before .before .before .before .before .before .before .before .before .before .before
-    .before .before .before .before .gather .ensures) (not-false _ (c .before .before .before .before .before .before .before .before .before .before
-    .before .before .before .if1 .left)) (c .before .before .before .before .before .before .before .before .before .before .before .sign-grid
-    .ensures) (c .before .before .before .before .before .before .copy .ensures) (c .before .before .clear3 .ensures)
+    let copy = c .before .before .before .before .before .before .copy in
+    let sign-grid = c .before .before .before .before .before .before .before .before .before .before .before .sign-grid in
+    let if1 = c .before .before .before .before .before .before .before .before .before .before .before .before .before .if1 in
+    let back = c .before .before .before .before .before .before .before .before .before .before in
+    let gather = back .before .before .before .before .before .before .gather in
+    let clear = back .before .before .before .before .before .before .before .before .before .before .clear in
+    let back2 = back .before .before .before .before .before .before .before .before .before .before in
+    let point-count = back2 .before .before .point-count in
+    let back = c .before .before .before .before .before .before .before .before .before .before in
+    let start = back .before .before .before .before .before .before .before .before .before .before .before .before .before .before .before .before in
+    said-yes (start .args .n) _ (start .args .list .now) (start .args .grid .now) (start .args .work .now) _ (point-count .ensures .0) (start .pre .3)
+    (clear .ensures) _ _ _ _ _ (gather .ensures) (not-false _ (if1 .left)) (sign-grid .ensures) (copy .ensures) (c .before .before .clear3 .ensures)
 
 pub decide-spec : {M : Type 1} → statement M
 decide-spec =

@@ -40,21 +40,21 @@ same-length-2 c = search needs
 
 returns-2 : tie.Need-returns-2
 returns-2 c =
+    let place-all = c .before .before .before .before .before .before .place-all in
     let start = c .before .before .before .before .before .before .before .before .before .before in
-    not-even (start .args .n) (start .args .list .now) (start .args .work .now) (start .pre .2) (start .pre .4) _ _ (c .before .before .before .before
-    .before .before .place-all .ensures)
+    not-even (start .args .n) (start .args .list .now) (start .args .work .now) (start .pre .2) (start .pre .4) _ _ (place-all .ensures)
     (not-false _ (c .before .before .before .if1 .left)) (fails (c .before .all-even .ensures) (c .if2 .taken))
 
 said-inside-requires : tie.Need-said-inside-requires
 said-inside-requires c κs =
+    let if1 = c .before .before .before .before .if1 in
+    let place-all = c .before .before .before .before .before .before .before .place-all in
     let start = c .before .before .before .before .before .before .before .before .before .before .before in
     let n = start .args .n in
     let w = start .args .work .now in (
       start .pre .1,
-      subst (λ (k : ℕ). pointCount n ≤ k) (sym (c .before .before .before .before .before .before .before .place-all .kept .1 .1 .0)) (start
-          .pre .2),
-      grid-now n (start .args .list .now) w (start .pre .2) (start .pre .4) _ _ (c .before .before .before .before .before .before .before .place-all
-          .ensures) (not-false _ (c .before .before .before .before .if1 .left)),
+      subst (λ (k : ℕ). pointCount n ≤ k) (sym (place-all .kept .1 .1 .0)) (start .pre .2),
+      grid-now n (start .args .list .now) w (start .pre .2) (start .pre .4) _ _ (place-all .ensures) (not-false _ (if1 .left)),
       holds (c .before .before .all-even .ensures) (c .before .if2 .left),
     )
 
@@ -63,11 +63,11 @@ same-length-3 c = search needs
 
 returns-3 : tie.Need-returns-3
 returns-3 c =
+    let if1 = c .before .before .before .before .before .if1 in
+    let place-all = c .before .before .before .before .before .before .before .before .place-all in
     let start = c .before .before .before .before .before .before .before .before .before .before .before .before in
-    all-said (start .args .n) (start .args .list .now) (start .args .work .now) (start .pre .2) (start .pre .4) _ _ (c .before .before .before .before
-    .before .before .before .before .place-all .ensures)
-    (not-false _ (c .before .before .before .before .before .if1 .left)) (holds (c .before .before .before .all-even .ensures) (c .before .before .if2
-    .left)) _ (c .said-inside .ensures)
+    all-said (start .args .n) (start .args .list .now) (start .args .work .now) (start .pre .2) (start .pre .4) _ _ (place-all .ensures)
+    (not-false _ (if1 .left)) (holds (c .before .before .before .all-even .ensures) (c .before .before .if2 .left)) _ (c .said-inside .ensures)
 
 pub gather-spec : {M : Type 1} → statement M
 gather-spec =

@@ -36,13 +36,14 @@ point-count-requires c κs = omega arith
 
 loop-holds : tie.Need-loop-holds Inv-loop μ-loop
 loop-holds c =
-    let e : c .before .before .args .n ≡ suc (c .before .before .args .n - 1) = omega (arith, c .before .before .pre .0) in (
+    let start = c .before .before in
+    let e : start .args .n ≡ suc (start .args .n - 1) = omega (arith, start .pre .0) in (
       e,
       c .point-count .ensures .0,
       omega arith,
       at-start _,
-      all-start (lowerEven (marks (c .before .before .args .n) (c .before .before .args .grid .now))) _
-          ∙ ap (λ (i : ℕ). allOf (lowerEven (marks (c .before .before .args .n) (c .before .before .args .grid .now))) (points i)) (sym e) ∙ sym (even-cells _ _),
+      all-start (lowerEven (marks (start .args .n) (start .args .grid .now))) _
+          ∙ ap (λ (i : ℕ). allOf (lowerEven (marks (start .args .n) (start .args .grid .now))) (points i)) (sym e) ∙ sym (even-cells _ _),
     )
 
 lower-even-requires : tie.Need-lower-even-requires Inv-loop μ-loop
@@ -57,8 +58,10 @@ lower-even-requires c κs =
 
 returns : tie.Need-returns Inv-loop μ-loop
 returns c =
+    let start = c .before .before .before .before .before .before in
     let l = c .before .before .before .loop in
-    sym (all-fails (lowerEven (marks (c .before .before .before .before .before .before .args .n) (c .before .before .before .before .before .before .args .grid .now))) _ (l .k) (l .c) (l .inv .3) (omega (arith, l .inv .1, c .before .before .loop-test .taken))
+    sym (all-fails (lowerEven (marks (start .args .n) (start .args .grid .now))) _ (l .k) (l .c) (l .inv .3)
+    (omega (arith, l .inv .1, c .before .before .loop-test .taken))
     (fails (c .before .lower-even .ensures) (c .if1 .taken)))
     ∙ l .inv .4
 
@@ -76,16 +79,20 @@ loop-less c = omega (arith, c .before .before .before .loop-test .taken)
 
 loop-again : tie.Need-loop-again Inv-loop μ-loop
 loop-again c =
+    let loop-test = c .before .before .before .loop-test in
+    let start = c .before .before .before .before .before .before .before in
     let l = c .before .before .before .before .loop in
-    let h : l .k < pointCount (c .before .before .before .before .before .before .before .args .n - 1) = omega (arith, l .inv .1, c .before .before .before .loop-test .taken) in
+    let h : l .k < pointCount (start .args .n - 1) = omega (arith, l .inv .1, loop-test .taken) in
     let a = at-next _ (l .k) (l .c) (l .inv .3) h in
-    let m = all-more (lowerEven (marks (c .before .before .before .before .before .before .before .args .n) (c .before .before .before .before .before .before .before .args .grid .now))) _ (l .k) (l .c) (l .inv .3) h (holds (c .before .before .lower-even .ensures) (c .before .if1 .left)) in
-    (l .inv .0, l .inv .1, omega (arith, c .before .before .before .loop-test .taken), rw (add-one, c .next-point .ensures) a, rw add-one (m ∙ l .inv .4))
+    let m = all-more (lowerEven (marks (start .args .n) (start .args .grid .now))) _ (l .k) (l .c) (l .inv .3) h
+    (holds (c .before .before .lower-even .ensures) (c .before .if1 .left)) in
+    (l .inv .0, l .inv .1, omega (arith, loop-test .taken), rw (add-one, c .next-point .ensures) a, rw add-one (m ∙ l .inv .4))
 
 returns-2 : tie.Need-returns-2 Inv-loop μ-loop
 returns-2 c =
+    let start = c .before .before .before .before in
     let l = c .before .loop in
-    sym (all-end (lowerEven (marks (c .before .before .before .before .args .n) (c .before .before .before .before .args .grid .now))) _ (l .k) (omega (arith, l .inv .1, c .loop-test .left))) ∙ l .inv .4
+    sym (all-end (lowerEven (marks (start .args .n) (start .args .grid .now))) _ (l .k) (omega (arith, l .inv .1, c .loop-test .left))) ∙ l .inv .4
 
 pub all-even-spec : {M : Type 1} → statement M
 all-even-spec =

@@ -39,7 +39,9 @@ is-deep-requires : tie.Need-is-deep-requires
 is-deep-requires c κs = search needs
 
 returns-3 : tie.Need-returns-3
-returns-3 c = sym (deep-fits (c .before .before .before .before .args .n) (c .before .before .before .before .args .b) (c .before .before .before .before .args .p) (at-most (c .before .before)) (sym (c .before .is-deep .ensures) ∙ c .if3 .taken))
+returns-3 c =
+    let start = c .before .before .before .before in
+    sym (deep-fits (start .args .n) (start .args .b) (start .args .p) (at-most (c .before .before)) (sym (c .before .is-deep .ensures) ∙ c .if3 .taken))
 
 mark-fits-requires : tie.Need-mark-fits-requires
 mark-fits-requires c κs = search needs
@@ -55,11 +57,22 @@ returns-4 c = rw (at-most (c .before .before .before .before), fails (c .before 
 
 returns-5 : tie.Need-returns-5
 returns-5 c =
-    rw (at-most (c .before .before .before .before .before .before), holds (c .before .before .before .mark-fits .ensures) (c .before .before .if4 .left), fails (c .before .mark-fits2 .ensures) (c .if5 .taken))
+    let place = c .before .before .before .before .before .before in
+    rw (
+      at-most (place),
+      holds (c .before .before .before .mark-fits .ensures) (c .before .before .if4 .left),
+      fails (c .before .mark-fits2 .ensures) (c .if5 .taken),
+    )
 
 returns-6 : tie.Need-returns-6
 returns-6 c =
-    rw (at-most (c .before .before .before .before .before .before .before), holds (c .before .before .before .before .mark-fits .ensures) (c .before .before .before .if4 .left), holds (c .before .before .mark-fits2 .ensures) (c .before .if5 .left))
+    let mark-fits = c .before .before .before .before .mark-fits in
+    let place = c .before .before .before .before .before .before .before in
+    rw (
+      at-most (place),
+      holds (mark-fits .ensures) (c .before .before .before .if4 .left),
+      holds (c .before .before .mark-fits2 .ensures) (c .before .if5 .left),
+    )
     (c .mark-fits3 .ensures)
 
 pub byte-fits-spec : {M : Type 1} → statement M

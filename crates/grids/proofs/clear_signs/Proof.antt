@@ -35,15 +35,20 @@ returns-2 c =
     (sym g, rw g (unsigned-same (s .args .n) (s .args .grid .now) (s .pre .1) g none))
 
 keep-marks-requires : tie.Need-keep-marks-requires
-keep-marks-requires c κs = (c .before .before .before .before .before .before .before .before .pre .0, c .before .before .before .before .before .before .before .before .pre .1, read-some _ _ _ (sym (c .before .before .before .before .before .read-grid .ensures) ∙ c .before .before .before .inside .given .1))
+keep-marks-requires c κs =
+    let read-grid = c .before .before .before .before .before .read-grid in
+    let start = c .before .before .before .before .before .before .before .before in
+    (start .pre .0, start .pre .1, read-some _ _ _ (sym (read-grid .ensures) ∙ c .before .before .before .inside .given .1))
 
 same-length-3 : tie.Need-same-length-3
 same-length-3 c = search needs
 
 returns-3 : tie.Need-returns-3
 returns-3 c =
+    let inside = c .before .before .before .before .before .before .inside in
+    let read-grid = c .before .before .before .before .before .before .before .before .read-grid in
     let s = c .before .before .before .before .before .before .before .before .before .before .before in
-    let g = read-some (s .args .n) (s .args .grid .now) _ (sym (c .before .before .before .before .before .before .before .before .read-grid .ensures) ∙ c .before .before .before .before .before .before .inside .given .1) in
+    let g = read-some (s .args .n) (s .args .grid .now) _ (sym (read-grid .ensures) ∙ inside .given .1) in
     (sym g, rw g (c .before .before .keep-marks .ensures))
 
 pub clear-signs-spec : {M : Type 1} → statement M

@@ -37,30 +37,40 @@ is-odd-requires-2 c κs = search needs
 
 returns-2 : tie.Need-returns-2
 returns-2 c =
+    let is-odd = c .before .before .before .before .is-odd in
+    let lower-marks = c .before .before .before .before .before .lower-marks in
+    let number-of = c .before .before .before .before .before .before .number-of in
     let s = c .before .before .before .before .before .before .before .before in
     let E = marks (s .args .n) (s .args .grid .now) in
-    let e = c .before .before .before .before .before .before .number-of .ensures .0 in
+    let e = number-of .ensures .0 in
     rw (
-      odd-told (s .args .n) E X _ (s .args .c) (s .pre .3) e (c .before .before .before .before .before .lower-marks .ensures) (c .before .before .before .before .is-odd .ensures) ∙ c .before .before .before .if1 .left,
+      odd-told (s .args .n) E X _ (s .args .c) (s .pre .3) e (lower-marks .ensures) (is-odd .ensures) ∙ c .before .before .before .if1 .left,
       odd-told (s .args .n) E Y _ (s .args .c) (s .pre .3) e (c .before .before .lower-marks2 .ensures) (c .before .is-odd2 .ensures) ∙ c .if2 .taken,
     )
 
 lower-marks-requires-3 : tie.Need-lower-marks-requires-3
 lower-marks-requires-3 c κs =
+    let number-of = c .before .before .before .before .before .before .number-of in
     let s = c .before .before .before .before .before .before .before .before in
-    (s .pre .0, s .pre .1, s .pre .2, cell-layer (s .args .n) _ (s .args .c) (s .pre .3) (c .before .before .before .before .before .before .number-of .ensures .0))
+    (s .pre .0, s .pre .1, s .pre .2, cell-layer (s .args .n) _ (s .args .c) (s .pre .3) (number-of .ensures .0))
 
 is-odd-requires-3 : tie.Need-is-odd-requires-3
 is-odd-requires-3 c κs = search needs
 
 returns-3 : tie.Need-returns-3
 returns-3 c =
+    let lower-marks2 = c .before .before .before .before .lower-marks2 in
+    let if1 = c .before .before .before .before .before .if1 in
+    let is-odd = c .before .before .before .before .before .before .is-odd in
+    let lower-marks = c .before .before .before .before .before .before .before .lower-marks in
+    let number-of = c .before .before .before .before .before .before .before .before .number-of in
     let s = c .before .before .before .before .before .before .before .before .before .before in
     let E = marks (s .args .n) (s .args .grid .now) in
-    let e = c .before .before .before .before .before .before .before .before .number-of .ensures .0 in
+    let e = number-of .ensures .0 in
     rw (
-      odd-told (s .args .n) E X _ (s .args .c) (s .pre .3) e (c .before .before .before .before .before .before .before .lower-marks .ensures) (c .before .before .before .before .before .before .is-odd .ensures) ∙ c .before .before .before .before .before .if1 .left,
-      odd-told (s .args .n) E Y _ (s .args .c) (s .pre .3) e (c .before .before .before .before .lower-marks2 .ensures) (c .before .before .before .is-odd2 .ensures) ∙ c .before .before .if2 .left,
+      odd-told (s .args .n) E X _ (s .args .c) (s .pre .3) e (lower-marks .ensures) (is-odd .ensures) ∙ if1 .left,
+      odd-told (s .args .n) E Y _ (s .args .c) (s .pre .3) e (lower-marks2 .ensures) (c .before .before .before .is-odd2 .ensures) ∙
+          c .before .before .if2 .left,
       &&-true,
     )
     (ap not (sym (odd-told (s .args .n) E Z _ (s .args .c) (s .pre .3) e (c .before .lower-marks3 .ensures) (c .is-odd3 .ensures))))

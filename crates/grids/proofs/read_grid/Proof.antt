@@ -58,9 +58,10 @@ read-is k e = ap (λ (x : Bool). cond x (Grid k) NoGrid) (sym e)
 
 returns : tie.Need-returns Inv-loop μ-loop
 returns c =
+    let start = c .before .before .before .before .before .before .before in
     let l = c .before .before .before .before .loop in
     let g = c .before .before .before .before .before .before .before .args .grid .now in
-    let h : l .p < pointCount (c .before .before .before .before .before .before .before .args .n) = omega (arith, l .inv .0, c .before .before .before .loop-test .taken) in
+    let h : l .p < pointCount (start .args .n) = omega (arith, l .inv .0, c .before .before .before .loop-test .taken) in
     let e = good-is _ (l .p) g (l .q) (l .inv .2) ∙ fails (c .before .byte-fits .ensures) (c .if1 .taken) in
     read-is (insideCount _ g) (sym (l .inv .3) ∙ all-fails (goodByte _ g) _ (l .p) (l .q) (l .inv .2) h e)
 
@@ -71,37 +72,49 @@ one-inside-requires : tie.Need-one-inside-requires Inv-loop μ-loop
 one-inside-requires c κs = search needs
 
 add-found : tie.Need-add-found Inv-loop μ-loop
-add-found c = omega (arith, c .before .before .before .before .before .before .loop .inv .4, c .one-inside .ensures .1, c .before .before .before .before .before .loop-test .taken, c .before .before .before .before .before .before .before .point-count .ensures .1)
+add-found c =
+    let loop-test = c .before .before .before .before .before .loop-test in
+    let loop-told = c .before .before .before .before .before .before .loop in
+    let point-count = c .before .before .before .before .before .before .before .point-count in
+    omega (arith, loop-told .inv .4, c .one-inside .ensures .1, loop-test .taken, point-count .ensures .1)
 
 next-point-requires : tie.Need-next-point-requires Inv-loop μ-loop
 next-point-requires c κs =
+    let loop-test = c .before .before .before .before .before .loop-test in
+    let start = c .before .before .before .before .before .before .before .before .before in
     let l = c .before .before .before .before .before .before .loop in
-    let h : l .p < pointCount (c .before .before .before .before .before .before .before .before .before .args .n) = omega (arith, l .inv .0, c .before .before .before .before .before .loop-test .taken) in
-    (c .before .before .before .before .before .before .before .before .before .pre .0, at-grid _ (l .p) (l .q) (l .inv .2) h)
+    let h : l .p < pointCount (start .args .n) = omega (arith, l .inv .0, loop-test .taken) in
+    (start .pre .0, at-grid _ (l .p) (l .q) (l .inv .2) h)
 
 add-p : tie.Need-add-p Inv-loop μ-loop
-add-p c = omega (arith, c .before .before .before .before .before .before .loop-test .taken, c .before .before .before .before .before .before .before .before .point-count .ensures .1)
+add-p c =
+    let loop-test = c .before .before .before .before .before .before .loop-test in
+    let point-count = c .before .before .before .before .before .before .before .before .point-count in
+    omega (arith, loop-test .taken, point-count .ensures .1)
 
 loop-less : tie.Need-loop-less Inv-loop μ-loop
 loop-less c = omega (arith, c .before .before .before .before .before .before .loop-test .taken)
 
 loop-again : tie.Need-loop-again Inv-loop μ-loop
 loop-again c =
+    let byte-fits = c .before .before .before .before .byte-fits in
+    let loop-test = c .before .before .before .before .before .before .loop-test in
     let l = c .before .before .before .before .before .before .before .loop in
     let n = c .before .before .before .before .before .before .before .before .before .before .args .n in
     let g = c .before .before .before .before .before .before .before .before .before .before .args .grid .now in
-    let h : l .p < pointCount n = omega (arith, l .inv .0, c .before .before .before .before .before .before .loop-test .taken) in
-    let e = good-is _ (l .p) g (l .q) (l .inv .2) ∙ holds (c .before .before .before .before .byte-fits .ensures) (c .before .before .before .if1 .left) in
+    let h : l .p < pointCount n = omega (arith, l .inv .0, loop-test .taken) in
+    let e = good-is _ (l .p) g (l .q) (l .inv .2) ∙ holds (byte-fits .ensures) (c .before .before .before .if1 .left) in
     let a = at-next _ (l .p) (l .q) (l .inv .2) h in
     let m = all-more (goodByte _ g) _ (l .p) (l .q) (l .inv .2) h e in
     let o = c .before .one-inside .ensures .0 ∙ ap (λ (i : ℕ). value (saysInside (getD g i 0)) 1) (sym (l .inv .2 .is)) in
     let i = inside-more n g (l .p) (l .q) (l .inv .2) h in (
       l .inv .0,
-      omega (arith, c .before .before .before .before .before .before .loop-test .taken),
+      omega (arith, loop-test .taken),
       rw (add-one, c .next-point .ensures) a,
       rw add-one (m ∙ l .inv .3),
       omega (arith, l .inv .4, c .before .one-inside .ensures .1),
-      rw add-one (let r : l .found + c .before .one-inside .result + count (inside n g) (pointsFrom n (suc (l .p))) ≡ insideCount n g = omega (arith, o, i, l .inv .5) in r),
+      rw add-one (let r : l .found + c .before .one-inside .result + count (inside n g) (pointsFrom n (suc (l .p))) ≡ insideCount n g = omega
+          (arith, o, i, l .inv .5) in r),
     )
 
 returns-2 : tie.Need-returns-2 Inv-loop μ-loop

@@ -33,26 +33,51 @@ coordinate-requires-4 : tie.Need-coordinate-requires-4 Inv-loop μ-loop
 coordinate-requires-4 c κs = tt
 
 loop-holds : tie.Need-loop-holds Inv-loop μ-loop
-loop-holds c = record { scan = refl; unpaired = let f = c .before .before .before .before .before .before .before .before .before .before .pre .3 in omega arith; g-long = refl; w-long = refl }
+loop-holds c =
+    let start = c .before .before .before .before .before .before .before .before .before .before in
+    record { scan = refl; unpaired = let f = start .pre .3 in omega arith; g-long = refl; w-long = refl }
 
 pair-row-requires : tie.Need-pair-row-requires Inv-loop μ-loop
 pair-row-requires c κs =
-    let f = c .before .before .before .before .before .before .before .before .before .before .before .before .before .before .pre .3 in
-    let x = fits-coord (c .before .before .before .before .before .before .before .before .before .before .before .before .before .before .args .n) (c .before .before .before .before .before .before .before .before .before .before .before .before .before .before .args .b) (c .before .before .before .before .before .before .before .before .before .before .before .before .before .before .args .a) f in
-    let e : c .before .before .before .before .before .coordinate3 .result ≤ c .before .before .before .before .before .before .before .before .before .before .before .before .before .before .args .n = rw (c .before .before .before .before .before .coordinate3 .ensures) (fits-coord (c .before .before .before .before .before .before .before .before .before .before .before .before .before .before .args .n) (c .before .before .before .before .before .before .before .before .before .before .before .before .before .before .args .b) (c .before .before .before .before .before .before .before .before .later .result) f) in
-    (c .before .before .before .before .before .before .before .before .before .before .before .before .before .before .pre .0, rw (c .before .before .before .loop .inv .g-long) (c .before .before .before .before .before .before .before .before .before .before .before .before .before .before .pre .1), rw (c .before .before .before .loop .inv .w-long) (c .before .before .before .before .before .before .before .before .before .before .before .before .before .before .pre .2), omega (arith, c .before .before .before .before .before .before .before .before .before .before .before .before .before .before .pre .4), omega (arith, c .before .before .before .before .before .before .before .before .before .before .before .before .before .before .pre .5), rw (c .before .before .before .before .before .before .coordinate2 .ensures) (fits-coord (c .before .before .before .before .before .before .before .before .before .before .before .before .before .before .args .n) (c .before .before .before .before .before .before .before .before .before .before .before .before .before .before .args .b) (c .before .before .before .before .before .before .before .before .before .earlier .result) f), omega (arith, c .before .before .loop-test .taken), c .before .before .before .loop .inv .unpaired)
+    let loop-told = c .before .before .before .loop in
+    let coordinate3 = c .before .before .before .before .before .coordinate3 in
+    let coordinate2 = c .before .before .before .before .before .before .coordinate2 in
+    let later = c .before .before .before .before .before .before .before .before .later in
+    let earlier = c .before .before .before .before .before .before .before .before .before .earlier in
+    let start = c .before .before .before .before .before .before .before .before .before .before .before .before .before .before in
+    let f = start .pre .3 in
+    let x = fits-coord (start .args .n) (start .args .b) (start .args .a) f in
+    let e : coordinate3 .result ≤ start .args .n = rw (coordinate3 .ensures) (fits-coord (start .args .n) (start .args .b) (later .result) f) in (
+      start .pre .0,
+      rw (loop-told .inv .g-long) (start .pre .1),
+      rw (loop-told .inv .w-long) (start .pre .2),
+      omega (arith, start .pre .4),
+      omega (arith, start .pre .5),
+      rw (coordinate2 .ensures) (fits-coord (start .args .n) (start .args .b) (earlier .result) f),
+      omega (arith, c .before .before .loop-test .taken),
+      loop-told .inv .unpaired,
+    )
 
 add-v : tie.Need-add-v Inv-loop μ-loop
 add-v c =
-    let f = c .before .before .before .before .before .before .before .before .before .before .before .before .before .before .before .before .before .before .before .pre .3 in
-    let e : c .before .before .before .before .before .before .before .before .before .before .coordinate3 .result ≤ c .before .before .before .before .before .before .before .before .before .before .before .before .before .before .before .before .before .before .before .args .n = rw (c .before .before .before .before .before .before .before .before .before .before .coordinate3 .ensures) (fits-coord (c .before .before .before .before .before .before .before .before .before .before .before .before .before .before .before .before .before .before .before .args .n) (c .before .before .before .before .before .before .before .before .before .before .before .before .before .before .before .before .before .before .before .args .b) (c .before .before .before .before .before .before .before .before .before .before .before .before .before .later .result) f) in
-    omega (arith, c .before .before .before .before .before .before .before .loop-test .taken, c .before .before .before .before .before .before .before .before .before .before .before .before .before .before .before .before .before .before .before .pre .0)
+    let loop-test = c .before .before .before .before .before .before .before .loop-test in
+    let coordinate3 = c .before .before .before .before .before .before .before .before .before .before .coordinate3 in
+    let later = c .before .before .before .before .before .before .before .before .before .before .before .before .before .later in
+    let back = c .before .before .before .before .before .before .before .before .before .before in
+    let start = back .before .before .before .before .before .before .before .before .before in
+    let f = start .pre .3 in
+    let e : coordinate3 .result ≤ start .args .n = rw (coordinate3 .ensures) (fits-coord (start .args .n) (start .args .b) (later .result) f) in
+    omega (arith, loop-test .taken, start .pre .0)
 
 loop-less : tie.Need-loop-less Inv-loop μ-loop
 loop-less c = omega (arith, c .before .before .before .before .before .before .before .loop-test .taken)
 
 loop-again : tie.Need-loop-again Inv-loop μ-loop
-loop-again c = planing-on _ _ _ _ _ _ _ _ _ _ _ _ (c .before .before .before .before .before .before .before .before .loop .inv) (c .before .before .before .before .before .before .before .loop-test .taken) _ _ _ (c .before .before .before .before .pair-row .ensures .0) (c .before .before .before .before .pair-row .ensures .1)
+loop-again c =
+    let pair-row = c .before .before .before .before .pair-row in
+    let loop-test = c .before .before .before .before .before .before .before .loop-test in
+    let loop-told = c .before .before .before .before .before .before .before .before .loop in
+    planing-on _ _ _ _ _ _ _ _ _ _ _ _ (loop-told .inv) (loop-test .taken) _ _ _ (pair-row .ensures .0) (pair-row .ensures .1)
 
 same-length : tie.Need-same-length Inv-loop μ-loop
 same-length c = c .before .loop .inv .g-long
@@ -61,7 +86,17 @@ same-length-2 : tie.Need-same-length-2 Inv-loop μ-loop
 same-length-2 c = c .before .loop .inv .w-long
 
 returns : tie.Need-returns Inv-loop μ-loop
-returns c = planing-end _ _ _ _ (c .before .before .before .before .before .before .before .before .before .before .before .before .pre .3) (c .before .before .before .before .before .before .before .before .before .before .before .before .pre .4) (c .before .before .before .before .before .before .before .before .before .before .before .before .pre .5) _ _ (c .before .before .before .before .before .before .before .before .before .before .before .before .pre .2) _ _ _ _ _ _ _ _ _ (c .before .loop .inv) (c .loop-test .left) (c .before .before .before .before .before .coordinate .ensures ∙ ap (λ (x : Axis). coord x (c .before .before .before .before .before .before .before .before .before .before .before .before .args .b .lo)) (c .before .before .before .before .before .before .before .earlier .ensures)) (c .before .before .before .before .coordinate2 .ensures ∙ ap (λ (x : Axis). coord x (c .before .before .before .before .before .before .before .before .before .before .before .before .args .b .hi)) (c .before .before .before .before .before .before .before .earlier .ensures)) (c .before .before .before .coordinate3 .ensures ∙ ap (λ (x : Axis). coord x (c .before .before .before .before .before .before .before .before .before .before .before .before .args .b .hi)) (c .before .before .before .before .before .before .later .ensures)) (c .before .before .coordinate4 .ensures ∙ ap (λ (x : Axis). coord x (c .before .before .before .before .before .before .before .before .before .before .before .before .args .b .lo)) (c .before .before .before .before .before .before .later .ensures))
+returns c =
+    let coordinate2 = c .before .before .before .before .coordinate2 in
+    let coordinate = c .before .before .before .before .before .coordinate in
+    let later = c .before .before .before .before .before .before .later in
+    let earlier = c .before .before .before .before .before .before .before .earlier in
+    let start = c .before .before .before .before .before .before .before .before .before .before .before .before in
+    planing-end _ _ _ _ (start .pre .3) (start .pre .4) (start .pre .5) _ _ (start .pre .2) _ _ _ _ _ _ _ _ _ (c .before .loop .inv)
+    (c .loop-test .left) (coordinate .ensures ∙ ap (λ (x : Axis). coord x (start .args .b .lo)) (earlier .ensures))
+    (coordinate2 .ensures ∙ ap (λ (x : Axis). coord x (start .args .b .hi)) (earlier .ensures))
+    (c .before .before .before .coordinate3 .ensures ∙ ap (λ (x : Axis). coord x (start .args .b .hi)) (later .ensures))
+    (c .before .before .coordinate4 .ensures ∙ ap (λ (x : Axis). coord x (start .args .b .lo)) (later .ensures))
 
 pub cut-plane-spec : {M : Type 1} → statement M
 cut-plane-spec =

@@ -24,9 +24,11 @@ same-length-2 c = search needs
 
 returns : tie.Need-returns
 returns c =
+    let turn = c .before .before .before .before .before .before .turn in
+    let number-of = c .before .before .before .before .before .before .before .before .number-of in
     let s = c .before .before .before .before .before .before .before .before .before .before .before in
-    let e = c .before .before .before .before .before .before .before .before .number-of .ensures .0 in
-    (flip-turn _ _ (s .pre .3) _ e _ _ (c .before .before .before .before .before .before .turn .ensures), flip-works _ _ (s .pre .3) _ e _ _ (c .before .before .turn-faces .ensures))
+    let e = number-of .ensures .0 in
+    (flip-turn _ _ (s .pre .3) _ e _ _ (turn .ensures), flip-works _ _ (s .pre .3) _ e _ _ (c .before .before .turn-faces .ensures))
 
 pub flip-spec : {M : Type 1} → statement M
 flip-spec =

@@ -14,10 +14,21 @@ loop-holds : tie.Need-loop-holds Inv-loop μ-loop
 loop-holds c = record { run = c .before .before .pre .3; grid = refl; work = refl; g-long = refl; w-long = refl }
 
 flip-requires : tie.Need-flip-requires Inv-loop μ-loop
-flip-requires c κs = (c .before .before .before .before .before .before .pre .0, rw (c .before .before .before .loop .inv .g-long) (c .before .before .before .before .before .before .pre .1), rw (c .before .before .before .loop .inv .w-long) (c .before .before .before .before .before .before .pre .2), run-edge _ _ _ _ (c .before .before .before .loop .inv .run) (c .before .before .loop-test .taken))
+flip-requires c κs =
+    let loop-told = c .before .before .before .loop in
+    let start = c .before .before .before .before .before .before in (
+      start .pre .0,
+      rw (loop-told .inv .g-long) (start .pre .1),
+      rw (loop-told .inv .w-long) (start .pre .2),
+      run-edge _ _ _ _ (loop-told .inv .run) (c .before .before .loop-test .taken),
+    )
 
 next-edge-requires : tie.Need-next-edge-requires Inv-loop μ-loop
-next-edge-requires c κs = (c .before .before .before .before .before .before .before .before .before .before .before .pre .0, run-low _ _ _ _ (c .before .before .before .before .before .before .before .before .loop .inv .run) (c .before .before .before .before .before .before .before .loop-test .taken))
+next-edge-requires c κs =
+    let loop-test = c .before .before .before .before .before .before .before .loop-test in
+    let loop-told = c .before .before .before .before .before .before .before .before .loop in
+    let start = c .before .before .before .before .before .before .before .before .before .before .before in
+    (start .pre .0, run-low _ _ _ _ (loop-told .inv .run) (loop-test .taken))
 
 sub-k : tie.Need-sub-k Inv-loop μ-loop
 sub-k c = c .before .before .before .before .before .before .before .before .loop-test .taken
@@ -26,7 +37,11 @@ loop-less : tie.Need-loop-less Inv-loop μ-loop
 loop-less c = omega (arith, c .before .before .before .before .before .before .before .before .loop-test .taken)
 
 loop-again : tie.Need-loop-again Inv-loop μ-loop
-loop-again c = running-on _ _ _ _ _ _ _ _ _ _ (c .before .before .before .before .before .before .before .before .before .loop .inv) (c .before .before .before .before .before .before .before .before .loop-test .taken) _ _ _ (c .next-edge .ensures) (c .before .before .before .before .before .flip .ensures .0) (c .before .before .before .before .before .flip .ensures .1)
+loop-again c =
+    let flip = c .before .before .before .before .before .flip in
+    let loop-test = c .before .before .before .before .before .before .before .before .loop-test in
+    let loop-told = c .before .before .before .before .before .before .before .before .before .loop in
+    running-on _ _ _ _ _ _ _ _ _ _ (loop-told .inv) (loop-test .taken) _ _ _ (c .next-edge .ensures) (flip .ensures .0) (flip .ensures .1)
 
 same-length : tie.Need-same-length Inv-loop μ-loop
 same-length c = c .before .loop .inv .g-long

@@ -25,7 +25,18 @@ sub-flip-run : tie.Need-sub-flip-run
 sub-flip-run c = search needs
 
 flip-run-requires : tie.Need-flip-run-requires
-flip-run-requires c κs = (c .before .before .before .before .before .before .before .before .before .pre .0, c .before .before .before .before .before .before .before .before .before .pre .1, c .before .before .before .before .before .before .before .before .before .pre .2, join-run (c .before .before .before .before .before .before .before .before .before .args .n) (c .before .before .before .before .before .before .before .before .before .args .a) (c .before .before .before .before .before .before .before .before .before .args .m) (c .before .before .before .before .before .before .before .before .before .args .p) (c .before .before .before .before .before .before .before .before .before .args .q) _ _ (c .before .before .before .before .before .before .earlier .ensures) (c .before .before .before .before .before .later .ensures) _ _ (c .before .before .before .before .before .before .earlier .ensures) (c .before .before .before .before .before .later .ensures) (c .before .before .before .before .before .before .before .before .before .pre .3) (c .before .before .before .before .before .before .before .before .before .pre .4) (c .before .before .before .before .before .before .before .before .before .pre .5) (c .before .before .before .before .before .before .before .before .before .pre .6) _ _ _ (c .before .before .before .before .least .ensures) (c .before .before .before .most .ensures) (c .before .before .point-at .ensures))
+flip-run-requires c κs =
+    let least = c .before .before .before .before .least in
+    let later = c .before .before .before .before .before .later in
+    let earlier = c .before .before .before .before .before .before .earlier in
+    let start = c .before .before .before .before .before .before .before .before .before in (
+      start .pre .0,
+      start .pre .1,
+      start .pre .2,
+      join-run (start .args .n) (start .args .a) (start .args .m) (start .args .p) (start .args .q) _ _
+          (earlier .ensures) (later .ensures) _ _ (earlier .ensures) (later .ensures) (start .pre .3) (start .pre .4) (start .pre .5) (start .pre .6) _
+          _ _ (least .ensures) (c .before .before .before .most .ensures) (c .before .before .point-at .ensures),
+    )
 
 least-requires-2 : tie.Need-least-requires-2
 least-requires-2 c κs = search needs
@@ -43,7 +54,20 @@ sub-flip-run-2 : tie.Need-sub-flip-run-2
 sub-flip-run-2 c = search needs
 
 flip-run-requires-2 : tie.Need-flip-run-requires-2
-flip-run-requires-2 c κs = (c .before .before .before .before .before .before .before .before .before .before .before .before .before .before .before .before .before .before .before .pre .0, rw (c .before .before .before .before .before .before .before .before .before .flip-run .kept .1 .0) (c .before .before .before .before .before .before .before .before .before .before .before .before .before .before .before .before .before .before .before .pre .1), rw (c .before .before .before .before .before .before .before .before .before .flip-run .kept .1 .1 .0) (c .before .before .before .before .before .before .before .before .before .before .before .before .before .before .before .before .before .before .before .pre .2), join-run₂ (c .before .before .before .before .before .before .before .before .before .before .before .before .before .before .before .before .before .before .before .args .n) (c .before .before .before .before .before .before .before .before .before .before .before .before .before .before .before .before .before .before .before .args .a) (c .before .before .before .before .before .before .before .before .before .before .before .before .before .before .before .before .before .before .before .args .m) (c .before .before .before .before .before .before .before .before .before .before .before .before .before .before .before .before .before .before .before .args .p) (c .before .before .before .before .before .before .before .before .before .before .before .before .before .before .before .before .before .before .before .args .q) _ _ (c .before .before .before .before .before .before .before .before .before .before .before .before .before .before .before .before .earlier .ensures) (c .before .before .before .before .before .before .before .before .before .before .before .before .before .before .before .later .ensures) _ _ (c .before .before .before .before .before .before .before .before .before .before .before .before .before .before .before .before .earlier .ensures) (c .before .before .before .before .before .before .before .before .before .before .before .before .before .before .before .later .ensures) (c .before .before .before .before .before .before .before .before .before .before .before .before .before .before .before .before .before .before .before .pre .3) (c .before .before .before .before .before .before .before .before .before .before .before .before .before .before .before .before .before .before .before .pre .4) (c .before .before .before .before .before .before .before .before .before .before .before .before .before .before .before .before .before .before .before .pre .5) (c .before .before .before .before .before .before .before .before .before .before .before .before .before .before .before .before .before .before .before .pre .6) _ _ _ (c .before .before .before .before .least2 .ensures) (c .before .before .before .most2 .ensures) (c .before .before .point-at2 .ensures))
+flip-run-requires-2 c κs =
+    let least2 = c .before .before .before .before .least2 in
+    let flip-run = c .before .before .before .before .before .before .before .before .before .flip-run in
+    let later = c .before .before .before .before .before .before .before .before .before .before .before .before .before .before .before .later in
+    let back = c .before .before .before .before .before .before .before .before .before .before in
+    let earlier = back .before .before .before .before .before .before .earlier in
+    let start = back .before .before .before .before .before .before .before .before .before in (
+      start .pre .0,
+      rw (flip-run .kept .1 .0) (start .pre .1),
+      rw (flip-run .kept .1 .1 .0) (start .pre .2),
+      join-run₂ (start .args .n) (start .args .a) (start .args .m) (start .args .p) (start .args .q) _ _ (earlier .ensures) (later .ensures) _ _
+          (earlier .ensures) (later .ensures) (start .pre .3) (start .pre .4) (start .pre .5) (start .pre .6) _ _ _ (least2 .ensures)
+          (c .before .before .before .most2 .ensures) (c .before .before .point-at2 .ensures),
+    )
 
 same-length : tie.Need-same-length
 same-length c = search needs
@@ -52,10 +76,27 @@ same-length-2 : tie.Need-same-length-2
 same-length-2 c = search needs
 
 returns : tie.Need-returns
-returns c = (
-  join-turns (c .before .before .before .before .before .before .before .before .before .before .before .before .before .before .before .before .before .before .before .before .before .before .before .before .args .n) (c .before .before .before .before .before .before .before .before .before .before .before .before .before .before .before .before .before .before .before .before .before .before .before .before .args .a) (c .before .before .before .before .before .before .before .before .before .before .before .before .before .before .before .before .before .before .before .before .before .before .before .before .args .m) (c .before .before .before .before .before .before .before .before .before .before .before .before .before .before .before .before .before .before .before .before .before .before .before .before .args .p) (c .before .before .before .before .before .before .before .before .before .before .before .before .before .before .before .before .before .before .before .before .before .before .before .before .args .q) _ _ (c .before .before .before .before .before .before .before .before .before .before .before .before .before .before .before .before .before .before .before .before .before .earlier .ensures) (c .before .before .before .before .before .before .before .before .before .before .before .before .before .before .before .before .before .before .before .before .later .ensures) _ _ _ _ _ _ (c .before .before .before .before .before .before .before .before .before .before .before .before .before .before .before .before .before .before .before .least .ensures) (c .before .before .before .before .before .before .before .before .before .before .before .before .before .before .before .before .before .before .most .ensures) (c .before .before .before .before .before .before .before .before .before .before .before .before .before .before .before .before .before .point-at .ensures) (c .before .before .before .before .before .before .before .before .before .least2 .ensures) (c .before .before .before .before .before .before .before .before .most2 .ensures) (c .before .before .before .before .before .before .before .point-at2 .ensures) _ _ _ (c .before .before .before .before .before .before .before .before .before .before .before .before .before .before .flip-run .ensures .0) (c .before .before .before .before .flip-run2 .ensures .0),
-  join-works (c .before .before .before .before .before .before .before .before .before .before .before .before .before .before .before .before .before .before .before .before .before .before .before .before .args .n) (c .before .before .before .before .before .before .before .before .before .before .before .before .before .before .before .before .before .before .before .before .before .before .before .before .args .a) (c .before .before .before .before .before .before .before .before .before .before .before .before .before .before .before .before .before .before .before .before .before .before .before .before .args .m) (c .before .before .before .before .before .before .before .before .before .before .before .before .before .before .before .before .before .before .before .before .before .before .before .before .args .p) (c .before .before .before .before .before .before .before .before .before .before .before .before .before .before .before .before .before .before .before .before .before .before .before .before .args .q) _ _ (c .before .before .before .before .before .before .before .before .before .before .before .before .before .before .before .before .before .before .before .before .before .earlier .ensures) (c .before .before .before .before .before .before .before .before .before .before .before .before .before .before .before .before .before .before .before .before .later .ensures) _ _ _ _ _ _ (c .before .before .before .before .before .before .before .before .before .before .before .before .before .before .before .before .before .before .before .least .ensures) (c .before .before .before .before .before .before .before .before .before .before .before .before .before .before .before .before .before .before .most .ensures) (c .before .before .before .before .before .before .before .before .before .before .before .before .before .before .before .before .before .point-at .ensures) (c .before .before .before .before .before .before .before .before .before .least2 .ensures) (c .before .before .before .before .before .before .before .before .most2 .ensures) (c .before .before .before .before .before .before .before .point-at2 .ensures) _ _ _ (c .before .before .before .before .before .before .before .before .before .before .before .before .before .before .flip-run .ensures .1) (c .before .before .before .before .flip-run2 .ensures .1),
-)
+returns c =
+    let flip-run2 = c .before .before .before .before .flip-run2 in
+    let point-at2 = c .before .before .before .before .before .before .before .point-at2 in
+    let most2 = c .before .before .before .before .before .before .before .before .most2 in
+    let least2 = c .before .before .before .before .before .before .before .before .before .least2 in
+    let flip-run = c .before .before .before .before .before .before .before .before .before .before .before .before .before .before .flip-run in
+    let back = c .before .before .before .before .before .before .before .before .before .before in
+    let point-at = back .before .before .before .before .before .before .before .point-at in
+    let most = back .before .before .before .before .before .before .before .before .most in
+    let least = back .before .before .before .before .before .before .before .before .before .least in
+    let later = back .before .before .before .before .before .before .before .before .before .before .later in
+    let earlier = back .before .before .before .before .before .before .before .before .before .before .before .earlier in
+    let back2 = back .before .before .before .before .before .before .before .before .before .before in
+    let start = back2 .before .before .before .before in (
+      join-turns (start .args .n) (start .args .a) (start .args .m) (start .args .p) (start .args .q) _ _ (earlier .ensures) (later .ensures) _ _ _ _ _ _
+          (least .ensures) (most .ensures) (point-at .ensures) (least2 .ensures) (most2 .ensures) (point-at2 .ensures) _ _ _ (flip-run .ensures .0)
+          (flip-run2 .ensures .0),
+      join-works (start .args .n) (start .args .a) (start .args .m) (start .args .p) (start .args .q) _ _ (earlier .ensures) (later .ensures) _ _ _ _ _ _
+          (least .ensures) (most .ensures) (point-at .ensures) (least2 .ensures) (most2 .ensures) (point-at2 .ensures) _ _ _ (flip-run .ensures .1)
+          (flip-run2 .ensures .1),
+    )
 
 pub join-spec : {M : Type 1} → statement M
 join-spec =

@@ -15,16 +15,33 @@ loop-holds : tie.Need-loop-holds Inv-loop μ-loop
 loop-holds c = record { scan = refl; unpaired = c .before .before .pre .7; g-long = refl; w-long = refl }
 
 pair-spot-requires : tie.Need-pair-spot-requires Inv-loop μ-loop
-pair-spot-requires c κs = (c .before .before .before .before .before .before .pre .0, rw (c .before .before .before .loop .inv .g-long) (c .before .before .before .before .before .before .pre .1), rw (c .before .before .before .loop .inv .w-long) (c .before .before .before .before .before .before .pre .2), c .before .before .before .before .before .before .pre .3, c .before .before .before .before .before .before .pre .4, omega (arith, c .before .before .loop-test .taken, c .before .before .before .before .before .before .pre .5, c .before .before .before .before .before .before .pre .6), c .before .before .before .loop .inv .unpaired)
+pair-spot-requires c κs =
+    let loop-told = c .before .before .before .loop in
+    let start = c .before .before .before .before .before .before in (
+      start .pre .0,
+      rw (loop-told .inv .g-long) (start .pre .1),
+      rw (loop-told .inv .w-long) (start .pre .2),
+      start .pre .3,
+      start .pre .4,
+      omega (arith, c .before .before .loop-test .taken, start .pre .5, start .pre .6),
+      loop-told .inv .unpaired,
+    )
 
 add-u : tie.Need-add-u Inv-loop μ-loop
-add-u c = omega (arith, c .before .before .before .before .before .before .before .loop-test .taken, c .before .before .before .before .before .before .before .before .before .before .before .pre .5, c .before .before .before .before .before .before .before .before .before .before .before .pre .0)
+add-u c =
+    let loop-test = c .before .before .before .before .before .before .before .loop-test in
+    let start = c .before .before .before .before .before .before .before .before .before .before .before in
+    omega (arith, loop-test .taken, start .pre .5, start .pre .0)
 
 loop-less : tie.Need-loop-less Inv-loop μ-loop
 loop-less c = omega (arith, c .before .before .before .before .before .before .before .loop-test .taken)
 
 loop-again : tie.Need-loop-again Inv-loop μ-loop
-loop-again c = rowing-on _ _ _ _ _ _ _ _ _ _ _ (c .before .before .before .before .before .before .before .before .loop .inv) (c .before .before .before .before .before .before .before .loop-test .taken) _ _ _ (c .before .before .before .before .pair-spot .ensures .0) (c .before .before .before .before .pair-spot .ensures .1)
+loop-again c =
+    let pair-spot = c .before .before .before .before .pair-spot in
+    let loop-test = c .before .before .before .before .before .before .before .loop-test in
+    let loop-told = c .before .before .before .before .before .before .before .before .loop in
+    rowing-on _ _ _ _ _ _ _ _ _ _ _ (loop-told .inv) (loop-test .taken) _ _ _ (pair-spot .ensures .0) (pair-spot .ensures .1)
 
 same-length : tie.Need-same-length Inv-loop μ-loop
 same-length c = c .before .loop .inv .g-long

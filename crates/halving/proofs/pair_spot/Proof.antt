@@ -9,13 +9,21 @@ point-at-requires : tie.Need-point-at-requires
 point-at-requires c κs = search needs
 
 member-requires : tie.Need-member-requires
-member-requires c κs = (c .before .before .before .before .pre .0, c .before .before .before .before .pre .2, place-low (c .before .before .before .before .args .n) (c .before .before .before .before .args .a) (c .before .before .before .before .args .m) (c .before .before .before .before .args .q) (c .before .before .before .before .args .h) (c .before .before .before .before .args .grid .now) (c .before .before .before .before .args .work .now) _ _ (c .before .point-at .ensures) refl (c .before .before .before .before .pre .4) (c .before .before .before .before .pre .5))
+member-requires c κs =
+    let start = c .before .before .before .before in (
+      start .pre .0,
+      start .pre .2,
+      place-low (start .args .n) (start .args .a) (start .args .m) (start .args .q) (start .args .h)
+          (start .args .grid .now) (start .args .work .now) _ _ (c .before .point-at .ensures) refl (start .pre .4) (start .pre .5),
+    )
 
 same-length : tie.Need-same-length
 same-length c = search needs
 
 returns : tie.Need-returns
-returns c = (pass-is _ _ _ _ _ _ _ _ _ (c .before .before .before .point-at .ensures) (c .before .member .ensures) (not-true _ (c .if1 .taken)), c .before .before .before .before .before .before .pre .6)
+returns c =
+    let start = c .before .before .before .before .before .before in
+    (pass-is _ _ _ _ _ _ _ _ _ (c .before .before .before .point-at .ensures) (c .before .member .ensures) (not-true _ (c .if1 .taken)), start .pre .6)
 
 join-requires : tie.Need-join-requires
 join-requires c κs = search needs
@@ -27,13 +35,25 @@ same-length-3 : tie.Need-same-length-3
 same-length-3 c = search needs
 
 returns-2 : tie.Need-returns-2
-returns-2 c = (meet-is _ _ _ _ _ _ _ _ _ (c .before .before .before .before .before .before .before .before .before .before .before .before .point-at .ensures) (c .before .before .before .before .before .before .before .before .before .before .member .ensures) (not-false _ (c .before .before .before .before .before .before .before .before .before .if1 .left)) (c .before .before .before .before .before .before .before .before .if2 .taken) _ _ (c .before .before .before .before .join .ensures .0) (c .before .before .before .before .join .ensures .1), c .before .before .before .before .before .before .before .before .before .before .before .before .before .before .before .pre .5)
+returns-2 c =
+    let join = c .before .before .before .before .join in
+    let if2 = c .before .before .before .before .before .before .before .before .if2 in
+    let if1 = c .before .before .before .before .before .before .before .before .before .if1 in
+    let member = c .before .before .before .before .before .before .before .before .before .before .member in
+    let point-at = c .before .before .before .before .before .before .before .before .before .before .before .before .point-at in
+    let start = c .before .before .before .before .before .before .before .before .before .before .before .before .before .before .before in (
+      meet-is _ _ _ _ _ _ _ _ _ (point-at .ensures) (member .ensures) (not-false _ (if1 .left)) (if2 .taken) _ _ (join .ensures .0) (join .ensures .1),
+      start .pre .5,
+    )
 
 same-length-4 : tie.Need-same-length-4
 same-length-4 c = search needs
 
 returns-3 : tie.Need-returns-3
-returns-3 c = (wait-is _ _ _ _ _ _ _ _ _ (c .before .before .before .before .point-at .ensures) (c .before .before .member .ensures) (not-false _ (c .before .if1 .left)) (c .if2 .left), c .before .before .before .before .before .before .before .pre .5)
+returns-3 c =
+    let point-at = c .before .before .before .before .point-at in
+    let start = c .before .before .before .before .before .before .before in
+    (wait-is _ _ _ _ _ _ _ _ _ (point-at .ensures) (c .before .before .member .ensures) (not-false _ (c .before .if1 .left)) (c .if2 .left), start .pre .5)
 
 pub pair-spot-spec : {M : Type 1} → statement M
 pair-spot-spec =

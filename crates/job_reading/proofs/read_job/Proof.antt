@@ -40,10 +40,12 @@ enum-told c = search needs
 
 returns-2 : tie.Need-returns-2
 returns-2 c =
+    let read-told = c .before .before .before .before .before .read in
+    let wide-told = c .before .before .before .before .before .before .wide in
     let test = c .before .before .before .before .before .before .before .before in
     let s = test .before .before .args .file .now in
-    let wide = ap levelOf (c .before .before .before .before .before .before .wide .ensures .0) in
-    let known = sym (c .before .before .before .l .given .1) ∙ c .before .before .before .before .before .read .ensures ∙ wide in
+    let wide = ap levelOf (wide-told .ensures .0) in
+    let known = sym (c .before .before .before .l .given .1) ∙ read-told .ensures ∙ wide in
     c .read-sized .ensures
     ∙ ap (λ (n : ℕ). readSized n s) (c .before .cells .ensures)
     ∙ sym (read-level s (ne-eqb _ _ (test .if1 .left)) _ (sym known))

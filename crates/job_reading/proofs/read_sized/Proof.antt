@@ -93,13 +93,17 @@ part-fits-requires c κs =
 
 returns-6 : tie.Need-returns-6
 returns-6 c =
+    let are-placed = c .before .before .before .before .are-placed in
+    let point-count = c .before .before .before .before .before .point-count in
+    let if4 = c .before .before .before .before .before .before .if4 in
+    let kinds-rise = c .before .before .before .before .before .before .before .kinds-rise in
     let test = c .before .before .before .before .before .before .before .before in
     let start = test .before .before .before .before .before in
     let n = start .args .n in
     let s = start .args .file .now in
-    let kinds = holds (c .before .before .before .before .before .before .before .kinds-rise .ensures)
-    (c .before .before .before .before .before .before .if4 .left) in
-    let fit = places n _ _ s (c .before .before .before .before .before .point-count .ensures .0) (c .before .before .before .before .are-placed .ensures) in
+    let kinds = holds (kinds-rise .ensures)
+    (if4 .left) in
+    let fit = places n _ _ s (point-count .ensures .0) (are-placed .ensures) in
     let grid = c .before .part-fits .ensures ∙ ap (λ (p : Part). gridFits n (there p) (bytesOf s p)) (c .before .before .find .ensures) in
     read-grid n s (test .before .before .before .if1 .left) (test .before .if2 .left) (test .if3 .left) kinds
     (holds fit (c .before .before .before .if5 .left)) (fails grid (c .if6 .taken))
@@ -109,18 +113,23 @@ contents-of-requires c κs = search needs
 
 returns-7 : tie.Need-returns-7
 returns-7 c =
+    let if5 = c .before .before .before .before .if5 in
+    let are-placed = c .before .before .before .before .before .are-placed in
+    let point-count = c .before .before .before .before .before .before .point-count in
+    let if4 = c .before .before .before .before .before .before .before .if4 in
+    let kinds-rise = c .before .before .before .before .before .before .before .before .kinds-rise in
     let test = c .before .before .before .before .before .before .before .before .before in
     let start = test .before .before .before .before .before in
     let n = start .args .n in
     let s = start .args .file .now in
-    let kinds = holds (c .before .before .before .before .before .before .before .before .kinds-rise .ensures)
-    (c .before .before .before .before .before .before .before .if4 .left) in
-    let fit = places n _ _ s (c .before .before .before .before .before .before .point-count .ensures .0)
-    (c .before .before .before .before .before .are-placed .ensures) in
+    let kinds = holds (kinds-rise .ensures)
+    (if4 .left) in
+    let fit = places n _ _ s (point-count .ensures .0)
+    (are-placed .ensures) in
     let grid = c .before .before .part-fits .ensures ∙ ap (λ (p : Part). gridFits n (there p) (bytesOf s p)) (c .before .before .before .find .ensures) in
     ap done (c .contents-of .ensures)
     ∙ read-whole n s (test .before .before .before .if1 .left) (test .before .if2 .left) (test .if3 .left) kinds
-    (holds fit (c .before .before .before .before .if5 .left)) (holds grid (c .before .if6 .left))
+    (holds fit (if5 .left)) (holds grid (c .before .if6 .left))
 
 pub read-sized-spec : {M : Type 1} → statement M
 read-sized-spec =

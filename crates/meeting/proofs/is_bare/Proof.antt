@@ -20,7 +20,10 @@ is-thin-requires-3 c κs = search needs
 
 returns-2 : tie.Need-returns-2
 unfolding bareOf
-returns-2 c = simp (sym (c .before .before .before .before .is-thin .ensures) ∙ c .before .before .before .if1 .taken, sym (c .before .before .is-thin2 .ensures) ∙ c .before .if2 .left) (c .is-thin3 .ensures)
+returns-2 c =
+    let is-thin = c .before .before .before .before .is-thin in
+    simp (sym (is-thin .ensures) ∙ c .before .before .before .if1 .taken, sym (c .before .before .is-thin2 .ensures) ∙ c .before .if2 .left)
+    (c .is-thin3 .ensures)
 
 is-thin-requires-4 : tie.Need-is-thin-requires-4
 is-thin-requires-4 c κs = search needs
@@ -30,7 +33,10 @@ is-thin-requires-5 c κs = search needs
 
 returns-3 : tie.Need-returns-3
 unfolding bareOf
-returns-3 c = simp (sym (c .before .before .before .before .is-thin .ensures) ∙ c .before .before .before .if1 .left, sym (c .before .before .is-thin4 .ensures) ∙ c .before .if3 .taken) (c .is-thin5 .ensures)
+returns-3 c =
+    let is-thin = c .before .before .before .before .is-thin in
+    simp (sym (is-thin .ensures) ∙ c .before .before .before .if1 .left, sym (c .before .before .is-thin4 .ensures) ∙ c .before .if3 .taken)
+    (c .is-thin5 .ensures)
 
 returns-4 : tie.Need-returns-4
 unfolding bareOf

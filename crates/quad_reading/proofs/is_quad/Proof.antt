@@ -40,9 +40,10 @@ numbers : (c : tie.After-cell-number) →
     Around (start .args .n) (start .args .axis) (start .args .p) (c .before .before .before .cell-step .result) (c .before .cell-step2 .result)
     (c .cell-number .result)
 numbers c =
+    let place = c .before .before .before .before .before in
     let start = c .before .before .before .before .before .before .before in
     let next-is = c .before .before .before .before .next .ensures in
-    around (start .args .n) (start .args .axis) (start .args .p) _ _ _ (inner-here (c .before .before .before .before .before))
+    around (start .args .n) (start .args .axis) (start .args .p) _ _ _ (inner-here (place))
     (c .before .before .before .cell-step .ensures ∙ ap (cellStep (start .args .n)) next-is)
     (c .before .cell-step2 .ensures ∙ ap (cellStep (start .args .n)) (c .before .before .next2 .ensures ∙ ap next next-is))
     (c .cell-number .ensures)
@@ -65,9 +66,10 @@ same-four-requires c κs = search needs
 
 returns-2 : tie.Need-returns-2
 returns-2 c =
+    let place = c .before .before .before .before .before .before .before in
     let start = c .before .before .before .before .before .before .before .before .before in
     quad-in (start .args .n) _ (start .args .inside) (start .args .axis) (start .args .p) _ _ _ _
-    (inner-here (c .before .before .before .before .before .before .before)) (numbers (c .before .before)) (c .before .before .cell-number .ensures)
+    (inner-here (place)) (numbers (c .before .before)) (c .before .before .cell-number .ensures)
     (c .before .if2 .taken) (c .same-four .ensures)
 
 same-four-requires-2 : tie.Need-same-four-requires-2
@@ -75,9 +77,10 @@ same-four-requires-2 c κs = search needs
 
 returns-3 : tie.Need-returns-3
 returns-3 c =
+    let place = c .before .before .before .before .before .before .before in
     let start = c .before .before .before .before .before .before .before .before .before in
     quad-out (start .args .n) _ (start .args .inside) (start .args .axis) (start .args .p) _ _ _ _
-    (inner-here (c .before .before .before .before .before .before .before)) (numbers (c .before .before)) (c .before .before .cell-number .ensures)
+    (inner-here (place)) (numbers (c .before .before)) (c .before .before .cell-number .ensures)
     (c .before .if2 .left) (c .same-four2 .ensures)
 
 pub is-quad-spec : {M : Type 1} → statement M

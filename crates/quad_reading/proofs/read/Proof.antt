@@ -39,9 +39,12 @@ read-at-requires-3 c κs = search needs
 returns-3 : tie.Need-returns-3
 unfolding read
 returns-3 c =
+    let is-highest2 = c .before .before .before .before .is-highest2 in
+    let if1 = c .before .before .before .before .before .if1 in
+    let is-highest = c .before .before .before .before .before .before .is-highest in
     rw (
-      sym (c .before .before .before .before .before .before .is-highest .ensures) ∙ c .before .before .before .before .before .if1 .left,
-      sym (c .before .before .before .before .is-highest2 .ensures) ∙ c .before .before .before .if2 .left,
+      sym (is-highest .ensures) ∙ if1 .left,
+      sym (is-highest2 .ensures) ∙ c .before .before .before .if2 .left,
       sym (c .before .before .is-highest3 .ensures) ∙ c .before .if3 .taken,
     )
     (c .read-at3 .ensures)
@@ -52,9 +55,12 @@ read-at-requires-4 c κs = search needs
 returns-4 : tie.Need-returns-4
 unfolding read
 returns-4 c =
+    let is-highest2 = c .before .before .before .before .is-highest2 in
+    let if1 = c .before .before .before .before .before .if1 in
+    let is-highest = c .before .before .before .before .before .before .is-highest in
     rw (
-      sym (c .before .before .before .before .before .before .is-highest .ensures) ∙ c .before .before .before .before .before .if1 .left,
-      sym (c .before .before .before .before .is-highest2 .ensures) ∙ c .before .before .before .if2 .left,
+      sym (is-highest .ensures) ∙ if1 .left,
+      sym (is-highest2 .ensures) ∙ c .before .before .before .if2 .left,
       sym (c .before .before .is-highest3 .ensures) ∙ c .before .if3 .left,
     )
     (c .read-at4 .ensures)

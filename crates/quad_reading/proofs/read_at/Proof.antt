@@ -27,11 +27,14 @@ try-edge-requires c κs = search needs
 
 returns : tie.Need-returns
 returns c =
+    let next = c .before .before .before .before .next in
+    let step-axis2 = c .before .before .before .before .before .step-axis2 in
+    let step-axis = c .before .before .before .before .before .before .step-axis in
     let start = c .before .before .before .before .before .before .before in
     at-told (start .args .n) _ _ _ _ _ _ _ _
-    (c .before .before .before .before .before .before .step-axis .ensures)
-    (c .before .before .before .before .before .step-axis2 .ensures)
-    (c .before .before .before .before .next .ensures)
+    (step-axis .ensures)
+    (step-axis2 .ensures)
+    (next .ensures)
     (c .before .before .before .same-axis .ensures)
     (c .before .before .axis-for .ensures)
     (c .before .cell-at .ensures)

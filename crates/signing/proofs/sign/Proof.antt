@@ -23,10 +23,12 @@ level-read : (c : tie.After-points) →
     (badLevel (s .args .level) ≡ false) × (levelAt (s .args .level) ≡ c .before .before .before .l .given .0 .0)
 level-read c = read-known _ _ (sym (c .before .before .before .before .before .read .ensures) ∙ c .before .before .before .l .given .1)
 
-grid-long : (c : tie.Else1) → pointsOf (c .before .before .before .before .l .given .0 .0) ≤ length (c .before .before .before .before .before .before .before .before .args .grid .now)
+grid-long : (c : tie.Else1) → pointsOf (c .before .before .before .before .l .given .0 .0) ≤ length
+    (c .before .before .before .before .before .before .before .before .args .grid .now)
 grid-long c = rw (c .before .points .ensures) at (c .if1 .left)
 
-a-grid : (c : tie.Else2) → isGrid (cellsOf (c .before .before .before .before .before .before .before .l .given .0 .0)) (c .before .before .before .before .before .before .before .before .before .before .before .args .grid .now) ≡ true
+a-grid : (c : tie.Else2) → isGrid (cellsOf (c .before .before .before .before .before .before .before .l .given .0 .0))
+    (c .before .before .before .before .before .before .before .before .before .before .before .args .grid .now) ≡ true
 a-grid c = holds (rw (c .before .before .before .before .before .cells .ensures) at (c .before .is-grid .ensures)) (c .if2 .left)
 
 even : (c : tie.Else3) →
@@ -58,7 +60,9 @@ unfolding signRows signCall
 returns-2 c = simp (level-read (c .before) .0, level-read (c .before) .1, lt-ltb _ _ (rw (c .before .points .ensures) at (c .if1 .taken)))
 
 is-grid-requires : tie.Need-is-grid-requires
-is-grid-requires c κs = rw (c .before .before .before .cells .ensures) (cells-most (c .before .before .before .before .before .l .given .0 .0), grid-long (c .before))
+is-grid-requires c κs =
+    let l = c .before .before .before .before .before .l in
+    rw (c .before .before .before .cells .ensures) (cells-most (l .given .0 .0), grid-long (c .before))
 
 same-length : tie.Need-same-length
 same-length c = search needs
@@ -66,11 +70,17 @@ same-length c = search needs
 returns-3 : tie.Need-returns-3
 unfolding signRows signCall
 returns-3 c =
-    let none = fails (rw (c .before .before .before .before .before .cells .ensures) at (c .before .is-grid .ensures)) (c .if2 .taken) in
-    simp (level-read (c .before .before .before .before) .0, level-read (c .before .before .before .before) .1, le-ltb _ _ (grid-long (c .before .before .before)), none)
+    let place = c .before .before .before .before in
+    let cells = c .before .before .before .before .before .cells in
+    let none = fails (rw (cells .ensures) at (c .before .is-grid .ensures)) (c .if2 .taken) in
+    simp (level-read (place) .0, level-read (place) .1, le-ltb _ _ (grid-long (c .before .before .before)), none)
 
 all-even-requires : tie.Need-all-even-requires
-all-even-requires c κs = rw (c .before .before .before .before .before .before .cells .ensures) (cells-some (c .before .before .before .before .before .before .before .before .l .given .0 .0), cells-most (c .before .before .before .before .before .before .before .before .l .given .0 .0), grid-long (c .before .before .before .before), a-grid (c .before))
+all-even-requires c κs =
+    let place = c .before .before .before .before in
+    let cells = c .before .before .before .before .before .before .cells in
+    let l = c .before .before .before .before .before .before .before .before .l in
+    rw (cells .ensures) (cells-some (l .given .0 .0), cells-most (l .given .0 .0), grid-long (place), a-grid (c .before))
 
 same-length-2 : tie.Need-same-length-2
 same-length-2 c = search needs
@@ -78,11 +88,19 @@ same-length-2 c = search needs
 returns-4 : tie.Need-returns-4
 unfolding signRows signCall
 returns-4 c =
-    let some = fails (rw (c .before .before .before .before .before .before .before .before .cells .ensures) at (c .before .all-even .ensures)) (c .if3 .taken) in
-    simp (level-read (c .before .before .before .before .before .before .before) .0, level-read (c .before .before .before .before .before .before .before) .1, le-ltb _ _ (grid-long (c .before .before .before .before .before .before)), a-grid (c .before .before .before), some)
+    let place-2 = c .before .before .before .before .before .before in
+    let place = c .before .before .before .before .before .before .before in
+    let cells = c .before .before .before .before .before .before .before .before .cells in
+    let some = fails (rw (cells .ensures) at (c .before .all-even .ensures)) (c .if3 .taken) in
+    simp (level-read (place) .0, level-read (place) .1, le-ltb _ _ (grid-long (place-2)), a-grid (c .before .before .before), some)
 
 sign-grid-requires : tie.Need-sign-grid-requires
-sign-grid-requires c κs = rw (c .before .before .before .before .before .before .before .before .before .cells .ensures) ((cells-most (c .before .before .before .before .before .before .before .before .before .before .before .l .given .0 .0), grid-long (c .before .before .before .before .before .before .before)), (a-grid (c .before .before .before .before), even (c .before)))
+sign-grid-requires c κs =
+    let place-2 = c .before .before .before .before in
+    let place = c .before .before .before .before .before .before .before in
+    let cells = c .before .before .before .before .before .before .before .before .before .cells in
+    let l = c .before .before .before .before .before .before .before .before .before .before .before .l in
+    rw (cells .ensures) ((cells-most (l .given .0 .0), grid-long (place)), (a-grid (place-2), even (c .before)))
 
 same-length-3 : tie.Need-same-length-3
 same-length-3 c = search needs
@@ -90,8 +108,13 @@ same-length-3 c = search needs
 returns-5 : tie.Need-returns-5
 unfolding signRows signCall
 returns-5 c =
-    simp (level-read (c .before .before .before .before .before .before .before .before .before .before .before) .0, level-read (c .before .before .before .before .before .before .before .before .before .before .before) .1, le-ltb _ _ (grid-long (c .before .before .before .before .before .before .before .before .before .before)), a-grid (c .before .before .before .before .before .before .before), even (c .before .before .before .before))
-    (ap done (rw (c .before .before .before .before .before .before .before .before .before .before .before .before .cells .ensures) at (c .before .before .sign-grid .ensures)))
+    let place-4 = c .before .before .before .before in
+    let place-3 = c .before .before .before .before .before .before .before in
+    let place-2 = c .before .before .before .before .before .before .before .before .before .before in
+    let place = c .before .before .before .before .before .before .before .before .before .before .before in
+    let cells = c .before .before .before .before .before .before .before .before .before .before .before .before .cells in
+    simp (level-read (place) .0, level-read (place) .1, le-ltb _ _ (grid-long (place-2)), a-grid (place-3), even (place-4))
+    (ap done (rw (cells .ensures) at (c .before .before .sign-grid .ensures)))
 
 pub sign-spec : {M : Type 1} → statement M
 sign-spec =

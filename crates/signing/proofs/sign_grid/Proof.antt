@@ -73,7 +73,8 @@ loop-again c =
       length-set (q .grid) (q .p) _ ∙ q .inv .2,
       rewrite-kept g (q .grid) (q .p) _ (q .inv .3),
       rw add-one (c .across .ensures ∙ ap₂ _⊕_ (q .inv .4) (ap (has X) k) ∙ sym next),
-      rewrite-on (signOf n E) (q .grid) (q .p) (pointCount n) _ _ h (c .before .with-sign .ensures ∙ ap₂ _+_ e (ap (λ (b : Bool). value b 8) (q .inv .4))) (q .inv .5),
+      rewrite-on (signOf n E) (q .grid) (q .p) (pointCount n) _ _ h
+          (c .before .with-sign .ensures ∙ ap₂ _+_ e (ap (λ (b : Bool). value b 8) (q .inv .4))) (q .inv .5),
     )
 
 same-length : tie.Need-same-length Inv-loop μ-loop

@@ -28,9 +28,11 @@ coordinate-requires-3 c κs = search needs
 
 returns : tie.Need-returns
 returns c =
+    let coordinate = c .before .before .before .before .coordinate in
+    let centre = c .before .before .before .before .before .centre in
     let a = c .before .before .before .before .before .before in
     let e = exponentOf (a .args .s) in
-    let x = c .before .before .before .before .coordinate .ensures ∙ ap (λ (k : ℕ). coordOf k e) (c .before .before .before .before .before .centre .ensures .0) in
+    let x = coordinate .ensures ∙ ap (λ (k : ℕ). coordOf k e) (centre .ensures .0) in
     let y = c .before .before .coordinate2 .ensures ∙ ap (λ (k : ℕ). coordOf k e) (c .before .before .before .centre2 .ensures .0) in
     let z = c .coordinate3 .ensures ∙ ap (λ (k : ℕ). coordOf k e) (c .before .centre3 .ensures .0) in
     let p = a .pre .2 in (

@@ -59,24 +59,29 @@ returns : tie.Need-returns
 returns c =
     let up = c .before .before .before .before .before .args .upward in
     let u = c .before .before .unit .ensures in (
-      (λ i. record { x = u i; y = c .before .zero .ensures i; z = c .zero2 .ensures i }) ∙ ap (λ (a : Axis). normalOf a up) (sym (c .before .before .before .enum-told .given .1)),
+      (λ i. record { x = u i; y = c .before .zero .ensures i; z = c .zero2 .ensures i }) ∙ ap (λ (a : Axis). normalOf a up)
+          (sym (c .before .before .before .enum-told .given .1)),
       record { at-x = rw u (unit-number up); at-y = rw (c .before .zero .ensures) zero-number; at-z = rw (c .zero2 .ensures) zero-number },
     )
 
 returns-2 : tie.Need-returns-2
 returns-2 c =
+    let zero3 = c .before .before .zero3 in
     let up = c .before .before .before .before .before .args .upward in
     let u = c .before .unit2 .ensures in (
-      (λ i. record { x = c .before .before .zero3 .ensures i; y = u i; z = c .zero4 .ensures i }) ∙ ap (λ (a : Axis). normalOf a up) (sym (c .before .before .before .enum-told2 .given .1)),
-      record { at-x = rw (c .before .before .zero3 .ensures) zero-number; at-y = rw u (unit-number up); at-z = rw (c .zero4 .ensures) zero-number },
+      (λ i. record { x = zero3 .ensures i; y = u i; z = c .zero4 .ensures i }) ∙ ap (λ (a : Axis). normalOf a up)
+          (sym (c .before .before .before .enum-told2 .given .1)),
+      record { at-x = rw (zero3 .ensures) zero-number; at-y = rw u (unit-number up); at-z = rw (c .zero4 .ensures) zero-number },
     )
 
 returns-3 : tie.Need-returns-3
 returns-3 c =
+    let zero5 = c .before .before .zero5 in
     let up = c .before .before .before .before .before .args .upward in
     let u = c .unit3 .ensures in (
-      (λ i. record { x = c .before .before .zero5 .ensures i; y = c .before .zero6 .ensures i; z = u i }) ∙ ap (λ (a : Axis). normalOf a up) (sym (c .before .before .before .enum-told3 .given .1)),
-      record { at-x = rw (c .before .before .zero5 .ensures) zero-number; at-y = rw (c .before .zero6 .ensures) zero-number; at-z = rw u (unit-number up) },
+      (λ i. record { x = zero5 .ensures i; y = c .before .zero6 .ensures i; z = u i }) ∙ ap (λ (a : Axis). normalOf a up)
+          (sym (c .before .before .before .enum-told3 .given .1)),
+      record { at-x = rw (zero5 .ensures) zero-number; at-y = rw (c .before .zero6 .ensures) zero-number; at-z = rw u (unit-number up) },
     )
 
 pub normal-spec : {M : Type 1} → statement M

@@ -18,8 +18,9 @@ same-length c = search needs
 
 returns : tie.Need-returns
 returns c =
+    let put-triangle = c .before .before .before .before .before .before .put-triangle in
     let a = c .before .before .before .before .before .before .before .before .before in
-    pair-put _ _ _ _ (a .args .normal) (a .args .a) (a .args .b) (a .args .c) (a .args .d) (c .before .before .before .before .before .before .put-triangle .ensures) (c .before .before .put-triangle2 .ensures)
+    pair-put _ _ _ _ (a .args .normal) (a .args .a) (a .args .b) (a .args .c) (a .args .d) (put-triangle .ensures) (c .before .before .put-triangle2 .ensures)
 
 pub put-pair-spec : {M : Type 1} → statement M
 put-pair-spec =

@@ -37,16 +37,31 @@ add-out-2 : tie.Need-add-out-2
 add-out-2 c = search needs
 
 slice-write-out-2 : tie.Need-slice-write-out-2
-slice-write-out-2 c = simp length-set (omega (arith, c .before .before .before .before .before .before .before .before .before .before .before .before .before .before .before .before .before .pre, c .before .before .before .before .before .before .before .before .before .before .before .before .before .before .put-vertex .kept, c .before .before .before .before .before .before .before .before .before .before .put-vertex2 .kept, c .before .before .before .before .before .before .put-vertex3 .kept, c .before .before .put-vertex4 .kept))
+slice-write-out-2 c =
+    let put-vertex3 = c .before .before .before .before .before .before .put-vertex3 in
+    let put-vertex2 = c .before .before .before .before .before .before .before .before .before .before .put-vertex2 in
+    let put-vertex = c .before .before .before .before .before .before .before .before .before .before .before .before .before .before .put-vertex in
+    let back = c .before .before .before .before .before .before .before .before .before .before in
+    let start = back .before .before .before .before .before .before .before in
+    simp length-set (omega (arith, start .pre, put-vertex .kept, put-vertex2 .kept, put-vertex3 .kept, c .before .before .put-vertex4 .kept))
 
 same-length : tie.Need-same-length
-same-length c = simp length-set (omega (arith, c .before .before .before .before .before .before .before .before .before .before .before .before .before .before .before .before .before .pre, c .before .before .before .before .before .before .before .before .before .before .before .before .before .before .put-vertex .kept, c .before .before .before .before .before .before .before .before .before .before .put-vertex2 .kept, c .before .before .before .before .before .before .put-vertex3 .kept, c .before .before .put-vertex4 .kept))
+same-length c =
+    let put-vertex3 = c .before .before .before .before .before .before .put-vertex3 in
+    let put-vertex2 = c .before .before .before .before .before .before .before .before .before .before .put-vertex2 in
+    let put-vertex = c .before .before .before .before .before .before .before .before .before .before .before .before .before .before .put-vertex in
+    let back = c .before .before .before .before .before .before .before .before .before .before in
+    let start = back .before .before .before .before .before .before .before in
+    simp length-set (omega (arith, start .pre, put-vertex .kept, put-vertex2 .kept, put-vertex3 .kept, c .before .before .put-vertex4 .kept))
 
 returns : tie.Need-returns
 returns c =
+    let put-vertex3 = c .before .before .before .before .before .before .put-vertex3 in
+    let put-vertex2 = c .before .before .before .before .before .before .before .before .before .before .put-vertex2 in
+    let put-vertex = c .before .before .before .before .before .before .before .before .before .before .before .before .before .before .put-vertex in
     let a = c .before .before .before .before .before .before .before .before .before .before .before .before .before .before .before .before .before in
     triangle-put (a .args .out .now) (a .args .at) (a .args .normal) (a .args .a) (a .args .b) (a .args .c) _ _ _ _
-    (record { one = c .before .before .before .before .before .before .before .before .before .before .before .before .before .before .put-vertex .ensures; two = c .before .before .before .before .before .before .before .before .before .before .put-vertex2 .ensures; three = c .before .before .before .before .before .before .put-vertex3 .ensures; four = c .before .before .put-vertex4 .ensures })
+    (record { one = put-vertex .ensures; two = put-vertex2 .ensures; three = put-vertex3 .ensures; four = c .before .before .put-vertex4 .ensures })
 
 pub put-triangle-spec : {M : Type 1} → statement M
 put-triangle-spec =

@@ -32,7 +32,11 @@ same-length : tie.Need-same-length
 same-length c = search needs
 
 returns : tie.Need-returns
-returns c = vertex-put _ _ _ _ _ (c .before .before .before .before .before .before .before .before .before .before .before .before .before .before .before .before .args .v) (c .before .before .before .before .before .before .before .before .before .before .before .before .put-word .ensures) (c .before .before .before .before .before .before .before .put-word2 .ensures) (c .before .before .put-word3 .ensures)
+returns c =
+    let put-word2 = c .before .before .before .before .before .before .before .put-word2 in
+    let put-word = c .before .before .before .before .before .before .before .before .before .before .before .before .put-word in
+    let start = c .before .before .before .before .before .before .before .before .before .before .before .before .before .before .before .before in
+    vertex-put _ _ _ _ _ (start .args .v) (put-word .ensures) (put-word2 .ensures) (c .before .before .put-word3 .ensures)
 
 pub put-vertex-spec : {M : Type 1} → statement M
 put-vertex-spec =

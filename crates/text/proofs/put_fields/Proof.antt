@@ -15,9 +15,10 @@ put-field-requires c κs =
 
 put-field-requires-2 : tie.Need-put-field-requires-2
 put-field-requires-2 c κs =
+    let start = c .before .before .before .before .before .before .before .before in
     let a = c .before .before .before .before .before .before .before .before .args in
     let p = c .before .before .before .put-field in
-    omega (arith, c .before .before .before .before .before .before .before .before .pre, length-append (a .text .now ++ decimal (a .n)) (a .second .now ++ decimal (a .m)), p .ensures .place, p .kept .0)
+    omega (arith, start .pre, length-append (a .text .now ++ decimal (a .n)) (a .second .now ++ decimal (a .m)), p .ensures .place, p .kept .0)
 
 same-length : tie.Need-same-length
 same-length c = search needs

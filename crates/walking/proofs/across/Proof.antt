@@ -8,7 +8,8 @@ use Rattle.walking.proofs.across.Statement.{statement}
 use Rattle.walking.proofs.across.Tie as tie
 
 -- after the step on x, after the step on y
-two : (c : tie.After-crossed-on2) → c .crossed-on2 .result ≡ crossedOn Y (c .before .before .args .f) (crossedOn X (c .before .before .args .f) (c .before .before .args .c))
+two : (c : tie.After-crossed-on2) → c .crossed-on2 .result ≡ crossedOn Y (c .before .before .args .f)
+    (crossedOn X (c .before .before .args .f) (c .before .before .args .c))
 two c = c .crossed-on2 .ensures ∙ ap (crossedOn Y (c .before .before .args .f)) (c .before .crossed-on .ensures)
 
 crossed-on-requires : tie.Need-crossed-on-requires
@@ -24,7 +25,8 @@ crossed-on-requires-3 : tie.Need-crossed-on-requires-3
 crossed-on-requires-3 c κs =
     let s = c .before .before in
     let p = crossedOn X (s .args .f) (s .args .c) in
-    let g = crossed-grid (s .args .n) (s .args .f) p Y (crossed-grid (s .args .n) (s .args .f) (s .args .c) X (cell-grid _ _ (s .pre .1)) (s .pre .1 .i)) (s .pre .1 .j) in
+    let g = crossed-grid (s .args .n) (s .args .f) p Y
+    (crossed-grid (s .args .n) (s .args .f) (s .args .c) X (cell-grid _ _ (s .pre .1)) (s .pre .1 .i)) (s .pre .1 .j) in
     rw (two c) (s .pre .0, g, crossed-fits (s .args .n) (s .args .f) (s .args .c) Z (s .pre .3))
 
 returns : tie.Need-returns

@@ -52,9 +52,12 @@ shifted-requires-3 c κs =
 
 returns : tie.Need-returns
 returns c =
+    let same = c .before .before .before .before .same in
+    let index = c .before .before .before .before .before .index in
+    let upper-face = c .before .before .before .before .before .before .before .upper-face in
     let s = c .before .before .before .before .before .before .before .before in
-    crossed-by (s .args .a) _ (c .before .before .before .before .before .before .before .upper-face .ensures) (s .args .c) (s .args .f) _ _ _
-    (c .before .before .before .before .before .index .ensures .0) (c .before .before .before .before .same .ensures .0) (c .before .before .before .same2 .ensures .0)
+    crossed-by (s .args .a) _ (upper-face .ensures) (s .args .c) (s .args .f) _ _ _
+    (index .ensures .0) (same .ensures .0) (c .before .before .before .same2 .ensures .0)
     _ _ _ (c .before .before .shifted .ensures) (c .before .shifted2 .ensures) (c .shifted3 .ensures)
 
 pub crossed-on-spec : {M : Type 1} → statement M

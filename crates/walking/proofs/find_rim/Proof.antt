@@ -13,7 +13,8 @@ use Rattle.walking.proofs.find_rim.Statement.{statement}
 use Rattle.walking.proofs.find_rim.Tie as tie
 
 abbrev Inv-loop : tie.InvT-loop
-Inv-loop n work₀ s₀ work s = (w : List ℕ) (p : Point) → pointCount n ≤ length w → Fine n w → Live n (oddIn n w) w p (record { walk = s₀; work = work₀ }) → Live n (oddIn n w) w p (record { walk = s; work = work })
+Inv-loop n work₀ s₀ work s = (w : List ℕ) (p : Point) → pointCount n ≤ length w → Fine n w → Live n (oddIn n w) w p
+    (record { walk = s₀; work = work₀ }) → Live n (oddIn n w) w p (record { walk = s; work = work })
 
 abbrev μ-loop : tie.MeasureT-loop
 μ-loop n work₀ s₀ work s = left n (record { walk = s; work = work })
@@ -29,34 +30,52 @@ loop-holds c = λ w p l f h. h
 
 walk-on-requires : tie.Need-walk-on-requires Inv-loop μ-loop
 walk-on-requires c κs =
+    let enter-told = c .before .before .before .before .before .before .enter in
     let s = c .before .before .before .before .before .before .before .before .before in
     let w = s .args .work .now in
-    let h = c .before .before .loop .inv w (s .args .seed) (s .pre .1) (s .pre .3) (start-from (s .args .n) w (s .args .seed) (s .pre .1) (s .pre .3) (s .pre .2) (s .pre .4) _ _ (c .before .before .before .single .ensures) (c .before .before .before .before .before .before .enter .ensures)) in
+    let h = c .before .before .loop .inv w (s .args .seed) (s .pre .1) (s .pre .3)
+    (start-from (s .args .n) w (s .args .seed) (s .pre .1) (s .pre .3) (s .pre .2) (s .pre .4) _ _ (c .before .before .before .single .ensures)
+    (enter-told .ensures)) in
     let r = ready (s .args .n) w (s .args .seed) (s .pre .1) (s .pre .3) (s .pre .0) _ h (c .before .loop-test .taken) in
     (s .pre .0, r .0, r .1, r .2, r .3, r .4)
 
 loop-less : tie.Need-loop-less Inv-loop μ-loop
 loop-less c =
+    let loop-test = c .before .before .before .before .loop-test in
+    let loop-told = c .before .before .before .before .before .loop in
+    let single = c .before .before .before .before .before .before .single in
+    let enter-told = c .before .before .before .before .before .before .before .before .before .enter in
     let s = c .before .before .before .before .before .before .before .before .before .before .before .before in
     let w = s .args .work .now in
-    let h = c .before .before .before .before .before .loop .inv w (s .args .seed) (s .pre .1) (s .pre .3) (start-from (s .args .n) w (s .args .seed) (s .pre .1) (s .pre .3) (s .pre .2) (s .pre .4) _ _ (c .before .before .before .before .before .before .single .ensures) (c .before .before .before .before .before .before .before .before .before .enter .ensures)) in
-    step-from (s .args .n) w (s .args .seed) (s .pre .1) (s .pre .3) _ _ (c .before .before .walk-on .ensures) h (c .before .before .before .before .loop-test .taken) .1
+    let h = loop-told .inv w (s .args .seed) (s .pre .1) (s .pre .3)
+    (start-from (s .args .n) w (s .args .seed) (s .pre .1) (s .pre .3) (s .pre .2) (s .pre .4) _ _ (single .ensures) (enter-told .ensures)) in
+    step-from (s .args .n) w (s .args .seed) (s .pre .1) (s .pre .3) _ _ (c .before .before .walk-on .ensures) h (loop-test .taken) .1
 
 loop-again : tie.Need-loop-again Inv-loop μ-loop
-loop-again c = λ w p l f h. step-from (c .before .before .before .before .before .before .before .before .before .before .before .before .args .n) w p l f _ _ (c .before .before .walk-on .ensures) (c .before .before .before .before .before .loop .inv w p l f h) (c .before .before .before .before .loop-test .taken) .0
+loop-again c =
+    let loop-test = c .before .before .before .before .loop-test in
+    let loop-told = c .before .before .before .before .before .loop in
+    let start = c .before .before .before .before .before .before .before .before .before .before .before .before in
+    λ w p l f h. step-from (start .args .n) w p l f _ _ (c .before .before .walk-on .ensures) (loop-told .inv w p l f h) (loop-test .taken) .0
 
 same-length : tie.Need-same-length Inv-loop μ-loop
 same-length c =
+    let enter-told = c .before .before .before .before .before .before .enter in
     let s = c .before .before .before .before .before .before .before .before .before in
     let w = s .args .work .now in
-    let h = c .before .before .loop .inv w (s .args .seed) (s .pre .1) (s .pre .3) (start-from (s .args .n) w (s .args .seed) (s .pre .1) (s .pre .3) (s .pre .2) (s .pre .4) _ _ (c .before .before .before .single .ensures) (c .before .before .before .before .before .before .enter .ensures)) in
+    let h = c .before .before .loop .inv w (s .args .seed) (s .pre .1) (s .pre .3)
+    (start-from (s .args .n) w (s .args .seed) (s .pre .1) (s .pre .3) (s .pre .2) (s .pre .4) _ _ (c .before .before .before .single .ensures)
+    (enter-told .ensures)) in
     h .long
 
 returns : tie.Need-returns Inv-loop μ-loop
 returns c =
+    let enter-told = c .before .before .before .before .before .before .enter in
     let s = c .before .before .before .before .before .before .before .before .before in
     let w = s .args .work .now in
-    let h = c .before .before .loop .inv w (s .args .seed) (s .pre .1) (s .pre .3) (start-from (s .args .n) w (s .args .seed) (s .pre .1) (s .pre .3) (s .pre .2) (s .pre .4) _ _ (c .before .before .before .single .ensures) (c .before .before .before .before .before .before .enter .ensures)) in
+    let h = c .before .before .loop .inv w (s .args .seed) (s .pre .1) (s .pre .3)
+    (start-from (s .args .n) w (s .args .seed) (s .pre .1) (s .pre .3) (s .pre .2) (s .pre .4) _ _ (c .before .before .before .single .ensures)
+    (enter-told .ensures)) in
     h .off (c .before .loop-test .left)
 
 pub find-rim-spec : {M : Type 1} → statement M

@@ -21,7 +21,8 @@ is-open-requires : tie.Need-is-open-requires Inv-loop μ-loop
 is-open-requires c κs = let s = c .before .before .before in (s .pre .0, s .pre .1, s .pre .2, s .pre .3, s .pre .4, c .loop-test .taken)
 
 returns : tie.Need-returns Inv-loop μ-loop
-returns c = first-at _ _ _ _ _ (c .before .before .loop-test .taken) (sym (c .before .is-open .ensures) ∙ c .if1 .taken) ∙ c .before .before .before .loop .inv .1
+returns c = first-at _ _ _ _ _ (c .before .before .loop-test .taken) (sym (c .before .is-open .ensures) ∙ c .if1 .taken) ∙
+    c .before .before .before .loop .inv .1
 
 add-f : tie.Need-add-f Inv-loop μ-loop
 add-f c = omega arith
@@ -30,7 +31,12 @@ loop-less : tie.Need-loop-less Inv-loop μ-loop
 loop-less c = omega (arith, c .before .before .loop-test .taken)
 
 loop-again : tie.Need-loop-again Inv-loop μ-loop
-loop-again c = (omega (arith, c .before .before .loop-test .taken), first-more _ _ _ _ _ (c .before .before .loop-test .taken) (sym (c .before .is-open .ensures) ∙ c .if1 .left) ∙ c .before .before .before .loop .inv .1)
+loop-again c =
+    let loop-test = c .before .before .loop-test in (
+      omega (arith, loop-test .taken),
+      first-more _ _ _ _ _ (loop-test .taken) (sym (c .before .is-open .ensures) ∙ c .if1 .left) ∙
+          c .before .before .before .loop .inv .1,
+    )
 
 returns-2 : tie.Need-returns-2 Inv-loop μ-loop
 returns-2 c =

@@ -31,7 +31,12 @@ most-requires-3 : tie.Need-most-requires-3
 most-requires-3 c κs = search needs
 
 returns : tie.Need-returns
-returns c = rw (c .before .before .before .before .before .before .before .before .least .ensures, c .before .before .before .before .before .before .before .least2 .ensures, c .before .before .before .before .before .before .least3 .ensures, c .before .before .before .before .most .ensures, c .before .before .most2 .ensures, c .most3 .ensures) (simp add-one)
+returns c =
+    let most = c .before .before .before .before .most in
+    let least3 = c .before .before .before .before .before .before .least3 in
+    let least2 = c .before .before .before .before .before .before .before .least2 in
+    let least = c .before .before .before .before .before .before .before .before .least in
+    rw (least .ensures, least2 .ensures, least3 .ensures, most .ensures, c .before .before .most2 .ensures, c .most3 .ensures) (simp add-one)
 
 pub widen-spec : {M : Type 1} → statement M
 widen-spec =

@@ -57,13 +57,17 @@ same-length-2 c = search needs
 
 returns-2 : tie.Need-returns-2
 returns-2 c =
+    let inside-end = c .before .before .before .before .inside-end in
+    let turn = c .before .before .before .before .before .before .before .turn in
+    let number-of = c .before .before .before .before .before .before .before .before .before .number-of in
+    let if1 = c .before .before .before .before .before .before .before .before .before .before .if1 in
+    let member = c .before .before .before .before .before .before .before .before .before .before .before .member in
     let start = c .before .before .before .before .before .before .before .before .before .before .before .before .before .before in
     place-yes (start .args .n) (start .args .inside) (start .args .a) (start .args .p) _ _ _ _ _
-    (sym (c .before .before .before .before .before .before .before .before .before .before .before .member .ensures) ∙ c .before .before .before .before
-    .before .before .before .before .before .before .if1 .left)
-    (c .before .before .before .before .before .before .before .before .before .number-of .ensures .0)
-    (c .before .before .before .before .before .before .before .turn .ensures)
-    (c .before .before .before .before .inside-end .ensures)
+    (sym (member .ensures) ∙ if1 .left)
+    (number-of .ensures .0)
+    (turn .ensures)
+    (inside-end .ensures)
     (c .before .before .say-inside .ensures)
 
 pub place-spec : {M : Type 1} → statement M

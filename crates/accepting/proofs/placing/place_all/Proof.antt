@@ -107,43 +107,50 @@ same-length c =
 
 returns : tie.Need-returns Inv-loop μ-loop
 returns c =
+    let read = c .before .before .before .before .before .read in
+    let loop-test = c .before .before .before .before .before .before .before .before .before .before .loop-test in
     let start = c .before .before .before .before .before .before .before .before .before .before .before .before .before .before in
     let l = c .before .before .before .before .before .before .before .before .before .before .before .loop in
     let h : l .at + 4 ≤ length (start .args .list .now) =
-    room _ _ (c .before .before .before .before .before .before .before .before .before .before .loop-test .taken) (l .inv .1) (start .pre .3) in
+    room _ _ (loop-test .taken) (l .inv .1) (start .pre .3) in
     placing-off (start .args .n) (fourAt (start .args .list .now) (l .at)) (fours (drop (l .at + 4) (start .args .list .now))) _ _ _ _
-    (c .before .before .before .before .before .read .ensures) (c .before .before .before .put .ensures) (not-true _ (c .if1 .taken))
+    (read .ensures) (c .before .before .before .put .ensures) (not-true _ (c .if1 .taken))
     ∙ ap (λ (m : List Four). placing (start .args .n) m (l .work)) (sym (fours-step (start .args .list .now) (l .at) h))
     ∙ l .inv .3
 
 add-at : tie.Need-add-at Inv-loop μ-loop
 add-at c =
+    let loop-test = c .before .before .before .before .before .before .before .before .before .before .loop-test in
     let start = c .before .before .before .before .before .before .before .before .before .before .before .before .before .before in
     let l = c .before .before .before .before .before .before .before .before .before .before .before .loop in
     let h : l .at + 4 ≤ length (start .args .list .now) =
-    room _ _ (c .before .before .before .before .before .before .before .before .before .before .loop-test .taken) (l .inv .1) (start .pre .3) in
+    room _ _ (loop-test .taken) (l .inv .1) (start .pre .3) in
     omega arith
 
 loop-less : tie.Need-loop-less Inv-loop μ-loop
 loop-less c =
+    let loop-test = c .before .before .before .before .before .before .before .before .before .before .loop-test in
     let start = c .before .before .before .before .before .before .before .before .before .before .before .before .before .before in
     let l = c .before .before .before .before .before .before .before .before .before .before .before .loop in
     let h : l .at + 4 ≤ length (start .args .list .now) =
-    room _ _ (c .before .before .before .before .before .before .before .before .before .before .loop-test .taken) (l .inv .1) (start .pre .3) in
+    room _ _ (loop-test .taken) (l .inv .1) (start .pre .3) in
     omega arith
 
 loop-again : tie.Need-loop-again Inv-loop μ-loop
 loop-again c =
+    let put = c .before .before .before .put in
+    let read = c .before .before .before .before .before .read in
+    let loop-test = c .before .before .before .before .before .before .before .before .before .before .loop-test in
     let start = c .before .before .before .before .before .before .before .before .before .before .before .before .before .before in
     let l = c .before .before .before .before .before .before .before .before .before .before .before .loop in
     let h : l .at + 4 ≤ length (start .args .list .now) =
-    room _ _ (c .before .before .before .before .before .before .before .before .before .before .loop-test .taken) (l .inv .1) (start .pre .3) in (
+    room _ _ (loop-test .taken) (l .inv .1) (start .pre .3) in (
       h,
       omega (arith, l .inv .1),
-      c .before .before .before .put .kept .1 .1 .0
+      put .kept .1 .1 .0
           ∙ l .inv .2,
       placing-on (start .args .n) (fourAt (start .args .list .now) (l .at)) (fours (drop (l .at + 4) (start .args .list .now))) _ _ _ _
-          (c .before .before .before .before .before .read .ensures) (c .before .before .before .put .ensures) (not-false _ (c .if1 .left))
+          (read .ensures) (put .ensures) (not-false _ (c .if1 .left))
           ∙ ap (λ (m : List Four). placing (start .args .n) m (l .work)) (sym (fours-step (start .args .list .now) (l .at) h))
           ∙ l .inv .3,
     )

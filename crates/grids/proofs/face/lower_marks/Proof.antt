@@ -105,23 +105,32 @@ face-marks-requires-3 c κs =
 returns : tie.Need-returns
 unfolding edgeRule
 returns c =
+    let edge-rule = c .before .before .before .before .edge-rule in
+    let enum-told-told = c .before .before .before .before .before .enum-told in
     let s = c .before .before .before .before .before .before .before .before in
-    face-told (s .args .n) (s .args .grid .now) (s .pre .1) (s .pre .2) X (s .args .at) (s .pre .3) (c .before .before .before .before .edge-rule .ensures) (c .before .before .before .edge-rule2 .ensures) (c .before .before .edge-rule3 .ensures) (c .before .edge-rule4 .ensures) (c .face-marks .ensures)
-    ∙ ap (λ (a : Axis). faceMarks (marks (s .args .n) (s .args .grid .now)) a (pointOf (s .args .n) (s .args .at))) (sym (c .before .before .before .before .before .enum-told .given .1))
+    face-told (s .args .n) (s .args .grid .now) (s .pre .1) (s .pre .2) X (s .args .at) (s .pre .3) (edge-rule .ensures)
+    (c .before .before .before .edge-rule2 .ensures) (c .before .before .edge-rule3 .ensures) (c .before .edge-rule4 .ensures) (c .face-marks .ensures)
+    ∙ ap (λ (a : Axis). faceMarks (marks (s .args .n) (s .args .grid .now)) a (pointOf (s .args .n) (s .args .at))) (sym (enum-told-told .given .1))
 
 returns-2 : tie.Need-returns-2
 unfolding edgeRule
 returns-2 c =
+    let edge-rule5 = c .before .before .before .before .edge-rule5 in
+    let enum-told2 = c .before .before .before .before .before .enum-told2 in
     let s = c .before .before .before .before .before .before .before .before in
-    face-told (s .args .n) (s .args .grid .now) (s .pre .1) (s .pre .2) Y (s .args .at) (s .pre .3) (c .before .before .before .before .edge-rule5 .ensures) (c .before .before .before .edge-rule6 .ensures) (c .before .before .edge-rule7 .ensures) (c .before .edge-rule8 .ensures) (c .face-marks2 .ensures)
-    ∙ ap (λ (a : Axis). faceMarks (marks (s .args .n) (s .args .grid .now)) a (pointOf (s .args .n) (s .args .at))) (sym (c .before .before .before .before .before .enum-told2 .given .1))
+    face-told (s .args .n) (s .args .grid .now) (s .pre .1) (s .pre .2) Y (s .args .at) (s .pre .3) (edge-rule5 .ensures)
+    (c .before .before .before .edge-rule6 .ensures) (c .before .before .edge-rule7 .ensures) (c .before .edge-rule8 .ensures) (c .face-marks2 .ensures)
+    ∙ ap (λ (a : Axis). faceMarks (marks (s .args .n) (s .args .grid .now)) a (pointOf (s .args .n) (s .args .at))) (sym (enum-told2 .given .1))
 
 returns-3 : tie.Need-returns-3
 unfolding edgeRule
 returns-3 c =
+    let edge-rule9 = c .before .before .before .before .edge-rule9 in
+    let enum-told3 = c .before .before .before .before .before .enum-told3 in
     let s = c .before .before .before .before .before .before .before .before in
-    face-told (s .args .n) (s .args .grid .now) (s .pre .1) (s .pre .2) Z (s .args .at) (s .pre .3) (c .before .before .before .before .edge-rule9 .ensures) (c .before .before .before .edge-rule10 .ensures) (c .before .before .edge-rule11 .ensures) (c .before .edge-rule12 .ensures) (c .face-marks3 .ensures)
-    ∙ ap (λ (a : Axis). faceMarks (marks (s .args .n) (s .args .grid .now)) a (pointOf (s .args .n) (s .args .at))) (sym (c .before .before .before .before .before .enum-told3 .given .1))
+    face-told (s .args .n) (s .args .grid .now) (s .pre .1) (s .pre .2) Z (s .args .at) (s .pre .3) (edge-rule9 .ensures)
+    (c .before .before .before .edge-rule10 .ensures) (c .before .before .edge-rule11 .ensures) (c .before .edge-rule12 .ensures) (c .face-marks3 .ensures)
+    ∙ ap (λ (a : Axis). faceMarks (marks (s .args .n) (s .args .grid .now)) a (pointOf (s .args .n) (s .args .at))) (sym (enum-told3 .given .1))
 
 pub lower-marks-spec : {M : Type 1} → statement M
 lower-marks-spec =

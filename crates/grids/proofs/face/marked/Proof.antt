@@ -30,7 +30,9 @@ mark-bit-requires c κs = search needs
 
 returns : tie.Need-returns
 returns c =
-    let q = ap (λ (i : ℕ). value (has (c .before .before .before .before .args .e .axis) (getD (c .before .before .before .before .args .grid .now) (c .before .before .before .before .args .at + i) 0)) 1) (c .before .before .number-of .ensures .0) in
+    let start = c .before .before .before .before in
+    let q = ap (λ (i : ℕ). value (has (start .args .e .axis) (getD (start .args .grid .now) (start .args .at + i) 0)) 1)
+    (c .before .before .number-of .ensures .0) in
     (c .mark-bit .ensures .0 ∙ q, c .mark-bit .ensures .1)
 
 pub marked-spec : {M : Type 1} → statement M

@@ -26,9 +26,11 @@ layer-is-clear-requires c κs =
 
 returns : tie.Need-returns Inv-loop μ-loop
 returns c =
+    let loop-told = c .before .before .before .before .loop in
     let s = c .before .before .before .before .before .before .before .before in
     let test = layerClear (s .args .n) (s .args .b) (s .args .work .now) in
-    sym (range-fails test (c .before .before .before .before .loop .k) (s .args .b .hi .k) (c .before .before .if1 .taken) (fails (c .before .layer-is-clear .ensures) (c .if2 .taken))) ∙ c .before .before .before .before .loop .inv
+    sym (range-fails test (loop-told .k) (s .args .b .hi .k) (c .before .before .if1 .taken)
+    (fails (c .before .layer-is-clear .ensures) (c .if2 .taken))) ∙ loop-told .inv
 
 add-k : tie.Need-add-k Inv-loop μ-loop
 add-k c =
@@ -40,9 +42,11 @@ loop-less c = omega (arith, c .before .before .if1 .taken)
 
 loop-again : tie.Need-loop-again Inv-loop μ-loop
 loop-again c =
+    let loop-told = c .before .before .before .before .loop in
     let s = c .before .before .before .before .before .before .before .before in
     let test = layerClear (s .args .n) (s .args .b) (s .args .work .now) in
-    rw add-one (range-more test (c .before .before .before .before .loop .k) (s .args .b .hi .k) (c .before .before .if1 .taken) (holds (c .before .layer-is-clear .ensures) (c .if2 .left)) ∙ c .before .before .before .before .loop .inv)
+    rw add-one (range-more test (loop-told .k) (s .args .b .hi .k) (c .before .before .if1 .taken)
+    (holds (c .before .layer-is-clear .ensures) (c .if2 .left)) ∙ loop-told .inv)
 
 returns-2 : tie.Need-returns-2 Inv-loop μ-loop
 returns-2 c =

@@ -19,7 +19,10 @@ sub-result : tie.Need-sub-result
 sub-result c = search needs
 
 returns-3 : tie.Need-returns-3
-returns-3 c = one-z (c .before .before .before .before .before .before .before .before .before .before .args .b) (c .before .before .before .before .before .if1 .left) (c .before .before .if2 .left)
+returns-3 c =
+    let if1 = c .before .before .before .before .before .if1 in
+    let start = c .before .before .before .before .before .before .before .before .before .before in
+    one-z (start .args .b) (if1 .left) (c .before .before .if2 .left)
 
 pub is-one-cell-spec : {M : Type 1} → statement M
 is-one-cell-spec = tie.close (tie.spec sub-if1 returns sub-if2 returns-2 sub-result returns-3)

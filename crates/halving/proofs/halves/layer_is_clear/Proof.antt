@@ -36,17 +36,25 @@ sub-row-is-clear c = search needs
 
 row-is-clear-requires : tie.Need-row-is-clear-requires Inv-loop μ-loop
 row-is-clear-requires c κs =
+    let number-of = c .before .before .number-of in
+    let loop-told = c .before .before .before .before .before .loop in
     let s = c .before .before .before .before .before .before .before .before .before in
     let f = s .pre .2 in
-    let e : c .before .before .number-of .result + side (s .args .b) X ≤ length (s .args .work .now) = rw (c .before .before .number-of .ensures .0) (row-fits (s .args .n) (s .args .b) (s .args .work .now) (c .before .before .before .before .before .loop .j) (s .args .k) (s .pre .1) f (c .before .before .before .if1 .taken) (s .pre .3)) in
+    let e : number-of .result + side (s .args .b) X ≤ length (s .args .work .now) = rw (number-of .ensures .0)
+    (row-fits (s .args .n) (s .args .b) (s .args .work .now) (loop-told .j) (s .args .k) (s .pre .1) f (c .before .before .before .if1 .taken)
+    (s .pre .3)) in
     (omega (arith, s .pre .0, f .hx), e)
 
 returns : tie.Need-returns Inv-loop μ-loop
 returns c =
+    let number-of = c .before .before .before .before .number-of in
+    let if1 = c .before .before .before .before .before .if1 in
+    let loop-told = c .before .before .before .before .before .before .before .loop in
     let s = c .before .before .before .before .before .before .before .before .before .before .before in
     let test = boxRowClear (s .args .n) (s .args .b) (s .args .work .now) (s .args .k) in
-    let e = ap (λ (i : ℕ). rowClear (s .args .work .now) i (side (s .args .b) X)) (sym (c .before .before .before .before .number-of .ensures .0)) ∙ fails (c .before .row-is-clear .ensures) (c .if2 .taken) in
-    sym (range-fails test (c .before .before .before .before .before .before .before .loop .j) (s .args .b .hi .j) (c .before .before .before .before .before .if1 .taken) e) ∙ c .before .before .before .before .before .before .before .loop .inv
+    let e = ap (λ (i : ℕ). rowClear (s .args .work .now) i (side (s .args .b) X)) (sym (number-of .ensures .0)) ∙ fails
+    (c .before .row-is-clear .ensures) (c .if2 .taken) in
+    sym (range-fails test (loop-told .j) (s .args .b .hi .j) (if1 .taken) e) ∙ loop-told .inv
 
 add-j : tie.Need-add-j Inv-loop μ-loop
 add-j c =
@@ -58,10 +66,14 @@ loop-less c = omega (arith, c .before .before .before .before .before .if1 .take
 
 loop-again : tie.Need-loop-again Inv-loop μ-loop
 loop-again c =
+    let number-of = c .before .before .before .before .number-of in
+    let if1 = c .before .before .before .before .before .if1 in
+    let loop-told = c .before .before .before .before .before .before .before .loop in
     let s = c .before .before .before .before .before .before .before .before .before .before .before in
     let test = boxRowClear (s .args .n) (s .args .b) (s .args .work .now) (s .args .k) in
-    let e = ap (λ (i : ℕ). rowClear (s .args .work .now) i (side (s .args .b) X)) (sym (c .before .before .before .before .number-of .ensures .0)) ∙ holds (c .before .row-is-clear .ensures) (c .if2 .left) in
-    rw add-one (range-more test (c .before .before .before .before .before .before .before .loop .j) (s .args .b .hi .j) (c .before .before .before .before .before .if1 .taken) e ∙ c .before .before .before .before .before .before .before .loop .inv)
+    let e = ap (λ (i : ℕ). rowClear (s .args .work .now) i (side (s .args .b) X)) (sym (number-of .ensures .0)) ∙ holds
+    (c .before .row-is-clear .ensures) (c .if2 .left) in
+    rw add-one (range-more test (loop-told .j) (s .args .b .hi .j) (if1 .taken) e ∙ loop-told .inv)
 
 returns-2 : tie.Need-returns-2 Inv-loop μ-loop
 returns-2 c =

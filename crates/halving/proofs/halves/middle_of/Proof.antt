@@ -10,7 +10,9 @@ coordinate-requires-2 : tie.Need-coordinate-requires-2
 coordinate-requires-2 c κs = search needs
 
 sub-result : tie.Need-sub-result
-sub-result c = rw (c .before .coordinate .ensures, c .coordinate2 .ensures) (coord-le (c .before .before .before .before .args .n) (c .before .before .before .before .args .b) (c .before .before .before .before .args .a) (c .before .before .before .before .pre .1))
+sub-result c =
+    let start = c .before .before .before .before in
+    rw (c .before .coordinate .ensures, c .coordinate2 .ensures) (coord-le (start .args .n) (start .args .b) (start .args .a) (start .pre .1))
 
 add-result : tie.Need-add-result
 add-result c = search needs

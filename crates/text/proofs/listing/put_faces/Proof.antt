@@ -16,7 +16,13 @@ slice-aggregate-put-fields-2 c = search needs
 put-fields-requires : tie.Need-put-fields-requires
 put-fields-requires c κs =
     let s = c .before .before .before .before in
-    omega (arith, s .pre, u32-digits _ (s .fits .ones), u32-digits _ (s .fits .threes), fields-length (ascii "ones ") (s .args .ones) (ascii " threes ") (s .args .threes))
+    omega (
+      arith,
+      s .pre,
+      u32-digits _ (s .fits .ones),
+      u32-digits _ (s .fits .threes),
+      fields-length (ascii "ones ") (s .args .ones) (ascii " threes ") (s .args .threes),
+    )
 
 slice-aggregate-put-text : tie.Need-slice-aggregate-put-text
 slice-aggregate-put-text c = search needs
@@ -25,7 +31,15 @@ put-text-requires : tie.Need-put-text-requires
 put-text-requires c κs =
     let s = c .before .before .before .before .before .before .before .before .before in
     let p = c .before .before .before .before .put-fields in
-    omega (arith, s .pre, u32-digits _ (s .fits .ones), u32-digits _ (s .fits .threes), fields-length (ascii "ones ") (s .args .ones) (ascii " threes ") (s .args .threes), p .ensures .place, p .kept .0)
+    omega (
+      arith,
+      s .pre,
+      u32-digits _ (s .fits .ones),
+      u32-digits _ (s .fits .threes),
+      fields-length (ascii "ones ") (s .args .ones) (ascii " threes ") (s .args .threes),
+      p .ensures .place,
+      p .kept .0,
+    )
 
 same-length : tie.Need-same-length
 same-length c = search needs
@@ -37,7 +51,14 @@ returns c =
     let p = c .before .before .before .before .before .before .before .put-fields in
     let d = c .before .before .put-text in (
       put-both (p .ensures) (d .ensures),
-      omega (arith, u32-digits _ (s .fits .ones), u32-digits _ (s .fits .threes), fields-length (ascii "ones ") (s .args .ones) (ascii " threes ") (s .args .threes), p .ensures .place, d .ensures .place),
+      omega (
+        arith,
+        u32-digits _ (s .fits .ones),
+        u32-digits _ (s .fits .threes),
+        fields-length (ascii "ones ") (s .args .ones) (ascii " threes ") (s .args .threes),
+        p .ensures .place,
+        d .ensures .place,
+      ),
     )
 
 pub put-faces-spec : {M : Type 1} → statement M

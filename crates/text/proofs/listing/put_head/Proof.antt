@@ -28,8 +28,9 @@ slice-aggregate-put-fields-2 c = search needs
 
 put-fields-requires : tie.Need-put-fields-requires
 put-fields-requires c κs =
+    let start = c .before .before .before .before in
     let d = c .before .before .before .before .args in
-    omega (arith, c .before .before .before .before .pre, most (c .before .before .before .before), fields-length (ascii "level ") (d .level) (ascii " triangles ") (d .triangles))
+    omega (arith, start .pre, most (start), fields-length (ascii "level ") (d .level) (ascii " triangles ") (d .triangles))
 
 slice-aggregate-put-fields-3 : tie.Need-slice-aggregate-put-fields-3
 slice-aggregate-put-fields-3 c = search needs
@@ -39,10 +40,18 @@ slice-aggregate-put-fields-4 c = search needs
 
 put-fields-requires-2 : tie.Need-put-fields-requires-2
 put-fields-requires-2 c κs =
+    let start = c .before .before .before .before .before .before .before .before .before .before in
     let d = c .before .before .before .before .before .before .before .before .before .before .args in
     let p = c .before .before .before .before .before .put-fields in
-    omega
-    (arith, c .before .before .before .before .before .before .before .before .before .before .pre, most (c .before .before .before .before .before .before .before .before .before .before), fields-length (ascii "level ") (d .level) (ascii " triangles ") (d .triangles), fields-length (ascii "\nrims ") (d .rims) (ascii " flips ") (d .flips), p .ensures .place, p .kept .0)
+    omega (
+      arith,
+      start .pre,
+      most (start),
+      fields-length (ascii "level ") (d .level) (ascii " triangles ") (d .triangles),
+      fields-length (ascii "\nrims ") (d .rims) (ascii " flips ") (d .flips),
+      p .ensures .place,
+      p .kept .0,
+    )
 
 slice-aggregate-put-fields-5 : tie.Need-slice-aggregate-put-fields-5
 slice-aggregate-put-fields-5 c = search needs
@@ -52,23 +61,46 @@ slice-aggregate-put-fields-6 c = search needs
 
 put-fields-requires-3 : tie.Need-put-fields-requires-3
 put-fields-requires-3 c κs =
+    let start = c .before .before .before .before .before .before .before .before .before .before .before .before .before .before .before .before in
     let d = c .before .before .before .before .before .before .before .before .before .before .before .before .before .before .before .before .args in
     let p = c .before .before .before .before .before .before .before .before .before .before .before .put-fields in
     let q = c .before .before .before .before .before .put-fields2 in
-    omega
-    (arith, c .before .before .before .before .before .before .before .before .before .before .before .before .before .before .before .before .pre, most (c .before .before .before .before .before .before .before .before .before .before .before .before .before .before .before .before), fields-length (ascii "level ") (d .level) (ascii " triangles ") (d .triangles), fields-length (ascii "\nrims ") (d .rims) (ascii " flips ") (d .flips), fields-length (ascii " inside ") (d .inside) (ascii " quads ") (d .quads), p .ensures .place, p .kept .0, q .ensures .place, q .kept .0)
+    omega (
+      arith,
+      start .pre,
+      most (start),
+      fields-length (ascii "level ") (d .level) (ascii " triangles ") (d .triangles),
+      fields-length (ascii "\nrims ") (d .rims) (ascii " flips ") (d .flips),
+      fields-length (ascii " inside ") (d .inside) (ascii " quads ") (d .quads),
+      p .ensures .place,
+      p .kept .0,
+      q .ensures .place,
+      q .kept .0,
+    )
 
 same-length : tie.Need-same-length
 same-length c = search needs
 
 returns : tie.Need-returns
 returns c =
-    let d = c .before .before .before .before .before .before .before .before .before .before .before .before .before .before .before .before .before .before .before .args in
+    let back = c .before .before .before .before .before .before .before .before .before .before in
+    let place = back .before .before .before .before .before .before .before .before .before in
+    let back = c .before .before .before .before .before .before .before .before .before .before in
+    let d = back .before .before .before .before .before .before .before .before .before .args in
     let p = c .before .before .before .before .before .before .before .before .before .before .before .before .before .before .put-fields in
     let q = c .before .before .before .before .before .before .before .before .put-fields2 in
     let r = c .before .before .put-fields3 in (
       put-both (put-both (p .ensures) (q .ensures)) (r .ensures),
-      omega (arith, most (c .before .before .before .before .before .before .before .before .before .before .before .before .before .before .before .before .before .before .before), fields-length (ascii "level ") (d .level) (ascii " triangles ") (d .triangles), fields-length (ascii "\nrims ") (d .rims) (ascii " flips ") (d .flips), fields-length (ascii " inside ") (d .inside) (ascii " quads ") (d .quads), p .ensures .place, q .ensures .place, r .ensures .place),
+      omega (
+        arith,
+        most (place),
+        fields-length (ascii "level ") (d .level) (ascii " triangles ") (d .triangles),
+        fields-length (ascii "\nrims ") (d .rims) (ascii " flips ") (d .flips),
+        fields-length (ascii " inside ") (d .inside) (ascii " quads ") (d .quads),
+        p .ensures .place,
+        q .ensures .place,
+        r .ensures .place,
+      ),
     )
 
 pub put-head-spec : {M : Type 1} → statement M

@@ -39,9 +39,16 @@ wide-requires-2 c κs = search needs
 
 put-fields-requires : tie.Need-put-fields-requires
 put-fields-requires c κs =
+    let start = c .before .before .before .before .before .before .before .before .before in
     let a = c .before .before .before .wide in
     let b = c .wide2 in
-    omega (arith, c .before .before .before .before .before .before .before .before .before .pre .0, u16-digits (a .result) (a .ensures .1), u16-digits (b .result) (b .ensures .1), fields-length (ascii "\nq ") (a .result) (ascii " ") (b .result))
+    omega (
+      arith,
+      start .pre .0,
+      u16-digits (a .result) (a .ensures .1),
+      u16-digits (b .result) (b .ensures .1),
+      fields-length (ascii "\nq ") (a .result) (ascii " ") (b .result),
+    )
 
 slice-aggregate-put-fields-3 : tie.Need-slice-aggregate-put-fields-3
 slice-aggregate-put-fields-3 c = search needs
@@ -75,13 +82,25 @@ wide-requires-4 c κs = search needs
 
 put-fields-requires-2 : tie.Need-put-fields-requires-2
 put-fields-requires-2 c κs =
+    let back = c .before .before .before .before .before .before .before .before .before .before in
+    let start = back .before .before .before .before .before .before .before .before .before in
     let a = c .before .before .before .before .before .before .before .before .before .before .before .before .before .wide in
     let b = c .before .before .before .before .before .before .before .before .before .before .wide2 in
     let d = c .before .before .before .wide3 in
     let e = c .wide4 in
     let p = c .before .before .before .before .before .before .before .before .before .put-fields in
-    omega
-    (arith, c .before .before .before .before .before .before .before .before .before .before .before .before .before .before .before .before .before .before .before .pre .0, u16-digits (a .result) (a .ensures .1), u16-digits (b .result) (b .ensures .1), u16-digits (d .result) (d .ensures .1), u16-digits (e .result) (e .ensures .1), fields-length (ascii "\nq ") (a .result) (ascii " ") (b .result), fields-length (ascii " ") (d .result) (ascii " ") (e .result), p .ensures .place, p .kept .0)
+    omega (
+      arith,
+      start .pre .0,
+      u16-digits (a .result) (a .ensures .1),
+      u16-digits (b .result) (b .ensures .1),
+      u16-digits (d .result) (d .ensures .1),
+      u16-digits (e .result) (e .ensures .1),
+      fields-length (ascii "\nq ") (a .result) (ascii " ") (b .result),
+      fields-length (ascii " ") (d .result) (ascii " ") (e .result),
+      p .ensures .place,
+      p .kept .0,
+    )
 
 same-length : tie.Need-same-length
 same-length c = search needs
@@ -95,7 +114,17 @@ returns c =
     let p = c .before .before .before .before .before .before .before .before .before .before .before .before .put-fields in
     let q = c .before .before .put-fields2 in (
       rw (sym (a .ensures .0), sym (b .ensures .0), sym (d .ensures .0), sym (e .ensures .0)) (put-both (p .ensures) (q .ensures)),
-      omega (arith, u16-digits (a .result) (a .ensures .1), u16-digits (b .result) (b .ensures .1), u16-digits (d .result) (d .ensures .1), u16-digits (e .result) (e .ensures .1), fields-length (ascii "\nq ") (a .result) (ascii " ") (b .result), fields-length (ascii " ") (d .result) (ascii " ") (e .result), p .ensures .place, q .ensures .place),
+      omega (
+        arith,
+        u16-digits (a .result) (a .ensures .1),
+        u16-digits (b .result) (b .ensures .1),
+        u16-digits (d .result) (d .ensures .1),
+        u16-digits (e .result) (e .ensures .1),
+        fields-length (ascii "\nq ") (a .result) (ascii " ") (b .result),
+        fields-length (ascii " ") (d .result) (ascii " ") (e .result),
+        p .ensures .place,
+        q .ensures .place,
+      ),
     )
 
 pub put-quad-spec : {M : Type 1} → statement M

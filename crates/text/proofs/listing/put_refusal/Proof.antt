@@ -10,15 +10,19 @@ slice-aggregate-put-field : tie.Need-slice-aggregate-put-field
 slice-aggregate-put-field c = search needs
 
 put-field-requires : tie.Need-put-field-requires
-put-field-requires c κs = omega (arith, c .before .before .before .pre, u32-digits (c .before .before .before .args .number) (c .before .before .before .fits .number))
+put-field-requires c κs =
+    let start = c .before .before .before in
+    omega (arith, start .pre, u32-digits (start .args .number) (c .before .before .before .fits .number))
 
 slice-aggregate-put-text : tie.Need-slice-aggregate-put-text
 slice-aggregate-put-text c = search needs
 
 put-text-requires : tie.Need-put-text-requires
 put-text-requires c κs =
+    let start = c .before .before .before .before .before .before .before .before in
+    let fits = c .before .before .before .before .before .before .before .before .fits in
     let p = c .before .before .before .before .put-field in
-    omega (arith, c .before .before .before .before .before .before .before .before .pre, u32-digits (c .before .before .before .before .before .before .before .before .args .number) (c .before .before .before .before .before .before .before .before .fits .number), p .ensures .place, p .kept .0)
+    omega (arith, start .pre, u32-digits (start .args .number) (fits .number), p .ensures .place, p .kept .0)
 
 same-length : tie.Need-same-length
 same-length c = search needs
@@ -26,10 +30,12 @@ same-length c = search needs
 returns : tie.Need-returns
 unfolding refusedLine
 returns c =
+    let start = c .before .before .before .before .before .before .before .before .before .before .before in
+    let fits = c .before .before .before .before .before .before .before .before .before .before .before .fits in
     let a = c .before .before .before .before .before .before .before .put-field in
     let d = c .before .before .put-text in (
       put-both (a .ensures) (d .ensures),
-      omega (arith, c .before .before .before .before .before .before .before .before .before .before .before .pre, u32-digits (c .before .before .before .before .before .before .before .before .before .before .before .args .number) (c .before .before .before .before .before .before .before .before .before .before .before .fits .number), a .ensures .place, d .ensures .place, a .kept .0, d .kept .0),
+      omega (arith, start .pre, u32-digits (start .args .number) (fits .number), a .ensures .place, d .ensures .place, a .kept .0, d .kept .0),
     )
 
 pub put-refusal-spec : {M : Type 1} → statement M

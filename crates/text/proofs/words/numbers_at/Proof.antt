@@ -53,10 +53,12 @@ loop-again c =
 
 returns : tie.Need-returns Inv-loop μ-loop
 returns c =
+    let start = c .before .before .before in
     let l = c .before .loop in
     let a = c .before .before .before .args in
     let e : l .k ≡ 9 = omega arith in
-    sym (take-all 9 (l .c) (omega (arith, l .inv .1))) ∙ rw e at (l .inv .2) ∙ sym (numbers-whole (drop (a .at) (a .s .now)) (omega (arith, length-drop (a .at) (a .s .now), c .before .before .before .pre)))
+    sym (take-all 9 (l .c) (omega (arith, l .inv .1))) ∙ rw e at (l .inv .2) ∙ sym
+    (numbers-whole (drop (a .at) (a .s .now)) (omega (arith, length-drop (a .at) (a .s .now), start .pre)))
 
 pub numbers-at-spec : {M : Type 1} → statement M
 numbers-at-spec =

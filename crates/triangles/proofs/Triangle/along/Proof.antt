@@ -26,11 +26,16 @@ with-requires-2 c κs = search needs
 
 returns : tie.Need-returns
 returns c =
+    let along3 = c .before .before .before .along3 in
+    let along2 = c .before .before .before .before .along2 in
+    let along-told = c .before .before .before .before .before .along in
     let s = c .before .before .before .before .before .before in
-    let p = plain (c .before .before .before .before .before .along .result) (c .before .before .before .before .before .along .ok) in
-    let q = plain (c .before .before .before .before .along2 .result) (c .before .before .before .before .along2 .ok) in
-    let r = plain (c .before .before .before .along3 .result) (c .before .before .before .along3 .ok) in
-    rw (triangle-along (s .args .d) (s .pre)) (three-span (c .before .before .at .ensures) (c .before .with .ensures) (c .with2 .ensures) (p ∙ c .before .before .before .before .before .along .ensures) (q ∙ c .before .before .before .before .along2 .ensures) (r ∙ c .before .before .before .along3 .ensures))
+    let p = plain (along-told .result) (along-told .ok) in
+    let q = plain (along2 .result) (along2 .ok) in
+    let r = plain (along3 .result) (along3 .ok) in
+    rw (triangle-along (s .args .d) (s .pre))
+    (three-span (c .before .before .at .ensures) (c .before .with .ensures) (c .with2 .ensures) (p ∙ along-told .ensures) (q ∙ along2 .ensures)
+    (r ∙ along3 .ensures))
 
 pub along-spec : {M : Type 1} → statement M
 along-spec =

@@ -21,7 +21,8 @@ unit-cross-requires c κs = (rw (c .side .ensures) (side-size _ (c .before .pre 
 returns : tie.Need-returns
 returns c =
     let s = c .before .before in
-    c .unit-cross .ensures ∙ ap (λ (v : Vector). cross (getD units (s .args .k / 3) nought) v) (c .before .side .ensures) ∙ sym (crossed-at (s .args .self) (s .args .k) (s .pre .1))
+    c .unit-cross .ensures ∙ ap (λ (v : Vector). cross (getD units (s .args .k / 3) nought) v) (c .before .side .ensures) ∙ sym
+    (crossed-at (s .args .self) (s .args .k) (s .pre .1))
 
 pub crossed-spec : {M : Type 1} → statement M
 crossed-spec = tie.close (tie.spec side-requires unit-cross-requires returns)

@@ -28,10 +28,13 @@ with-requires-2 c κs = search needs
 returns : tie.Need-returns
 unfolding triangleSpan
 returns c =
-    let x = plain (c .before .before .before .before .before .dot .result) (c .before .before .before .before .before .dot .ok) in
-    let y = plain (c .before .before .before .before .dot2 .result) (c .before .before .before .before .dot2 .ok) in
-    let z = plain (c .before .before .before .dot3 .result) (c .before .before .before .dot3 .ok) in
-    three-span (c .before .before .at .ensures) (c .before .with .ensures) (c .with2 .ensures) (x ∙ c .before .before .before .before .before .dot .ensures) (y ∙ c .before .before .before .before .dot2 .ensures) (z ∙ c .before .before .before .dot3 .ensures)
+    let dot3 = c .before .before .before .dot3 in
+    let dot2 = c .before .before .before .before .dot2 in
+    let dot = c .before .before .before .before .before .dot in
+    let x = plain (dot .result) (dot .ok) in
+    let y = plain (dot2 .result) (dot2 .ok) in
+    let z = plain (dot3 .result) (dot3 .ok) in
+    three-span (c .before .before .at .ensures) (c .before .with .ensures) (c .with2 .ensures) (x ∙ dot .ensures) (y ∙ dot2 .ensures) (z ∙ dot3 .ensures)
 
 pub span-spec : {M : Type 1} → statement M
 span-spec =

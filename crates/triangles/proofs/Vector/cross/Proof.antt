@@ -51,18 +51,30 @@ sub-t8 : tie.Need-sub-t8
 sub-t8 c = on-y (c .before .before .before .before .before .before .before .before .before .before .before .before .before .before .before .before) .both
 
 mul-t9 : tie.Need-mul-t9
-mul-t9 c = on-z (c .before .before .before .before .before .before .before .before .before .before .before .before .before .before .before .before .before .before .before .before) .first
+mul-t9 c =
+    let back = c .before .before .before .before .before .before .before .before .before .before in
+    let place = back .before .before .before .before .before .before .before .before .before .before in
+    on-z (place) .first
 
 mul-t10 : tie.Need-mul-t10
-mul-t10 c = on-z (c .before .before .before .before .before .before .before .before .before .before .before .before .before .before .before .before .before .before .before .before .before .before .before .before) .second
+mul-t10 c =
+    let back = c .before .before .before .before .before .before .before .before .before .before in
+    let back2 = back .before .before .before .before .before .before .before .before .before .before in
+    let place = back2 .before .before .before .before in
+    on-z (place) .second
 
 sub-t11 : tie.Need-sub-t11
-sub-t11 c = on-z (c .before .before .before .before .before .before .before .before .before .before .before .before .before .before .before .before .before .before .before .before .before .before .before .before) .both
+sub-t11 c =
+    let back = c .before .before .before .before .before .before .before .before .before .before in
+    let back2 = back .before .before .before .before .before .before .before .before .before .before in
+    let place = back2 .before .before .before .before in
+    on-z (place) .both
 
 returns : tie.Need-returns
 unfolding cross
 returns c =
-    let s = c .before .before .before .before .before .before .before .before .before .before .before .before .before .before .before .before .before .before .before .before .before .before .before .before in
+    let back = c .before .before .before .before .before .before .before .before .before .before in
+    let s = back .before .before .before .before .before .before .before .before .before .before .before .before .before .before in
     λ i. record { x = on-x s .is i; y = on-y s .is i; z = on-z s .is i }
 
 pub cross-spec : {M : Type 1} → statement M

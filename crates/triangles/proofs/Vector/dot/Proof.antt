@@ -14,8 +14,10 @@ record Sums (c : tie.Start) : Type 0 where
   on-y : SFits w64 (held (c .args .self .y) *ℤ held (c .args .o .y))
   on-z : SFits w64 (held (c .args .self .z) *ℤ held (c .args .o .z))
   two : SFits w64 (held (held (c .args .self .x) *ℤ held (c .args .o .x)) +ℤ held (held (c .args .self .y) *ℤ held (c .args .o .y)))
-  three : SFits w64 (held (held (held (c .args .self .x) *ℤ held (c .args .o .x)) +ℤ held (held (c .args .self .y) *ℤ held (c .args .o .y))) +ℤ held (held (c .args .self .z) *ℤ held (c .args .o .z)))
-  is : held (held (held (held (c .args .self .x) *ℤ held (c .args .o .x)) +ℤ held (held (c .args .self .y) *ℤ held (c .args .o .y))) +ℤ held (held (c .args .self .z) *ℤ held (c .args .o .z))) ≡ dot (c .args .self) (c .args .o)
+  three : SFits w64 (held (held (held (c .args .self .x) *ℤ held (c .args .o .x)) +ℤ held (held (c .args .self .y) *ℤ held (c .args .o .y))) +ℤ held
+      (held (c .args .self .z) *ℤ held (c .args .o .z)))
+  is : held (held (held (held (c .args .self .x) *ℤ held (c .args .o .x)) +ℤ held (held (c .args .self .y) *ℤ held (c .args .o .y))) +ℤ held
+      (held (c .args .self .z) *ℤ held (c .args .o .z))) ≡ dot (c .args .self) (c .args .o)
 
 sums : (c : tie.After-struct-told2) → Sums (c .before .before .before .before)
 unfolding dot

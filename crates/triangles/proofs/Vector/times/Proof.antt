@@ -43,7 +43,8 @@ returns : tie.Need-returns
 unfolding times
 returns c =
     let s = c .before .before .before .before .before .before in
-    λ w e. λ i. vector ((on-x s .is ∙ ap (λ (z : ℤ). z *ℤ s .args .self .x) e) i) ((on-y s .is ∙ ap (λ (z : ℤ). z *ℤ s .args .self .y) e) i) ((on-z s .is ∙ ap (λ (z : ℤ). z *ℤ s .args .self .z) e) i)
+    λ w e. λ i. vector ((on-x s .is ∙ ap (λ (z : ℤ). z *ℤ s .args .self .x) e) i) ((on-y s .is ∙ ap (λ (z : ℤ). z *ℤ s .args .self .y) e) i)
+    ((on-z s .is ∙ ap (λ (z : ℤ). z *ℤ s .args .self .z) e) i)
 
 pub times-spec : {M : Type 1} → statement M
 times-spec = tie.close (tie.spec mul-t3 mul-t4 mul-t5 returns)
