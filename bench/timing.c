@@ -1,4 +1,5 @@
-/* Times each call of the library beside the reference on the same inputs, round by round in turn; the best round counts. */
+/* Times each call of the library but mark, which marks.c times, beside the reference on the same inputs, and patch beside that of an earlier
+   library too where bench/run was given one. Round by round in turn; the best round counts. */
 #define _GNU_SOURCE
 #include <inttypes.h>
 #include <stdio.h>
@@ -12,7 +13,7 @@
 #include "hostile.h"
 #include "plain.h"
 
-enum { LIST_ROOM = 4 * 3 * 31 * 31 * 32, MOST_TIMED = 1000, LEAST_ROUNDS = 5, MOST_ROUNDS = 400 };
+enum { LIST_ROOM = 4 * 3 * 31 * 31 * 32, LEAST_ROUNDS = 15, MOST_ROUNDS = 400, SIDES = 3 };
 enum { STL_TRIANGLES = 20000, STL_BYTES = 84 + 50 * STL_TRIANGLES };
 enum { JOB_TRIANGLES = 36 * STL_TRIANGLES, JOB_QUADS = 8 * 8192, JOB_BYTES = 29 + MOST_POINTS + JOB_TRIANGLES + JOB_QUADS };
 
@@ -23,8 +24,6 @@ static uint32_t level;
 static struct measures m;
 static uint8_t came[MOST_POINTS], grid[MOST_POINTS], other[MOST_POINTS];
 static uint16_t list[LIST_ROOM];
-static int32_t triangles[MOST_TIMED][9];
-static int triangle_count;
 static uint32_t counts[4];
 static uint8_t file[STL_BYTES];
 static int32_t numbers[9 * STL_TRIANGLES];
@@ -33,8 +32,19 @@ static size_t bytes;
 static uint8_t job_file[JOB_BYTES];
 static size_t job_bytes;
 
-/* Microseconds a call of either side, of the row that was printed last. */
-static double took_us[2];
+/* Microseconds a call of either side, and of the earlier library's, of the row that was printed last. */
+static double took_us[SIDES];
+
+/* The earlier library's patch told two numbers. */
+uint32_t before_patch(uint32_t level, uint8_t *grid, size_t grid_len, uint8_t *work, size_t work_len, uint32_t *rims, uint32_t *flips)
+    __attribute__((weak));
+
+static uint32_t earlier_patch(uint32_t level, uint8_t *grid, size_t grid_len, uint8_t *work, size_t work_len, uint32_t *rims, uint32_t *flips,
+                              uint32_t *ones, uint32_t *threes)
+{
+    *ones = *threes = 0;
+    return before_patch(level, grid, grid_len, work, work_len, rims, flips);
+}
 
 typedef void job(const struct calls *calls);
 
@@ -46,11 +56,16 @@ static void hold(uint32_t answer)
     }
 }
 
-static double now(void)
+static double read_clock(clockid_t clock)
 {
     struct timespec t;
-    clock_gettime(CLOCK_MONOTONIC, &t);
+    clock_gettime(clock, &t);
     return (double)t.tv_sec + 1e-9 * (double)t.tv_nsec;
+}
+
+static double now(void)
+{
+    return read_clock(CLOCK_MONOTONIC);
 }
 
 static void restore(const struct calls *calls)
@@ -62,13 +77,6 @@ static void restore(const struct calls *calls)
 static void run_open(const struct calls *calls)
 {
     hold(calls->open(level, grid, sizeof grid));
-}
-
-static void run_mark(const struct calls *calls)
-{
-    uint32_t place, axis;
-    for (int t = 0; t < triangle_count; t++)
-        hold(calls->mark(level, grid, sizeof grid, triangles[t], 9, &place, &axis));
 }
 
 static void run_patch(const struct calls *calls)
@@ -121,27 +129,28 @@ static void run_masks(const struct calls *calls)
 }
 
 /* Prints one row: the level, where the call has one, microseconds a call of either side, and the ratio. */
-static void row(const char *name, const char *input, job *run, int calls_a_run)
+static void row(const char *name, const char *input, job *run)
 {
-    struct calls sides[2] = {the_library, the_reference};
-    double best[2] = {1e9, 1e9}, end = now() + seconds_a_row;
-    int runs = 1, round;
-    sides[1].mark = reference_mark_near;
+    struct calls sides[SIDES] = {the_library, the_reference, the_library};
+    double best[SIDES] = {1e9, 1e9, 1e9}, end = now() + seconds_a_row;
+    int runs = 1, round, many = run == run_patch && before_patch ? SIDES : 2;
     sides[1].accept = plain_accept;
+    sides[2].patch = earlier_patch;
     for (round = 0; round < LEAST_ROUNDS || (round < MOST_ROUNDS && now() < end); round++)
-        for (int side = 0; side < 2; side++) {
+        for (int side = 0; side < many; side++) {
             restore(NULL);
-            double start = now();
+            double began = read_clock(CLOCK_PROCESS_CPUTIME_ID), start = now();
             for (int n = 0; n < runs; n++)
                 run(&sides[side]);
-            double took = (now() - start) / runs;
+            double by_clock = now() - start, by_processor = read_clock(CLOCK_PROCESS_CPUTIME_ID) - began;
+            double took = (by_clock < by_processor ? by_clock : by_processor) / runs; /* the latter counts no other work, but is slow to read */
             if (took < best[side])
                 best[side] = took;
             if (took * runs < 1e-4 && run != run_patch) /* too short for the clock; patch has to begin anew each time */
                 runs *= 4;
         }
-    for (int side = 0; side < 2; side++)
-        took_us[side] = 1e6 * best[side] / calls_a_run;
+    for (int side = 0; side < SIDES; side++)
+        took_us[side] = 1e6 * best[side];
     char at[12] = "";
     if (level)
         snprintf(at, sizeof at, "%u", level);
@@ -152,22 +161,24 @@ static void row(const char *name, const char *input, job *run, int calls_a_run)
 static void time_grid(const char *input)
 {
     uint64_t cells = reference_rim_cells(level, came);
-    row("patch", input, run_patch, 1);
+    row("patch", input, run_patch);
+    if (before_patch)
+        printf("   before %.2f us", took_us[2]);
     printf("   %u rims, %u flips", counts[0], counts[1]);
     if (cells)
         printf(", %" PRIu64 " cells in their boxes, %.4f us a cell", cells, took_us[0] / (double)cells);
     printf("\n");
     memcpy(came, grid, sizeof came);
-    row("sign", input, run_sign, 1);
+    row("sign", input, run_sign);
     printf("\n");
     memcpy(came, grid, sizeof came);
-    row("surface", input, run_surface, 1);
+    row("surface", input, run_surface);
     printf("   %u quads\n", counts[0]);
-    row("write_stl", input, run_write, 1);
+    row("write_stl", input, run_write);
     printf("   %zu bytes\n", bytes);
-    row("accept", input, run_accept, 1);
+    row("accept", input, run_accept);
     printf("   %u quads\n", counts[0]);
-    row("masks", input, run_masks, 1);
+    row("masks", input, run_masks);
     printf("   %zu bytes\n", bytes);
 }
 
@@ -179,13 +190,7 @@ static void set_level(uint32_t to)
     memset(other, 0, sizeof other);
 }
 
-static void time_mark(const char *input)
-{
-    row("mark", input, run_mark, triangle_count);
-    printf("   %d triangles\n", triangle_count);
-}
-
-/* A stream of the program: mark with its first triangles, the rest with all of them. */
+/* A stream of the program, marked by the reference. */
 static void time_stream(const char *path)
 {
     uint8_t bytes[36];
@@ -200,27 +205,15 @@ static void time_stream(const char *path)
     for (char *c = input; *c; c++)
         *c = *c == '_' ? ' ' : *c;
     set_level(bytes[0]);
-    triangle_count = 0;
     while (fread(bytes, 1, 36, file) == 36) {
         int32_t triangle[9];
         uint32_t place, axis;
         for (int c = 0; c < 9; c++)
             triangle[c] = (int32_t)(bytes[4 * c] | bytes[4 * c + 1] << 8 | bytes[4 * c + 2] << 16 | (uint32_t)bytes[4 * c + 3] << 24);
-        if (triangle_count < MOST_TIMED)
-            memcpy(triangles[triangle_count++], triangle, sizeof triangle);
         hold(reference_mark_near(level, came, sizeof came, triangle, 9, &place, &axis));
     }
     fclose(file);
-    time_mark(input);
     time_grid(input);
-}
-
-static void time_triangle(const char *input, const int32_t corners[9])
-{
-    set_level(5);
-    triangle_count = 1;
-    memcpy(triangles[0], corners, sizeof triangles[0]);
-    time_mark(input);
 }
 
 /* A file whose coordinates a function of the number of each gives, as bits of a float. */
@@ -234,7 +227,7 @@ static void time_read(const char *input, uint32_t (*bits)(uint32_t number))
                 file[96 + 50 * t + 4 * c + (uint32_t)b] = (uint8_t)(bits(9 * t + c) >> 8 * b);
     for (int b = 0; b < 4; b++)
         file[80 + b] = (uint8_t)(STL_TRIANGLES >> 8 * b);
-    row("read_stl", input, run_read, 1);
+    row("read_stl", input, run_read);
     printf("   %u triangles, %.0f MB/s, reference %.0f MB/s\n", counts[0], sizeof file / took_us[0], sizeof file / took_us[1]);
 }
 
@@ -243,9 +236,9 @@ static void time_job(void)
 {
     set_level(5);
     memset(came, 0, sizeof came);
-    row("write_job", "grid, triangles and quads", run_write_job, 1);
+    row("write_job", "grid, triangles and quads", run_write_job);
     printf("   %zu bytes, %.0f MB/s, reference %.0f MB/s\n", job_bytes, job_bytes / took_us[0], job_bytes / took_us[1]);
-    row("read_job", "the same", run_read_job, 1);
+    row("read_job", "the same", run_read_job);
     printf("\n");
 }
 
@@ -279,21 +272,13 @@ static uint32_t of_every_size(uint32_t number) /* up to 2^30 */
 
 int main(int argc, char **argv)
 {
-    static const int32_t whole[9] = {16384, 16384, 16384, 507903, 507903, 20000, 25000, 507903, 507903};
-    static const int32_t plane[9] = {262144, 16384, 16384, 262144, 507903, 16384, 262144, 16384, 507903};
-    static const int32_t needle[9] = {16384, 16384, 16384, 507903, 507903, 507903, 507903, 507903, 507903};
-    static const int32_t line[9] = {262143, 262143, 262143, 262144, 262144, 262144, 262144, 262144, 262144};
     setvbuf(stdout, NULL, _IOLBF, 0);
     printf("%-9s %-34s %5s %12s %12s %7s\n", "call", "input", "level", "library us", "reference us", "ratio");
     for (uint32_t l = 2; l <= 5; l++) {
         set_level(l);
-        row("open", "", run_open, 1);
+        row("open", "", run_open);
         printf("\n");
     }
-    time_triangle("a triangle through the whole grid", whole);
-    time_triangle("a triangle next to a grid plane", plane);
-    time_triangle("a needle from corner to corner", needle);
-    time_triangle("a short line through a grid point", line);
     time_read("coordinates above zero", above_zero);
     time_read("coordinates of both signs", of_both_signs);
     time_read("coordinates of every size", of_every_size);

@@ -151,9 +151,9 @@ uint32_t omphirun_mark(uint32_t level, uint8_t *grid, size_t grid_len, const int
 
 /* Mark by a descent: the whole grid is one cube; a cube that an axis separates from the triangle is dropped, any other is divided into
    eight, down to single cells. Its promise is mark's own, word for word: nobody can tell the two apart, refusals, place and axis included,
-   but by the time they take. Mark goes through all cells of the triangle's box, and is faster where that has up to some 2,000 cells; this
+   but by the time they take. Mark goes through all cells of the triangle's box, and is faster where that has up to some 1,200 cells; this
    call goes through those near the triangle, and is faster where it has more: a triangle and a needle through the whole grid of level 5
-   took it 0.55 and 0.26 of mark's time, both under an emulator (docs/landings/M-103.md).
+   took it 0.54 and 0.26 of mark's time, both natively on Arm (docs/BENCH.md).
    Refusals, in this order: 1, 2, 3, 4 or 24, 5. */
 uint32_t omphirun_mark_tree(uint32_t level, uint8_t *grid, size_t grid_len, const int32_t *triangle, size_t triangle_len, uint32_t *place,
                             uint32_t *axis);
