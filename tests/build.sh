@@ -28,14 +28,14 @@ find_kit() {
 
 # ---- the end, and signals
 
-room='' rt_room='' beside='' busy=''
+room='' rt_room='' beside='' beside_job='' busy=''
 
 # A folder for what is temporary.
 make_room() {
     [ -n "$room" ] || room=$(mktemp -d 2>/dev/null) || die "cannot make a temporary folder in ${TMPDIR:-/tmp}"
 }
 
-finish() { rm -rf ${room:+"$room"} ${rt_room:+"$rt_room"} ${beside:+"$beside"}; }
+finish() { rm -rf ${room:+"$room"} ${rt_room:+"$rt_room"} ${beside:+"$beside"} ${beside_job:+"$beside_job"}; }
 
 # Ends the command that is awaited, with its group where it has one, and waits until the group is gone, two seconds at most.
 end_awaited() {

@@ -1,7 +1,7 @@
 #!/usr/bin/env python3
 """Runs ./repair as a user would and holds it to what it says: options, exit statuses, interrupts, streams without end, symlinks.
 
-usage: tests/script.py     (target/bin/repair, target/bin/layers and target/bin/masking are there and newer than the crates)
+usage: tests/script.py     (the programs that it runs are in target/bin and newer than the crates)
 """
 import os
 import re
@@ -285,7 +285,9 @@ def hold_all(tests):
 
 if __name__ == "__main__":
     import script_build
+    import script_job
     failures = hold_all((reports, gaps_and_membranes, options, masks, refusals, bad_coordinates, without_end, what_goes_wrong, early_reader, symlinks, interrupts))
+    failures += hold_all(script_job.TESTS)
     failures += hold_all(script_build.TESTS)
     print(f"tests/script: ./repair in {runs + script_build.runs()} runs, {failures} failures")
     sys.exit(1 if failures else 0)

@@ -1,3 +1,4 @@
 pub mod Accepted
 pub mod Tables
 pub mod Answers
+pub mod Front

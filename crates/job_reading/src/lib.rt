@@ -13,11 +13,13 @@ use table::find;
 use table::kinds_rise;
 ghost use mathlib.Core.Path.{_≡_};
 ghost use mathlib.Core.Bool.{true};
-ghost use Prim.Native.Nat.{_≤_, _+_, _*_};
+ghost use mathlib.Core.List.{List, _++_};
+ghost use Prim.Native.Nat.{ℕ, _≤_, _+_, _*_};
 ghost use lib.ListN.{length, getD};
 ghost use Rattle.rules.specs.Lattice.{pointCount};
 ghost use Rattle.job_format.specs.Table.{entriesFrom, found, there, placeOf, sizeOf, bytesOf, gridFits};
 ghost use Rattle.job_reading.specs.Read.{contentsOf, told, readSized, readCall};
+ghost use Rattle.job_reading.specs.Front.{Front};
 
 // What a job file holds: its level, and each body, absent or a place and a length.
 pub struct Contents {
@@ -61,43 +63,52 @@ fn contents_of(file: &[u8], grid: Part, n: usize) -> Contents
     }
 }
 
-// Reads a file of a level with n cells a side. All kinds are judged before any offset, and all offsets before the grid.
-fn read_sized(n: usize, file: &[u8]) -> ReadAnswer
-    requires { ⌜ (n ≤ 32) × (1 ≤ length (now file)) ⌝ }
-    ensures { λ r. ⌜ told r ≡ readSized n (now (file .entry)) ⌝ }
+// Reads the front of a file of so many bytes, of a level with n cells a side. All kinds are judged before any offset, and all offsets
+// before the grid.
+fn read_sized(n: usize, front: &[u8], size: usize) -> ReadAnswer
+    requires { ⌜ (n ≤ 32) × (1 ≤ length (now front)) × Front (now front) size ⌝ }
+    ensures { λ r. ⌜ ((rest : List ℕ) → length (now (front .entry)) + length rest ≡ size → told r ≡ readSized n (now (front .entry) ++ rest)) ⌝ }
 {
-    if file.len() < 2 {
+    if size < 2 {
         return ReadAnswer::Refused(Refusal::CutShort);
     }
-    let count = file[1] as usize;
+    let count = front[1] as usize;
     if 3 < count {
         return ReadAnswer::Refused(Refusal::CutShort);
     }
-    if file.len() < 2 + 9 * count {
+    if size < 2 + 9 * count {
         return ReadAnswer::Refused(Refusal::CutShort);
     }
-    if !kinds_rise(file, count) {
+    if !kinds_rise(front, count) {
         return ReadAnswer::Refused(Refusal::BadKind);
     }
-    if !are_placed(file, point_count(n), count) {
+    if !are_placed(front, point_count(n), count, size) {
         return ReadAnswer::Refused(Refusal::BadPlace);
     }
-    let grid = find(file, 1, count);
-    if !part_fits(n, file, grid) {
+    let grid = find(front, 1, count);
+    if !part_fits(n, front, grid) {
         return ReadAnswer::Refused(Refusal::NoGrid);
     }
-    ReadAnswer::Done(contents_of(file, grid, count))
+    ReadAnswer::Done(contents_of(front, grid, count))
+}
+
+// Reads a job file of so many bytes by its front: the bytes behind it are not looked at, whatever they are.
+pub fn read_front(front: &[u8], size: usize) -> ReadAnswer
+    requires { ⌜ Front (now front) size ⌝ }
+    ensures { λ r. ⌜ ((rest : List ℕ) → length (now (front .entry)) + length rest ≡ size → told r ≡ readCall (now (front .entry) ++ rest)) ⌝ }
+{
+    if size == 0 {
+        return ReadAnswer::Refused(Refusal::CutShort);
+    }
+    match Level::read(wide(front[0])) {
+        LevelRead::Known(l) => read_sized(l.cells(), front, size),
+        LevelRead::Unknown => ReadAnswer::Refused(Refusal::BadLevel),
+    }
 }
 
 // Reads a job file: which bodies it has, and where they lie. Triangles and quads are not looked into.
 pub fn read_job(file: &[u8]) -> ReadAnswer
     ensures { λ r. ⌜ told r ≡ readCall (now (file .entry)) ⌝ }
 {
-    if file.len() == 0 {
-        return ReadAnswer::Refused(Refusal::CutShort);
-    }
-    match Level::read(wide(file[0])) {
-        LevelRead::Known(l) => read_sized(l.cells(), file),
-        LevelRead::Unknown => ReadAnswer::Refused(Refusal::BadLevel),
-    }
+    read_front(file, file.len())
 }

@@ -44,10 +44,11 @@ pub fn kinds_rise(file: &[u8], n: usize) -> bool
     true
 }
 
-// Answers whether each of n bodies begins where the one before ends, with a length that fits its kind, and the last ends with the file.
-pub fn are_placed(file: &[u8], points: usize, n: usize) -> bool
+// Answers whether each of n bodies begins where the one before ends, with a length that fits its kind, and the last ends with the file,
+// which is so many bytes long.
+pub fn are_placed(file: &[u8], points: usize, n: usize, end: usize) -> bool
     requires { ⌜ (n ≤ 3) × (2 + 9 * n ≤ length (now file)) ⌝ }
-    ensures { λ r. ⌜ r ≡ placed points (length (now (file .entry))) (2 + 9 * n) (entriesFrom (now (file .entry)) 2 n) ⌝ }
+    ensures { λ r. ⌜ r ≡ placed points end (2 + 9 * n) (entriesFrom (now (file .entry)) 2 n) ⌝ }
 {
     let mut next: usize = 2 + 9 * n;
     let mut p: usize = 2;
@@ -65,7 +66,7 @@ pub fn are_placed(file: &[u8], points: usize, n: usize) -> bool
         p += 9;
         left -= 1;
     }
-    next == file.len()
+    next == end
 }
 
 // The body of a kind among n entries.

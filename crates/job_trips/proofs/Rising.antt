@@ -1,18 +1,18 @@
 -- Entries whose kinds rise are those found of each kind, one behind another. Assumes nothing.
 use mathlib.Core.Path.{_≡_, refl, ap, subst, _∙_}
-use mathlib.Core.Bool.{Bool, true, false, cond, _&&_}
+use mathlib.Core.Bool.{Bool, true, false, cond}
 use mathlib.Core.List.{List, [], _∷_, _++_, append-nil}
 use Prim.Native.Nat.{ℕ, suc, _+_, _≤_, _<_}
 use native.Mathlib.Omega.{arith}
-use borrow.Author.Tests.{eqb-true, eqb-false, ltb-true, leb-true, lt-ltb, le-leb, ne-eqb}
-use lib.Dec.{ltb, leb, eqb}
+use borrow.Author.Tests.{eqb-true, eqb-false, lt-ltb, le-leb, ne-eqb}
+use lib.Dec.{ltb, eqb}
 use Rattle.rules.specs.Grid.{value}
-use Rattle.rules.proofs.Bits.{and-left, and-right}
 use Rattle.job_format.specs.declared.Entry.{Entry}
 use Rattle.job_format.specs.declared.Part.{Part}
 use Rattle.job_format.specs.declared.Part.the-variants.{Absent}
 use Rattle.job_format.specs.Format.{Body}
 use Rattle.job_format.specs.Table.{rising, partOf, found, there, bytesOf}
+use Rattle.job_format.proofs.Rises.{Rises, rises, found-none}
 use Rattle.job_writing.specs.Write.{wantedOf, keep}
 
 -- the body of an entry, and of each of several
@@ -33,36 +33,9 @@ rest k [] = []
 rest k (e ∷ l) = cond (eqb (e .kind) k) l (e ∷ l)
 
 -- ---- kinds that rise
-record Rises (j : ℕ) (e : Entry) (l : List Entry) : Type 0 where
-  pub above : j < e .kind
-  pub known : e .kind ≤ 3
-  pub on : rising (e .kind) l ≡ true
-
-rises : (j : ℕ) (e : Entry) (l : List Entry) → rising j (e ∷ l) ≡ true → Rises j e l
-unfolding rising
-rises j e l h =
-    let a = ltb j (e .kind) in
-    let b = leb (e .kind) 3 in
-    let c = rising (e .kind) l in
-    let more = and-right a (b && c) h in
-    record {
-      above = ltb-true j (e .kind) (and-left a (b && c) h);
-      known = leb-true (e .kind) 3 (and-left b c more);
-      on = and-right b c more;
-    }
-
 rise : (j : ℕ) (e : Entry) (l : List Entry) → j < e .kind → e .kind ≤ 3 → rising (e .kind) l ≡ true → rising j (e ∷ l) ≡ true
 unfolding rising
 rise j e l a b h = rw (lt-ltb j (e .kind) a, le-leb (e .kind) 3 b) h
-
--- a kind that is not above the last is not found
-found-none : (j k : ℕ) (l : List Entry) → rising j l ≡ true → k ≤ j → found k l ≡ Absent
-unfolding found
-found-none j k [] h m = refl
-found-none j k (e ∷ l) h m =
-    let r = rises j e l h in
-    let a = r .above in
-    rw (ne-eqb (e .kind) k (λ q. omega arith)) (found-none (e .kind) k l (r .on) (omega arith))
 
 -- ---- the body of the next kind, and the others
 record Parted (s : List ℕ) (j : ℕ) (l : List Entry) : Type 0 where

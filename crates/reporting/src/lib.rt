@@ -22,7 +22,7 @@ ghost use Rattle.reporting.specs.Report.{lentBytes, lentList, closed, su
 ghost use Rattle.reporting.specs.Close.{Closed};
 
 // Patches a grid and gives its points their signs.
-fn close_grid(l: Level, grid: &mut [u8], work: &mut [u8]) -> Counts
+pub fn close_grid(l: Level, grid: &mut [u8], work: &mut [u8]) -> Counts
     requires { ⌜ Ready l (now grid) × (pointsOf l ≤ length (now work)) ⌝ }
     ensures { λ r. ⌜ Closed l (now (grid .entry)) (now (work .entry)) (r .rims) (r .flips) (r .ones) (r .threes) (now (grid .exit)) (now (work .exit)) ⌝ }
 {

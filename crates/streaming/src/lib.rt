@@ -28,14 +28,14 @@ pub enum Wanted {
 const BLOCK: usize = 4068;
 
 // Bytes for the points of any level: an empty grid.
-fn empty_grid() -> [u8; 35937]
+pub fn empty_grid() -> [u8; 35937]
     ensures { λ r. ⌜ r ≡ replicate 35937 0 ⌝ }
 {
     [0u8; 35937]
 }
 
 // The list that is lent to surface.
-fn empty_list() -> [u16; 32768]
+pub fn empty_list() -> [u16; 32768]
     ensures { λ r. ⌜ r ≡ replicate 32768 0 ⌝ }
 {
     [0u16; 32768]
@@ -56,7 +56,7 @@ fn empty_block() -> [u8; 4068]
 }
 
 // Reads standard input to its end or to the first refused triangle, and marks the triangles block by block.
-fn feed_all(l: Level, grid: &mut [u8]) -> Fed
+pub fn feed_all(l: Level, grid: &mut [u8]) -> Fed
     requires { ⌜ Ready l (now grid) ⌝ }
     ensures { λ r. ⌜ Streamed l (now (grid .entry)) r (now (grid .exit)) ⌝ }
 {

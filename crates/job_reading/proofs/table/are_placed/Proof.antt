@@ -4,7 +4,6 @@ use mathlib.Core.Path.{_≡_, refl, sym, ap, _∙_}
 use Prim.Native.Nat.{_+_, _-_, _*_, _≤_}
 use native.Mathlib.Omega.{arith}
 use borrow.Author.Needs.{needs}
-use lib.ListN.{length}
 use Rattle.lattice.proofs.Tests.{fails, holds}
 use Rattle.job_format.specs.declared.Entry.{Entry}
 use Rattle.job_format.specs.Table.{entryAt, entriesFrom, sizeFits, placed}
@@ -14,14 +13,14 @@ use Rattle.job_reading.proofs.table.are_placed.Tie as tie
 
 -- one entry is at most 2^32 long
 abbrev Inv-loop : tie.InvT-loop
-Inv-loop file points n next₀ p₀ left₀ next p left =
+Inv-loop file points n end next₀ p₀ left₀ next p left =
     (p + 9 * left ≡ 2 + 9 * n)
     × (left ≤ n)
     × (next + 4294967296 * left ≤ 29 + 4294967296 * n)
-    × (placed points (length file) next (entriesFrom file p left) ≡ placed points (length file) (2 + 9 * n) (entriesFrom file 2 n))
+    × (placed points end next (entriesFrom file p left) ≡ placed points end (2 + 9 * n) (entriesFrom file 2 n))
 
 abbrev μ-loop : tie.MeasureT-loop
-μ-loop file points n next₀ p₀ left₀ next p left = left
+μ-loop file points n end next₀ p₀ left₀ next p left = left
 
 mul-next : tie.Need-mul-next Inv-loop μ-loop
 mul-next c = omega arith
@@ -46,7 +45,7 @@ returns c =
     let some = c .before .before .before .loop-test .taken in
     let e : c .before .before .entry-at .result .at ≡ entryAt s (l .p) .at = ap (λ (x : Entry). x .at) (c .before .before .entry-at .ensures) in
     let off : entryAt s (l .p) .at ≡ l .next → ⊥ = λ q. omega (arith, c .if1 .taken, e, q) in
-    sym (placed-off s (l .p) (l .left) some (start .args .points) (length s) (l .next) off) ∙ l .inv .3
+    sym (placed-off s (l .p) (l .left) some (start .args .points) (start .args .end) (l .next) off) ∙ l .inv .3
 
 cast-size : tie.Need-cast-size Inv-loop μ-loop
 cast-size c = search needs
@@ -63,7 +62,7 @@ returns-2 c =
     let l = test .before .loop in
     let e = c .before .before .before .before .before .entry-at .ensures in
     let size = fails (c .before .size-fits .ensures ∙ ap (λ (x : Entry). sizeFits points (x .kind) (x .size)) e) (c .if2 .taken) in
-    sym (placed-size s (l .p) (l .left) (test .loop-test .taken) points (length s) (l .next) size) ∙ l .inv .3
+    sym (placed-size s (l .p) (l .left) (test .loop-test .taken) points (start .args .end) (l .next) size) ∙ l .inv .3
 
 add-next-2 : tie.Need-add-next-2 Inv-loop μ-loop
 add-next-2 c =
@@ -92,11 +91,11 @@ loop-again c =
     let e = entry .ensures in
     let at = sym (ap (λ (x : Entry). x .at) e) ∙ c .before .before .before .if1 .left in
     let size = holds (c .before .size-fits .ensures ∙ ap (λ (x : Entry). sizeFits points (x .kind) (x .size)) e) (c .if2 .left) in
-    let on = placed-on s (l .p) (l .left) (test .loop-test .taken) points (length s) (l .next) at size in (
+    let on = placed-on s (l .p) (l .left) (test .loop-test .taken) points (start .args .end) (l .next) at size in (
       omega (arith, l .inv, test .loop-test),
       omega (arith, l .inv, test .loop-test),
       omega (arith, l .inv, test .loop-test, entry .ok),
-      ap (λ (x : Entry). placed points (length s) (l .next + x .size) (entriesFrom s (l .p + 9) (l .left - 1))) e ∙ sym on ∙ l .inv .3,
+      ap (λ (x : Entry). placed points (start .args .end) (l .next + x .size) (entriesFrom s (l .p + 9) (l .left - 1))) e ∙ sym on ∙ l .inv .3,
     )
 
 returns-3 : tie.Need-returns-3 Inv-loop μ-loop
@@ -104,7 +103,7 @@ returns-3 c =
     let start = c .before .before .before in
     let s = start .args .file .now in
     let l = c .before .loop in
-    sym (placed-end s (l .p) (l .left) (c .loop-test .left) (start .args .points) (length s) (l .next)) ∙ l .inv .3
+    sym (placed-end s (l .p) (l .left) (c .loop-test .left) (start .args .points) (start .args .end) (l .next)) ∙ l .inv .3
 
 pub are-placed-spec : {M : Type 1} → statement M
 are-placed-spec =
