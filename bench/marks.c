@@ -11,32 +11,29 @@
 #include "../tests/random.h"
 #include "../tests/reference.h"
 #include "../tests/reference_grid.h"
+#include "before.h"
 
 enum { MOST_TIMED = 2000, LEAST_ROUNDS = 8, MOST_ROUNDS = 400, SIDES = 3 };
 
 static const double seconds_a_row = 0.4;
 
-typedef uint32_t mark(uint32_t level, uint8_t *grid, size_t grid_len, const int32_t *triangle, size_t triangle_len, uint32_t *place,
-                      uint32_t *axis);
+typedef uint32_t mark(uint32_t level, uint8_t *grid, size_t grid_len, const int32_t *triangle, size_t triangle_len, uint16_t *totals,
+                      size_t totals_len, uint32_t *place, uint32_t *axis);
 
-/* The earlier library's mark told no place and no axis, and took lattice coordinates: it is handed those that are tested. */
-uint32_t before_mark(uint32_t level, uint8_t *grid, size_t grid_len, const int32_t *triangle, size_t triangle_len) __attribute__((weak));
-
-static uint32_t earlier_mark(uint32_t level, uint8_t *grid, size_t grid_len, const int32_t *triangle, size_t triangle_len, uint32_t *place,
-                             uint32_t *axis)
+/* The earlier library's calls took no table. */
+static uint32_t earlier_mark(uint32_t level, uint8_t *grid, size_t grid_len, const int32_t *triangle, size_t triangle_len, uint16_t *totals,
+                             size_t totals_len, uint32_t *place, uint32_t *axis)
 {
-    int32_t tested[9];
-    for (int c = 0; c < 9; c++)
-        tested[c] = tested_at(triangle[c]);
-    *place = *axis = 0;
-    return before_mark(level, grid, grid_len, tested, triangle_len);
+    (void)totals, (void)totals_len;
+    return before_mark(level, grid, grid_len, triangle, triangle_len, place, axis);
 }
 
 /* A call, the reference's, and the earlier library's mark. */
 static const struct timed {
     const char *call;
     mark *sides[SIDES];
-} timed[] = {{"mark", {omphirun_mark, reference_mark_near, earlier_mark}}, {"mark_tree", {omphirun_mark_tree, reference_mark_tree, earlier_mark}}};
+} timed[] = {{"mark", {omphirun_mark, reference_mark_near, earlier_mark}},
+             {"mark_tree", {omphirun_mark_tree, reference_mark_tree, earlier_mark}}};
 
 static int32_t triangles[MOST_TIMED][9];
 static int many;
@@ -52,11 +49,12 @@ static double now(void)
 static void run(mark *side, uint32_t level, double best[MOST_TIMED])
 {
     static uint8_t grid[MOST_POINTS];
+    static uint16_t totals[MOST_BLOCKS];
     struct measures m = measures_of(level);
     for (int t = 0; t < many; t++) {
         memset(grid, 0, (size_t)m.points);
         double start = now();
-        uint32_t place, axis, answer = side(level, grid, (size_t)m.points, triangles[t], 9, &place, &axis);
+        uint32_t place, axis, answer = side(level, grid, (size_t)m.points, triangles[t], 9, totals, MOST_BLOCKS, &place, &axis);
         double took = now() - start;
         best[t] = took < best[t] ? took : best[t];
         if (answer) {

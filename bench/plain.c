@@ -1,4 +1,4 @@
-/* Each quad is turned to the corner whose number is third highest, its edge is marked in the work byte, with the turn beside it; then the faces are
+/* Accept: each quad is turned to the corner whose number is third highest, its edge is marked in the work byte, with the turn beside it; then the faces are
    looked at, and the turns are held to the signs. */
 #include "plain.h"
 
@@ -74,5 +74,20 @@ uint32_t plain_accept(uint32_t level, const uint16_t *list, size_t list_len, uin
         *yes = 1;
     }
     memset(work, 0, (size_t)m.points);
+    return 0;
+}
+
+uint32_t plain_any_mark(uint32_t level, const uint8_t *grid, const uint32_t low[3], const uint32_t high[3], uint32_t *any)
+{
+    const uint32_t side = (1u << level) + 1;
+    *any = 1;
+    for (uint32_t k = low[Z]; k <= high[Z]; k++)
+        for (uint32_t j = low[Y]; j <= high[Y]; j++) {
+            const uint8_t *row = grid + side * (j + side * k);
+            for (uint32_t i = low[X]; i <= high[X]; i++)
+                if (row[i] % 8 != 0)
+                    return 0;
+        }
+    *any = 0;
     return 0;
 }

@@ -10,6 +10,7 @@
 #include "../tests/calls.h"
 #include "../tests/random.h"
 #include "../tests/reference.h"
+#include "before.h"
 #include "hostile.h"
 #include "plain.h"
 
@@ -23,7 +24,7 @@ static const double seconds_a_row = 0.4;
 static uint32_t level;
 static struct measures m;
 static uint8_t came[MOST_POINTS], grid[MOST_POINTS], other[MOST_POINTS];
-static uint16_t list[LIST_ROOM];
+static uint16_t list[LIST_ROOM], totals[MOST_BLOCKS];
 static uint32_t counts[4];
 static uint8_t file[STL_BYTES];
 static int32_t numbers[9 * STL_TRIANGLES];
@@ -35,15 +36,12 @@ static size_t job_bytes;
 /* Microseconds a call of either side, and of the earlier library's, of the row that was printed last. */
 static double took_us[SIDES];
 
-/* The earlier library's patch told two numbers. */
-uint32_t before_patch(uint32_t level, uint8_t *grid, size_t grid_len, uint8_t *work, size_t work_len, uint32_t *rims, uint32_t *flips)
-    __attribute__((weak));
-
-static uint32_t earlier_patch(uint32_t level, uint8_t *grid, size_t grid_len, uint8_t *work, size_t work_len, uint32_t *rims, uint32_t *flips,
-                              uint32_t *ones, uint32_t *threes)
+/* The earlier library's patch has no table. */
+static uint32_t earlier_patch(uint32_t level, uint8_t *grid, size_t grid_len, uint8_t *work, size_t work_len, uint16_t *totals,
+                              size_t totals_len, uint32_t *rims, uint32_t *flips, uint32_t *ones, uint32_t *threes)
 {
-    *ones = *threes = 0;
-    return before_patch(level, grid, grid_len, work, work_len, rims, flips);
+    (void)totals, (void)totals_len;
+    return before_patch(level, grid, grid_len, work, work_len, rims, flips, ones, threes);
 }
 
 typedef void job(const struct calls *calls);
@@ -76,12 +74,12 @@ static void restore(const struct calls *calls)
 
 static void run_open(const struct calls *calls)
 {
-    hold(calls->open(level, grid, sizeof grid));
+    hold(calls->open(level, grid, sizeof grid, totals, MOST_BLOCKS));
 }
 
 static void run_patch(const struct calls *calls)
 {
-    hold(calls->patch(level, grid, sizeof grid, other, sizeof other, &counts[0], &counts[1], &counts[2], &counts[3]));
+    hold(calls->patch(level, grid, sizeof grid, other, sizeof other, totals, MOST_BLOCKS, &counts[0], &counts[1], &counts[2], &counts[3]));
 }
 
 static void run_sign(const struct calls *calls)
@@ -210,7 +208,7 @@ static void time_stream(const char *path)
         uint32_t place, axis;
         for (int c = 0; c < 9; c++)
             triangle[c] = (int32_t)(bytes[4 * c] | bytes[4 * c + 1] << 8 | bytes[4 * c + 2] << 16 | (uint32_t)bytes[4 * c + 3] << 24);
-        hold(reference_mark_near(level, came, sizeof came, triangle, 9, &place, &axis));
+        hold(reference_mark_near(level, came, sizeof came, triangle, 9, totals, MOST_BLOCKS, &place, &axis));
     }
     fclose(file);
     time_grid(input);

@@ -1,5 +1,5 @@
 /* The repair stage for a slicer: five calls, mark in a second form, two that read and write binary STL, two that read and write job files, one
-   that checks a surface, and one that writes masks, on memory that the caller lends.
+   that checks a surface, one that writes masks, and three about the table of totals, on memory that the caller lends.
 
    Link with libstage.a, which `rt staticlib stage` writes to target/staticlib/ (x86-64). examples/slicer.c shows the calls in
    their order: open, mark for each triangle, patch, sign, surface.
@@ -12,13 +12,21 @@
    a byte above 15 or a mark elsewhere makes the buffer no grid. Open, mark and patch clear all signs, those of a call that is refused
    are kept; sign writes them, and surface reads them.
 
-   Memory. A repair needs a grid and work bytes, and a list that is as long as the caller likes, at most OMPHIRUN_LIST:
+   Totals. The points are divided into blocks of 4 x 4 x 4, of which the last on each axis are cut off where the grid ends. With w = n/4 + 1
+   blocks a side, point (i,j,k) lies in the block of number i/4 + w(j/4 + w(k/4)), quotients rounded down, and there are w^3 of them,
+   OMPHIRUN_TOTALS. A table of totals is one u16 a block: the number of marks in it, at most 192. A mark is an edge's mark, so a byte has up to
+   three of them; it has one at all when its remainder by 8 is not 0. The table is there for any_mark, which tells from it whether a box
+   of points has any mark. Open, mark and patch make every total true, whatever the table held, and nothing else does but count_totals; so it
+   stays true as long as the caller's bytes change by these calls alone (sign changes no mark). A caller that never asks lends a table all the
+   same: it is 1,458 bytes at level 5, and none of the calls goes over the grid once more to count.
 
-     level          P   grid and work   the longest list
-       2          125       250 bytes           864 bytes
-       3          729     1,458 bytes         9,408 bytes
-       4        4,913     9,826 bytes        86,400 bytes
-       5       35,937    71,874 bytes       738,048 bytes
+   Memory. A repair needs a grid, work bytes and a table of totals, and a list that is as long as the caller likes, at most OMPHIRUN_LIST:
+
+     level          P   grid and work   totals        bytes   the longest list
+       2          125       250 bytes        8     16 bytes          864 bytes
+       3          729     1,458 bytes       27     54 bytes        9,408 bytes
+       4        4,913     9,826 bytes      125    250 bytes       86,400 bytes
+       5       35,937    71,874 bytes      729  1,458 bytes      738,048 bytes
 
    Every call returns OMPHIRUN_DONE, 0, or else the lowest number of this table that applies; where a call names its numbers in another
    order, the first of them. Each number is given exactly when its line says, for any contents of the buffers. The names stand below.
@@ -30,8 +38,8 @@
         first that does lies below it                              mark, mark_tree
     24  a coordinate lies outside S/2 to 524,287 - S/2, and the
         first that does lies above it                              mark, mark_tree
-     5  the buffer is no grid                                      all of these but open and
-                                                                   accept
+     5  the buffer is no grid                                      all of these but open, accept
+                                                                   and those about totals
         the grid body is no grid                                   read_job, write_job
      6  some face of a cell has an odd number of marked edges      sign
      7  point (0,0,0) inside, an edge whose ends differ in sign
@@ -47,6 +55,10 @@
     12  a coordinate is a NaN or infinite                          read_stl
     13  a coordinate is beyond 2^30 in size                        read_stl
     14  e is not -20 to 20                                         read_stl, write_stl
+    15  the box is empty or leaves the grid                        any_mark
+    16  the table of totals is shorter than the blocks             open, mark, mark_tree, patch,
+                                                                   any_mark, totals_true,
+                                                                   count_totals
     17  the list's length is not a multiple of four                accept
     18  the file is empty, its table of contents is cut short, or
         its count is above 3                                       read_job
@@ -54,14 +66,14 @@
     20  an offset or a length is wrong or too large for a u32, or
         bytes stand behind the last body                           read_job, write_job
 
-   A refusal changes no buffer and sets every count to 0. Grid and work buffers may be longer than P, and the list longer
-   than it has to be: what lies behind is neither read nor changed.
+   A refusal changes no buffer and sets every count to 0. Grid and work buffers may be longer than P, the table longer than the blocks, and
+   the list longer than it has to be: what lies behind is neither read nor changed.
 
    What the caller owes, and no call can check:
    - each pointer to a buffer is valid for as many elements as its length says, and aligned for them; lengths are in elements. A null
      pointer is fine where the length is 0: that is an empty buffer;
-   - each pointer to a count (place, axis, rims, flips, ones, threes, quads, triangles, bytes, yes, all that read_job tells) is valid: it is
-     written in every case, so it is never null;
+   - each pointer to a count (place, axis, rims, flips, ones, threes, quads, triangles, bytes, yes, any, all that read_job tells) is valid: it
+     is written in every case, so it is never null;
    - no buffer or count that a call writes overlaps another one of that call. Two that it only reads may;
    - OMPHIRUN_STACK bytes of stack are left. The calls take no memory but that and what is lent, and keep no state.
    Every other misuse is a refusal. Each promise here is a theorem about the code behind it, under these conditions. That calls with
@@ -78,8 +90,8 @@ extern "C" {
 #endif
 
 /* The version: the first number rises when a caller has to change, the second when there is something new. It stands here alone. */
-#define OMPHIRUN_MAJOR 5
-#define OMPHIRUN_MINOR 5
+#define OMPHIRUN_MAJOR 6
+#define OMPHIRUN_MINOR 0
 #define OMPHIRUN_PATCH 0
 
 /* What a call returns. */
@@ -99,6 +111,8 @@ enum omphirun_number {
     OMPHIRUN_NOT_FINITE = 12,
     OMPHIRUN_TOO_FAR = 13,
     OMPHIRUN_BAD_SCALE = 14,
+    OMPHIRUN_BAD_BOX = 15,
+    OMPHIRUN_SHORT_TABLE = 16,
     OMPHIRUN_NOT_FOURS = 17,
     OMPHIRUN_CUT_SHORT = 18,
     OMPHIRUN_BAD_KIND = 19,
@@ -113,6 +127,10 @@ enum omphirun_number {
 #define OMPHIRUN_CELLS(level) (1u << (level))
 #define OMPHIRUN_POINTS(level) ((OMPHIRUN_CELLS(level) + 1) * (OMPHIRUN_CELLS(level) + 1) * (OMPHIRUN_CELLS(level) + 1))
 #define OMPHIRUN_SIDE(level) (1 << (20 - (level)))
+
+/* The totals of a level: one for each block of 4 x 4 x 4 points, those cut off at the grid's end among them. */
+#define OMPHIRUN_BLOCKS(level) (OMPHIRUN_CELLS(level) / 4 + 1)
+#define OMPHIRUN_TOTALS(level) (OMPHIRUN_BLOCKS(level) * OMPHIRUN_BLOCKS(level) * OMPHIRUN_BLOCKS(level))
 
 /* The lowest and the highest model coordinate that mark takes at a level, S/2 and 524,287 - S/2. */
 #define OMPHIRUN_LOWEST(level) (1 << (19 - (level)))
@@ -129,44 +147,46 @@ enum omphirun_number {
 #define OMPHIRUN_MASKS(level) \
     ((OMPHIRUN_CELLS(level) + 1) * ((OMPHIRUN_CELLS(level) < 9 ? 7 : 9) + (OMPHIRUN_CELLS(level) + 1) * ((OMPHIRUN_CELLS(level) + 8) / 8)))
 
-/* Bytes of stack that are enough for any call: patch was measured to take 6.4 kB, mark_tree 2.3, mark 1.2, every other call less
-   than 1 kB. */
+/* Bytes of stack that are enough for any call: patch was measured to take 6.4 kB, mark_tree 2.3 and mark 1.2 before these two held 1.5 kB
+   of totals besides, every other call less than 1 kB. */
 #define OMPHIRUN_STACK 8192
 
-/* Open. The first P bytes of the grid become 0, whatever they held: a grid without marks and signs.
-   Refusals: 1, 2. */
-uint32_t omphirun_open(uint32_t level, uint8_t *grid, size_t grid_len);
+/* Open. The first P bytes of the grid become 0, whatever they held: a grid without marks and signs. All totals become 0.
+   Refusals: 1, 2, 16. */
+uint32_t omphirun_open(uint32_t level, uint8_t *grid, size_t grid_len, uint16_t *totals, size_t totals_len);
 
 /* Mark. The triangle is nine model coordinates, Ax Ay Az Bx By Bz Cx Cy Cz. The marks of all edges that it meets are added and none
    is removed; all signs are cleared, also where no mark is added. An edge is met when none of thirteen axes separates it from the
    triangle; touching is meeting. A triangle square to an axis adds marks only to edges along that axis that go through its plane, in
    one layer of cells, so that a flat face does not thicken; one that is sloped can go through a grid point, and then meets all six
    edges there. Triangles of no area are allowed. The order of triangles makes no difference, nor does marking one twice. Each call
-   looks at all P bytes first, since it takes any buffer and 5 has to be told: for a small triangle that is most of its time.
+   looks at all P bytes first, since it takes any buffer and 5 has to be told: for a small triangle that is most of its time. The totals
+   are counted in the same pass, and once more only in the blocks that the triangle's box reaches; all of them are true afterwards.
    When it is refused by 4 or 24, *place is the place of the first coordinate that is out, 0 to 8 in the order of the nine, and *axis its
    axis, 0 to 2; both are 0 in every other case.
-   Refusals, in this order: 1, 2, 3, 4 or 24, 5. */
-uint32_t omphirun_mark(uint32_t level, uint8_t *grid, size_t grid_len, const int32_t *triangle, size_t triangle_len, uint32_t *place,
-                       uint32_t *axis);
+   Refusals, in this order: 1, 2, 3, 4 or 24, 5, 16. */
+uint32_t omphirun_mark(uint32_t level, uint8_t *grid, size_t grid_len, const int32_t *triangle, size_t triangle_len, uint16_t *totals,
+                       size_t totals_len, uint32_t *place, uint32_t *axis);
 
 /* Mark by a descent: the whole grid is one cube; a cube that an axis separates from the triangle is dropped, any other is divided into
    eight, down to single cells. Its promise is mark's own, word for word: nobody can tell the two apart, refusals, place and axis included,
    but by the time they take. Mark goes through all cells of the triangle's box, and is faster where that has up to some 1,200 cells; this
    call goes through those near the triangle, and is faster where it has more: a triangle and a needle through the whole grid of level 5
    took it 0.54 and 0.26 of mark's time, both natively on Arm (docs/BENCH.md).
-   Refusals, in this order: 1, 2, 3, 4 or 24, 5. */
-uint32_t omphirun_mark_tree(uint32_t level, uint8_t *grid, size_t grid_len, const int32_t *triangle, size_t triangle_len, uint32_t *place,
-                            uint32_t *axis);
+   Refusals, in this order: 1, 2, 3, 4 or 24, 5, 16. */
+uint32_t omphirun_mark_tree(uint32_t level, uint8_t *grid, size_t grid_len, const int32_t *triangle, size_t triangle_len, uint16_t *totals,
+                            size_t totals_len, uint32_t *place, uint32_t *axis);
 
 /* Patch. Marks are added and taken away until every face of every cell has an even number of marked edges, and all signs are cleared.
    The first P work bytes are 0 afterwards, whatever they held. *rims is the number of rims, which are the faces with an odd number of
    marks, taken together where they touch by a cell; *flips is the number of edges whose mark differs between entry and exit. No edge
    is altered unless all four cells around it lie in the box of one rim. *ones and *threes are the numbers of faces with one marked
    edge and with three, as the grid came in: where the marked surface ends, because the model lacks faces, and where three sheets of
-   it meet, because it has extra walls. Together they are the odd faces, and both are 0 exactly when *rims is.
-   Refusals: 1, 2, 5, with all four counts 0. */
-uint32_t omphirun_patch(uint32_t level, uint8_t *grid, size_t grid_len, uint8_t *work, size_t work_len, uint32_t *rims,
-                        uint32_t *flips, uint32_t *ones, uint32_t *threes);
+   it meet, because it has extra walls. Together they are the odd faces, and both are 0 exactly when *rims is. The totals are those of the
+   patched grid, counted in the pass that counts the flips.
+   Refusals, in this order: 1, 2, 5, 16, with all four counts 0. */
+uint32_t omphirun_patch(uint32_t level, uint8_t *grid, size_t grid_len, uint8_t *work, size_t work_len, uint16_t *totals,
+                        size_t totals_len, uint32_t *rims, uint32_t *flips, uint32_t *ones, uint32_t *threes);
 
 /* Sign. Value 8 of the first P bytes is set inside and taken away outside, whatever signs there were; the marks stay. Point (0,0,0) is
    outside, and two ends of an edge differ exactly when the edge is marked. There is exactly one such assignment when no face is odd, as
@@ -237,6 +257,26 @@ uint32_t omphirun_accept(uint32_t level, const uint16_t *list, size_t list_len, 
    looks at each point once besides the tests that surface makes too.
    Refusals, in this order: 1, 2, 5, 7, 8, with *bytes 0. */
 uint32_t omphirun_masks(uint32_t level, const uint8_t *grid, size_t grid_len, uint8_t *out, size_t out_len, size_t *bytes);
+
+/* Ask whether a box of points has any mark. The box is given by its lowest and its highest point, both in it. *any is 1 or 0: for a block that
+   lies wholly inside the box its total answers, for one that lies partly inside the bytes of its points in the box; a block that is cut off at
+   the grid's end lies wholly inside when all the points that it has do. When every total is true that is the answer read from all the
+   bytes of the box. With an untrue table it is what this rule yields: totals are believed, and totals_true tells whether they may be. No
+   byte makes the buffer unfit: one above 15 has a mark when its remainder by 8 is not 0. The call looks at each block that the box reaches
+   once, and at bytes only of those that its border cuts; it ends at the first mark.
+   Refusals, in this order: 1, 2, 15, 16, with *any 0; never 5. */
+uint32_t omphirun_any_mark(uint32_t level, const uint8_t *grid, size_t grid_len, const uint16_t *totals, size_t totals_len, uint32_t low_i,
+                           uint32_t low_j, uint32_t low_k, uint32_t high_i, uint32_t high_j, uint32_t high_k, uint32_t *any);
+
+/* Tell whether the table is true: *yes is 1 when each total is the number of marks in its block, for the bytes as they are, else 0. One pass
+   over the P bytes, up to the first block whose total is not.
+   Refusals, in this order: 1, 2, 16, with *yes 0; never 5. */
+uint32_t omphirun_totals_true(uint32_t level, const uint8_t *grid, size_t grid_len, const uint16_t *totals, size_t totals_len, uint32_t *yes);
+
+/* Make the table true for bytes that came another way than by open, mark and patch: from accept, a job file or a caller's own hand. The grid is
+   not changed, so signs stay, and need not be one. One pass over the P bytes.
+   Refusals, in this order: 1, 2, 16; never 5. */
+uint32_t omphirun_count_totals(uint32_t level, const uint8_t *grid, size_t grid_len, uint16_t *totals, size_t totals_len);
 
 #ifdef __cplusplus
 }

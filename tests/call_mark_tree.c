@@ -17,7 +17,7 @@ static uint32_t run(const struct calls *calls, const struct input *lent, uint64_
 {
     uint32_t place = untouched, axis = untouched;
     uint32_t answer = calls->mark_tree(lent->level, lent->buffer[GRID], lent->len[GRID], (int32_t *)lent->buffer[TRIANGLE],
-                                       lent->len[TRIANGLE], &place, &axis);
+                                       lent->len[TRIANGLE], (uint16_t *)lent->buffer[TOTALS], lent->len[TOTALS], &place, &axis);
     counts[0] = place;
     counts[1] = axis;
     return answer;
@@ -27,18 +27,21 @@ static uint32_t run(const struct calls *calls, const struct input *lent, uint64_
 static const char *also(const struct input *in)
 {
     static uint8_t near[POINT_ROOM], tree[POINT_ROOM];
+    static uint16_t totals_near[TOTALS_ROOM], totals_tree[TOTALS_ROOM];
     const int32_t *triangle = (int32_t *)in->buffer[TRIANGLE];
-    size_t len = in->len[GRID];
+    size_t len = in->len[GRID], totals_len = in->len[TOTALS];
     uint32_t place[2], axis[2];
     memcpy(near, in->buffer[GRID], len);
     memcpy(tree, in->buffer[GRID], len);
-    if (reference_mark_near(in->level, near, len, triangle, in->len[TRIANGLE], &place[0], &axis[0]) ==
-            reference_mark_tree(in->level, tree, len, triangle, in->len[TRIANGLE], &place[1], &axis[1]) &&
-        place[0] == place[1] && axis[0] == axis[1] && !memcmp(near, tree, len))
+    memcpy(totals_near, in->buffer[TOTALS], bytes_of(in, TOTALS));
+    memcpy(totals_tree, in->buffer[TOTALS], bytes_of(in, TOTALS));
+    if (reference_mark_near(in->level, near, len, triangle, in->len[TRIANGLE], totals_near, totals_len, &place[0], &axis[0]) ==
+            reference_mark_tree(in->level, tree, len, triangle, in->len[TRIANGLE], totals_tree, totals_len, &place[1], &axis[1]) &&
+        place[0] == place[1] && axis[0] == axis[1] && !memcmp(near, tree, len) && !memcmp(totals_near, totals_tree, bytes_of(in, TOTALS)))
         return NULL;
     return "the reference's scan and descent differ";
 }
 
-const struct call call_mark_tree = {.name = "mark_tree", .share = 250, .buffers = 1u << GRID | 1u << TRIANGLE,
-                                    .answers = 1u << 0 | 1u << 1 | 1u << 2 | 1u << 3 | 1u << 4 | 1u << 24 | 1u << 5,
+const struct call call_mark_tree = {.name = "mark_tree", .share = 250, .buffers = 1u << GRID | 1u << TRIANGLE | 1u << TOTALS,
+                                    .answers = 1u << 0 | 1u << 1 | 1u << 2 | 1u << 3 | 1u << 4 | 1u << 24 | 1u << 5 | 1u << 16,
                                     .counts = {"place", "axis"}, .make = make, .run = run, .also = also};

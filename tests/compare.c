@@ -31,7 +31,7 @@ static void count(const struct input *in, const struct outcome *out)
 static void print_counts(void)
 {
     for (size_t c = 0; c < call_count; c++) {
-        printf("%-10s", all_calls[c]->name);
+        printf("%-12s", all_calls[c]->name);
         for (int a = 0; a < MOST_ANSWERS; a++)
             if (all_calls[c]->answers >> a & 1)
                 printf("  %d:%8" PRIu64, a, answered[c][a]);

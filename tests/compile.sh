@@ -9,8 +9,8 @@ names() { # PATTERN
 }
 
 reference=$(names 'reference*.c' | grep -v reference_main)
-inputs="inputs triangles grids turning $(names 'call_*.c')"
-harness="compare calls sides shrink print examples $inputs $reference"
+inputs="inputs triangles grids tables turning $(names 'call_*.c')"
+harness="compare calls sides shrink print examples examples_totals $inputs $reference"
 
 # A C compiler for x86-64: the machine's own, or Debian's cross compiler, whose programs are linked whole.
 find_compiler() {

@@ -1,4 +1,5 @@
-/* Document 01's checked examples at level 2, those with coordinates as M-105 has them, and the vectors that pin its choices, run through a table of calls. */
+/* Document 01's checked examples at level 2, those with coordinates as M-105 has them, and the vectors that pin its choices, run through a table
+   of calls. */
 #include "examples.h"
 
 #include <stdio.h>
@@ -7,7 +8,7 @@
 
 #include "turning.h"
 
-enum { POINTS = 125, MOST_QUADS = 125 * 3 };
+enum { MOST_QUADS = 125 * 3 };
 
 /* Marks and points are written by their coordinates: x(1,2,2) is x122, point (2,2,2) is 222. */
 struct example {
@@ -16,7 +17,7 @@ struct example {
     const char *patched, *inside;
 };
 
-static const char six[] = "x122 x222 y212 y222 z221 z222";
+const char six[] = "x122 x222 y212 y222 z221 z222";
 static const char ten[] = "x122 x322 y212 y222 y312 y322 z221 z222 z321 z322";
 
 static const struct example examples[] = {
@@ -44,7 +45,10 @@ static const uint16_t listing[24] = {21, 25, 26, 22, 21, 22, 38, 37, 21, 37, 41,
 static int failures;
 static const char *who;
 
-static void hold(int holds, const char *example, const char *claim)
+/* The table that is lent where an example is not about totals. */
+static uint16_t unasked[BLOCKS];
+
+void hold(int holds, const char *example, const char *claim)
 {
     if (!holds && failures++ < 10)
         printf("%s: %s does not hold: %s\n", who, example, claim);
@@ -61,7 +65,7 @@ static void add_names(const char *names, uint8_t *bytes)
     }
 }
 
-static void read_names(const char *names, uint8_t *bytes)
+void read_names(const char *names, uint8_t *bytes)
 {
     memset(bytes, 0, POINTS);
     add_names(names, bytes);
@@ -77,7 +81,7 @@ static void run_example(const struct calls *calls, const struct example *e)
     for (int p = 0; p < POINTS; p++)
         marks += (uint32_t)((patched[p] & 1) + (patched[p] >> 1 & 1) + (patched[p] >> 2));
     memset(work, 255, POINTS);
-    hold(calls->patch(2, grid, POINTS, work, POINTS, &rims, &flips, &ones, &threes) == 0, e->name, "patch is done");
+    hold(calls->patch(2, grid, POINTS, work, POINTS, unasked, BLOCKS, &rims, &flips, &ones, &threes) == 0, e->name, "patch is done");
     hold(rims == e->rims && flips == e->flips, e->name, "rims and flips");
     hold(ones == e->ones && threes == e->threes, e->name, "faces with one mark and with three");
     hold(!memcmp(grid, patched, POINTS) && !memcmp(work, none, POINTS), e->name, "the patched grid, work bytes 0");
@@ -115,11 +119,11 @@ static void run_triangle(const struct calls *calls, const char *name, const int3
     uint8_t grid[POINTS], expected[POINTS];
     uint32_t place, axis;
     read_names(marks, expected);
-    hold(calls->open(2, grid, POINTS) == 0, name, "open is done");
-    hold(calls->mark(2, grid, POINTS, triangle, 9, &place, &axis) == answer, name, "the answer");
+    hold(calls->open(2, grid, POINTS, unasked, BLOCKS) == 0, name, "open is done");
+    hold(calls->mark(2, grid, POINTS, triangle, 9, unasked, BLOCKS, &place, &axis) == answer, name, "the answer");
     hold(!memcmp(grid, expected, POINTS), name, "the marks");
-    hold(calls->open(2, grid, POINTS) == 0, name, "open is done");
-    hold(calls->mark_tree(2, grid, POINTS, triangle, 9, &place, &axis) == answer, name, "the answer by the descent");
+    hold(calls->open(2, grid, POINTS, unasked, BLOCKS) == 0, name, "open is done");
+    hold(calls->mark_tree(2, grid, POINTS, triangle, 9, unasked, BLOCKS, &place, &axis) == answer, name, "the answer by the descent");
     hold(!memcmp(grid, expected, POINTS), name, "the marks by the descent");
 }
 
@@ -144,9 +148,9 @@ static void run_triangles(const struct calls *calls)
             uint8_t grid[POINTS] = {0};
             uint32_t place, axis, bad = ends[e].answer > 0;
             point[c] = ends[e].at;
-            hold(calls->mark(2, grid, POINTS, point, 9, &place, &axis) == ends[e].answer, "example 10", "the ends of the range");
+            hold(calls->mark(2, grid, POINTS, point, 9, unasked, BLOCKS, &place, &axis) == ends[e].answer, "example 10", "the ends of the range");
             hold(place == bad * c && axis == bad * (c % 3), "example 10", "place and axis of the coordinate that is out");
-            hold(calls->mark_tree(2, grid, POINTS, point, 9, &place, &axis) == ends[e].answer, "example 10", "the same by the descent");
+            hold(calls->mark_tree(2, grid, POINTS, point, 9, unasked, BLOCKS, &place, &axis) == ends[e].answer, "example 10", "the same by the descent");
             point[c] = 262144;
         }
 }
@@ -157,15 +161,15 @@ static void run_refusals(const struct calls *calls)
     uint16_t list[23], kept[23];
     uint32_t place, axis, quads;
     int32_t triangle[9] = {0, 262144, 262144, 262144, 262144, 262144, 262144, 262144, 262144};
-    hold(calls->open(1, grid, 0) == 1, "example 11", "level 1 with an empty buffer");
+    hold(calls->open(1, grid, 0, NULL, 0) == 1, "example 11", "level 1 with an empty buffer");
     memset(grid, 0, POINTS);
     grid[62] = 16;
-    hold(calls->mark(2, grid, POINTS, triangle, 9, &place, &axis) == 4, "example 11", "byte 16 with a coordinate of 0");
+    hold(calls->mark(2, grid, POINTS, triangle, 9, unasked, BLOCKS, &place, &axis) == 4, "example 11", "byte 16 with a coordinate of 0");
     triangle[0] = 262144;
-    hold(calls->mark(2, grid, POINTS, triangle, 9, &place, &axis) == 5, "example 11", "byte 16 with the coordinate mended");
+    hold(calls->mark(2, grid, POINTS, triangle, 9, unasked, BLOCKS, &place, &axis) == 5, "example 11", "byte 16 with the coordinate mended");
     triangle[4] = 393216;
     triangle[7] = 131071;
-    hold(calls->mark(2, grid, POINTS, triangle, 9, &place, &axis) == 24 && place == 4 && axis == 1, "several out of range",
+    hold(calls->mark(2, grid, POINTS, triangle, 9, unasked, BLOCKS, &place, &axis) == 24 && place == 4 && axis == 1, "several out of range",
          "the first decides");
     read_names(examples[2].marks, grid);
     memcpy(left, grid, POINTS);
@@ -188,13 +192,15 @@ static void run_clearing(const struct calls *calls, const char *name)
     read_names(six, came);
     add_names("222 000 444", came);
     memcpy(grid, came, POINTS);
-    hold(calls->mark(2, grid, POINTS, nothing, 9, &one, &two) == 0 && !memcmp(grid, expected, POINTS), name, "mark clears signs where it adds nothing");
+    hold(calls->mark(2, grid, POINTS, nothing, 9, unasked, BLOCKS, &one, &two) == 0 && !memcmp(grid, expected, POINTS), name,
+         "mark clears signs where it adds nothing");
     memcpy(grid, came, POINTS);
-    hold(calls->mark(2, grid, POINTS, nothing, 8, &one, &two) == 3 && !memcmp(grid, came, POINTS), name, "a refused mark clears none");
-    hold(calls->patch(2, grid, POINTS, work, POINTS, &one, &two, &three, &four) == 0 && one + two + three + four == 0 && !memcmp(grid, expected, POINTS),
+    hold(calls->mark(2, grid, POINTS, nothing, 8, unasked, BLOCKS, &one, &two) == 3 && !memcmp(grid, came, POINTS), name, "a refused mark clears none");
+    hold(calls->patch(2, grid, POINTS, work, POINTS, unasked, BLOCKS, &one, &two, &three, &four) == 0 && one + two + three + four == 0 &&
+             !memcmp(grid, expected, POINTS),
          name, "patch clears signs, which are no marks");
     memset(grid, 15, POINTS);
-    hold(calls->open(2, grid, POINTS) == 0 && !memchr(grid, 15, POINTS), name, "open clears signs");
+    hold(calls->open(2, grid, POINTS, unasked, BLOCKS) == 0 && !memchr(grid, 15, POINTS), name, "open clears signs");
     memcpy(grid, came, POINTS);
     add_names("222", expected);
     hold(calls->sign(2, grid, POINTS) == 0 && !memcmp(grid, expected, POINTS), name, "sign writes all signs anew");
@@ -246,6 +252,7 @@ int failed_examples(const struct calls *calls)
     run_refusals(calls);
     run_clearing(calls, "M-107");
     run_turning("M-113");
+    run_totals(calls);
     run_job(calls, "M-112");
     run_large_jobs(calls, "M-112");
     return failures;

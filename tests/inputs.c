@@ -17,11 +17,12 @@ const struct kind kinds[BUFFERS] = {
     [JOB] = {"job", 1, JOB_ROOM, 0},
     [JOB_TRIANGLES] = {"triangles", 1, BODY_ROOM, 0},
     [JOB_QUADS] = {"quads", 1, BODY_ROOM, 0},
+    [TOTALS] = {"totals", sizeof(uint16_t), TOTALS_ROOM, 0},
 };
 
-const struct call *const all_calls[] = {&call_open,    &call_mark,     &call_mark_tree, &call_patch,    &call_sign,
-                                        &call_surface, &call_read_stl, &call_write_stl, &call_read_job, &call_write_job,
-                                        &call_accept,   &call_masks};
+const struct call *const all_calls[] = {&call_open,    &call_mark,     &call_mark_tree, &call_patch,       &call_sign,
+                                        &call_surface, &call_read_stl, &call_write_stl, &call_read_job,    &call_write_job,
+                                        &call_accept,  &call_masks,    &call_any_mark,  &call_totals_true, &call_count_totals};
 const size_t call_count = sizeof all_calls / sizeof *all_calls;
 
 size_t place_of(const struct call *call)
@@ -97,8 +98,9 @@ void make_signs(struct random *r, const struct measures *m, uint32_t level, uint
 void patch_grid(struct input *in)
 {
     static uint8_t work[POINT_ROOM];
+    static uint16_t totals[MOST_BLOCKS];
     uint32_t level = known_level(in->level) ? in->level : 2, unused[4];
-    reference_patch(level, in->buffer[GRID], POINT_ROOM, work, POINT_ROOM, &unused[0], &unused[1], &unused[2], &unused[3]);
+    reference_patch(level, in->buffer[GRID], POINT_ROOM, work, POINT_ROOM, totals, MOST_BLOCKS, &unused[0], &unused[1], &unused[2], &unused[3]);
 }
 
 static const struct call *choose(struct random *r)

@@ -11,11 +11,11 @@
 #include "random.h"
 #include "reference_grid.h"
 
-enum buffer { GRID, WORK, TRIANGLE, LIST, STL, NUMBERS, WRITTEN, JOB, JOB_TRIANGLES, JOB_QUADS, BUFFERS };
+enum buffer { GRID, WORK, TRIANGLE, LIST, STL, NUMBERS, WRITTEN, JOB, JOB_TRIANGLES, JOB_QUADS, TOTALS, BUFFERS };
 enum { POINT_ROOM = 40000, TRIANGLE_ROOM = 24, LIST_ROOM = 4 * 3 * 31 * 31 * 32 + 1000, MOST_COUNTS = 7 };
 enum { MOST_STL = 40, STL_ROOM = 84 + 50 * (MOST_STL + 2), NUMBERS_ROOM = 9 * MOST_STL + 40, WRITTEN_ROOM = 84 + 100 * MOST_QUADS + 1000 };
 enum { MOST_JOB = 40, BODY_ROOM = 36 * (MOST_JOB + 1), JOB_ROOM = 29 + MOST_POINTS + 2 * BODY_ROOM };
-enum { MOST_CALLS = 32, MOST_ANSWERS = 32 };
+enum { TOTALS_ROOM = MOST_BLOCKS + 100, MOST_CALLS = 32, MOST_ANSWERS = 32 };
 
 /* What a lent buffer holds: its name, bytes an element, elements that there is room for, and whether it has one byte a point. */
 struct kind {
@@ -32,6 +32,7 @@ struct input {
     uint32_t level;
     int32_t e; /* the power of two of a call on a file */
     uint32_t bodies; /* the kinds of bodies that a job is to have */
+    uint32_t low[3], high[3]; /* a box of points */
     int null; /* an empty buffer is lent as a null pointer */
     size_t len[BUFFERS];
     uint8_t *buffer[BUFFERS];
@@ -46,6 +47,7 @@ static const uint32_t untouched = 0xdeadbeef;
 struct call {
     const char *name;
     uint32_t share, buffers, answers;
+    int box; /* whether it takes a box of points */
     const char *counts[MOST_COUNTS];
     void (*make)(struct random *r, const struct measures *m, struct input *in);
     uint32_t (*run)(const struct calls *calls, const struct input *lent, uint64_t counts[MOST_COUNTS]);
@@ -55,7 +57,7 @@ struct call {
 };
 
 extern const struct call call_open, call_mark, call_mark_tree, call_patch, call_sign, call_surface, call_read_stl, call_write_stl, call_read_job,
-    call_write_job, call_accept, call_masks;
+    call_write_job, call_accept, call_masks, call_any_mark, call_totals_true, call_count_totals;
 extern const struct call *const all_calls[];
 extern const size_t call_count;
 
@@ -98,6 +100,18 @@ void turn_one(struct random *r, const struct measures *m, uint8_t *grid);
 
 /* Makes the buffer no grid, mostly by one byte. */
 void spoil_grid(struct random *r, const struct measures *m, uint8_t *grid);
+
+/* Makes a table of totals of any length and contents: mostly long enough, at times too short. */
+void make_totals(struct random *r, const struct measures *m, struct input *in);
+
+/* Makes the table's totals true for the grid, as far as it is long enough. */
+void make_true(const struct measures *m, struct input *in);
+
+/* Makes some totals of the table untrue: one, a few, all 0, or any. */
+void make_untrue(struct random *r, const struct measures *m, struct input *in);
+
+/* Makes bytes for the calls that judge no grid: with few marks or many, with values above 7 that are none, at the grid's end. */
+void make_bytes(struct random *r, const struct measures *m, struct input *in);
 
 /* Patches the input's grid by the reference, whatever its length. */
 void patch_grid(struct input *in);

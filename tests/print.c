@@ -65,6 +65,8 @@ static void print_elements(const struct input *in, int b)
 void print_input(const struct input *in)
 {
     printf("  %s, level %u, e %d, bodies %u\n", in->call->name, in->level, in->e, in->bodies);
+    if (in->call->box)
+        printf("  box from (%u,%u,%u) to (%u,%u,%u)\n", in->low[X], in->low[Y], in->low[Z], in->high[X], in->high[Y], in->high[Z]);
     for (int b = 0; b < BUFFERS; b++)
         if (takes(in->call, b) && in->len[b] == 0 && in->null)
             printf("  %s, null\n", kinds[b].name);

@@ -1,18 +1,21 @@
-/* Open, sign and surface, from document 01, "Five calls" and "Quads", and document 02, M-107: one buffer for marks and signs. */
+/* Open, sign and surface, from document 01, "Five calls" and "Quads", and document 02, M-107: one buffer for marks and signs, and M-108. */
 #include "reference.h"
 
 #include <string.h>
 
 #include "reference_grid.h"
 
-uint32_t reference_open(uint32_t level, uint8_t *grid, size_t grid_len)
+uint32_t reference_open(uint32_t level, uint8_t *grid, size_t grid_len, uint16_t *totals, size_t totals_len)
 {
     if (!known_level(level))
         return 1;
     struct measures m = measures_of(level);
     if (grid_len < (size_t)m.points)
         return 2;
+    if (totals_len < (size_t)blocks_of(&m))
+        return 16;
     memset(grid, 0, (size_t)m.points);
+    reference_recount(&m, grid, totals);
     return 0;
 }
 

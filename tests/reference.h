@@ -6,11 +6,11 @@
 #include <stdint.h>
 #include <stdio.h>
 
-uint32_t reference_open(uint32_t level, uint8_t *grid, size_t grid_len);
-uint32_t reference_mark(uint32_t level, uint8_t *grid, size_t grid_len, const int32_t *triangle, size_t triangle_len, uint32_t *place,
-                        uint32_t *axis);
-uint32_t reference_patch(uint32_t level, uint8_t *grid, size_t grid_len, uint8_t *work, size_t work_len, uint32_t *rims,
-                         uint32_t *flips, uint32_t *ones, uint32_t *threes);
+uint32_t reference_open(uint32_t level, uint8_t *grid, size_t grid_len, uint16_t *totals, size_t totals_len);
+uint32_t reference_mark(uint32_t level, uint8_t *grid, size_t grid_len, const int32_t *triangle, size_t triangle_len, uint16_t *totals,
+                        size_t totals_len, uint32_t *place, uint32_t *axis);
+uint32_t reference_patch(uint32_t level, uint8_t *grid, size_t grid_len, uint8_t *work, size_t work_len, uint16_t *totals,
+                         size_t totals_len, uint32_t *rims, uint32_t *flips, uint32_t *ones, uint32_t *threes);
 uint32_t reference_sign(uint32_t level, uint8_t *grid, size_t grid_len);
 uint32_t reference_surface(uint32_t level, const uint8_t *grid, size_t grid_len, uint16_t *list, size_t list_len, uint32_t *quads);
 
@@ -34,13 +34,19 @@ uint32_t reference_accept(uint32_t level, const uint16_t *list, size_t list_len,
 /* Document 02, M-110. */
 uint32_t reference_masks(uint32_t level, const uint8_t *grid, size_t grid_len, uint8_t *out, size_t out_len, size_t *bytes);
 
+/* Document 02, M-108. */
+uint32_t reference_any_mark(uint32_t level, const uint8_t *grid, size_t grid_len, const uint16_t *totals, size_t totals_len, uint32_t low_i,
+                            uint32_t low_j, uint32_t low_k, uint32_t high_i, uint32_t high_j, uint32_t high_k, uint32_t *any);
+uint32_t reference_totals_true(uint32_t level, const uint8_t *grid, size_t grid_len, const uint16_t *totals, size_t totals_len, uint32_t *yes);
+uint32_t reference_count_totals(uint32_t level, const uint8_t *grid, size_t grid_len, uint16_t *totals, size_t totals_len);
+
 /* Mark once more: it looks only at the edges that reach into the triangle's bounding box. */
-uint32_t reference_mark_near(uint32_t level, uint8_t *grid, size_t grid_len, const int32_t *triangle, size_t triangle_len, uint32_t *place,
-                             uint32_t *axis);
+uint32_t reference_mark_near(uint32_t level, uint8_t *grid, size_t grid_len, const int32_t *triangle, size_t triangle_len, uint16_t *totals,
+                             size_t totals_len, uint32_t *place, uint32_t *axis);
 
 /* Document 02, M-103: mark by the descent. */
-uint32_t reference_mark_tree(uint32_t level, uint8_t *grid, size_t grid_len, const int32_t *triangle, size_t triangle_len, uint32_t *place,
-                             uint32_t *axis);
+uint32_t reference_mark_tree(uint32_t level, uint8_t *grid, size_t grid_len, const int32_t *triangle, size_t triangle_len, uint16_t *totals,
+                             size_t totals_len, uint32_t *place, uint32_t *axis);
 
 /* The number of cells in the boxes of all rims of a grid, for the benchmark. */
 uint64_t reference_rim_cells(uint32_t level, const uint8_t *grid);

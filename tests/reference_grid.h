@@ -1,5 +1,5 @@
-/* The lattice and the grid of document 01, with M-105's coordinates and the signs of M-107, for the reference's own files: measures of a level, marks,
-   signs, faces. */
+/* The lattice and the grid of document 01, with M-105's coordinates, the signs of M-107 and the blocks of M-108, for the reference's own files:
+   measures of a level, marks, signs, faces, blocks. */
 #ifndef REFERENCE_GRID_H
 #define REFERENCE_GRID_H
 
@@ -8,6 +8,7 @@
 
 enum { X, Y, Z };
 enum { MOST_CELLS_A_SIDE = 32, MOST_CELLS = 32 * 32 * 32, MOST_POINTS = 33 * 33 * 33, MOST_QUADS = 3 * 31 * 31 * 32 };
+enum { BLOCK = 4, MOST_BLOCKS = 9 * 9 * 9 };
 
 /* n cells a side, cell side S, P points, and by how much the number of a point rises with one step along each axis. */
 struct measures {
@@ -23,6 +24,17 @@ static inline struct measures measures_of(uint32_t level)
 {
     int n = 1 << level;
     return (struct measures){n, 1 << (20 - level), (n + 1) * (n + 1) * (n + 1), {1, n + 1, (n + 1) * (n + 1)}};
+}
+
+/* M-108: blocks of 4 x 4 x 4 points, of which the last on each axis is cut off where the grid ends. */
+static inline int blocks_a_side(const struct measures *m)
+{
+    return m->n / BLOCK + 1;
+}
+
+static inline int blocks_of(const struct measures *m)
+{
+    return blocks_a_side(m) * blocks_a_side(m) * blocks_a_side(m);
 }
 
 /* M-105: a model coordinate v runs over 0 to 524,287 and is tested at 2v+1. */
@@ -114,6 +126,9 @@ static inline void clear_signs(const struct measures *m, uint8_t *grid)
     for (int p = 0; p < m->points; p++)
         grid[p] &= MARKS;
 }
+
+/* M-108: every total of the level becomes the number of marks in its block. */
+void reference_recount(const struct measures *m, const uint8_t *grid, uint16_t *totals);
 
 /* What surface is refused by before its list is looked at, 1, 2, 5 or 7; 0 for a grid whose signs fit its marks. */
 uint32_t reference_judge_signs(uint32_t level, const uint8_t *grid, size_t grid_len);

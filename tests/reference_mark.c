@@ -1,4 +1,4 @@
-/* Mark, from document 01, "Which edges a triangle meets", and document 02, M-101 and M-105. */
+/* Mark, from document 01, "Which edges a triangle meets", and document 02, M-101, M-105 and M-108. */
 #include "reference.h"
 #include "reference_grid.h"
 
@@ -192,8 +192,9 @@ void reference_add_marks(const struct measures *m, uint8_t *grid, const int32_t 
         }
 }
 
-static uint32_t mark(uint32_t level, uint8_t *grid, size_t grid_len, const int32_t *triangle, size_t triangle_len,
-                     uint32_t *place, uint32_t *axis, void (*add_marks)(const struct measures *, uint8_t *, const int32_t *))
+static uint32_t mark(uint32_t level, uint8_t *grid, size_t grid_len, const int32_t *triangle, size_t triangle_len, uint16_t *totals,
+                     size_t totals_len, uint32_t *place, uint32_t *axis,
+                     void (*add_marks)(const struct measures *, uint8_t *, const int32_t *))
 {
     *place = *axis = 0;
     if (!known_level(level))
@@ -213,25 +214,28 @@ static uint32_t mark(uint32_t level, uint8_t *grid, size_t grid_len, const int32
     }
     if (!is_grid(&m, grid))
         return 5;
+    if (totals_len < (size_t)blocks_of(&m))
+        return 16;
     clear_signs(&m, grid);
     add_marks(&m, grid, triangle);
+    reference_recount(&m, grid, totals);
     return 0;
 }
 
-uint32_t reference_mark(uint32_t level, uint8_t *grid, size_t grid_len, const int32_t *triangle, size_t triangle_len, uint32_t *place,
-                        uint32_t *axis)
+uint32_t reference_mark(uint32_t level, uint8_t *grid, size_t grid_len, const int32_t *triangle, size_t triangle_len, uint16_t *totals,
+                        size_t totals_len, uint32_t *place, uint32_t *axis)
 {
-    return mark(level, grid, grid_len, triangle, triangle_len, place, axis, add_marks_everywhere);
+    return mark(level, grid, grid_len, triangle, triangle_len, totals, totals_len, place, axis, add_marks_everywhere);
 }
 
-uint32_t reference_mark_near(uint32_t level, uint8_t *grid, size_t grid_len, const int32_t *triangle, size_t triangle_len, uint32_t *place,
-                             uint32_t *axis)
+uint32_t reference_mark_near(uint32_t level, uint8_t *grid, size_t grid_len, const int32_t *triangle, size_t triangle_len, uint16_t *totals,
+                             size_t totals_len, uint32_t *place, uint32_t *axis)
 {
-    return mark(level, grid, grid_len, triangle, triangle_len, place, axis, reference_add_marks);
+    return mark(level, grid, grid_len, triangle, triangle_len, totals, totals_len, place, axis, reference_add_marks);
 }
 
-uint32_t reference_mark_tree(uint32_t level, uint8_t *grid, size_t grid_len, const int32_t *triangle, size_t triangle_len, uint32_t *place,
-                             uint32_t *axis)
+uint32_t reference_mark_tree(uint32_t level, uint8_t *grid, size_t grid_len, const int32_t *triangle, size_t triangle_len, uint16_t *totals,
+                             size_t totals_len, uint32_t *place, uint32_t *axis)
 {
-    return mark(level, grid, grid_len, triangle, triangle_len, place, axis, reference_add_marks_tree);
+    return mark(level, grid, grid_len, triangle, triangle_len, totals, totals_len, place, axis, reference_add_marks_tree);
 }

@@ -1,4 +1,4 @@
-/* Patch, from document 01, "Rims and patches": rims by a queue of cells, sets as arrays of one byte a point. */
+/* Patch, from document 01, "Rims and patches", and document 02, M-104 and M-108: rims by a queue of cells, sets as arrays of one byte a point. */
 #include <string.h>
 
 #include "reference.h"
@@ -184,8 +184,8 @@ static uint32_t apply_flips(const struct measures *m, uint8_t *grid)
     return flips;
 }
 
-uint32_t reference_patch(uint32_t level, uint8_t *grid, size_t grid_len, uint8_t *work, size_t work_len, uint32_t *rims,
-                         uint32_t *flips, uint32_t *ones, uint32_t *threes)
+uint32_t reference_patch(uint32_t level, uint8_t *grid, size_t grid_len, uint8_t *work, size_t work_len, uint16_t *totals,
+                         size_t totals_len, uint32_t *rims, uint32_t *flips, uint32_t *ones, uint32_t *threes)
 {
     *rims = *flips = *ones = *threes = 0;
     if (!known_level(level))
@@ -195,12 +195,15 @@ uint32_t reference_patch(uint32_t level, uint8_t *grid, size_t grid_len, uint8_t
         return 2;
     if (!is_grid(&m, grid))
         return 5;
+    if (totals_len < (size_t)blocks_of(&m))
+        return 16;
     clear_signs(&m, grid);
     memset(flipped, 0, (size_t)m.points);
     *rims = each_rim(&m, grid, halve);
     *ones = faces_with[1];
     *threes = faces_with[3];
     *flips = apply_flips(&m, grid);
+    reference_recount(&m, grid, totals);
     memset(work, 0, (size_t)m.points);
     return 0;
 }

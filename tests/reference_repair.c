@@ -32,16 +32,16 @@ static uint32_t read_triangles(const struct measures *m, const uint8_t *at, size
 void reference_repair(const uint8_t *stream, size_t stream_len, FILE *out)
 {
     static uint8_t grid[MOST_POINTS], work[MOST_POINTS];
-    static uint16_t list[LIST];
+    static uint16_t list[LIST], totals[MOST_BLOCKS];
     uint32_t triangles = 0, rims = 0, flips = 0, ones, threes, inside = 0, quads = 0;
-    uint32_t level = stream_len > 0 ? stream[0] : 0, refused = reference_open(level, grid, sizeof grid);
+    uint32_t level = stream_len > 0 ? stream[0] : 0, refused = reference_open(level, grid, sizeof grid, totals, MOST_BLOCKS);
     struct measures m = {0};
     if (!refused) {
         m = measures_of(level);
         refused = read_triangles(&m, stream + 1, stream_len - 1, grid, &triangles);
     }
     if (!refused)
-        refused = reference_patch(level, grid, sizeof grid, work, sizeof work, &rims, &flips, &ones, &threes);
+        refused = reference_patch(level, grid, sizeof grid, work, sizeof work, totals, MOST_BLOCKS, &rims, &flips, &ones, &threes);
     if (!refused)
         refused = reference_sign(level, grid, sizeof grid);
     if (!refused)

@@ -11,11 +11,15 @@
 #define reference_write_job omphirun_write_job
 #define reference_accept omphirun_accept
 #define reference_masks omphirun_masks
+#define reference_any_mark omphirun_any_mark
+#define reference_totals_true omphirun_totals_true
+#define reference_count_totals omphirun_count_totals
 #define reference_mark_near omphirun_mark
 #define reference_mark_tree omphirun_mark_tree
 #define reference_add_marks second_add_marks
 #define reference_add_marks_tree second_add_marks_tree
 #define reference_judge_signs second_judge_signs
+#define reference_recount second_recount
 #define reference_rim_cells second_rim_cells
 
 #include "reference.c"
@@ -27,3 +31,4 @@
 #include "reference_tree.c"
 #include "reference_job.c"
 #include "reference_masks.c"
+#include "reference_totals.c"

@@ -1,4 +1,4 @@
-/* Shrinks an input on which the two sides differ: a lower level, shorter buffers, fewer marks and bytes, rounder coordinates. */
+/* Shrinks an input on which the two sides differ: a lower level, shorter buffers, fewer marks and bytes, rounder coordinates, a smaller box. */
 #include "shrink.h"
 
 #include <time.h>
@@ -179,6 +179,23 @@ static int round_triangle(struct input *best)
     return taken > 0;
 }
 
+/* Moves an end of the box to the other, or half of the way there. */
+static int narrow_box(struct input *best)
+{
+    int taken = 0;
+    for (int d = X; best->call->box && d <= Z; d++)
+        for (int half = 0; half <= 1; half++) {
+            uint32_t low = best->low[d], high = best->high[d], middle = half ? low / 2 + high / 2 : high;
+            copy(&candidate, best);
+            candidate.low[d] = middle;
+            taken += low < middle && take(best);
+            copy(&candidate, best);
+            candidate.high[d] = middle = half ? best->low[d] / 2 + high / 2 : best->low[d];
+            taken += middle < high && take(best);
+        }
+    return taken > 0;
+}
+
 void shrink(struct input *best, uint32_t reference_answer)
 {
     stop_at = time(NULL) + SECONDS;
@@ -192,5 +209,6 @@ void shrink(struct input *best, uint32_t reference_answer)
         for (int b = 0; b < BUFFERS; b++)
             smaller |= b != TRIANGLE && clear_bytes(best, b);
         smaller |= round_triangle(best);
+        smaller |= narrow_box(best);
     }
 }

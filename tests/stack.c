@@ -60,6 +60,7 @@ static void measure_all(void)
         in.call = &call_patch;
         in.level = 5;
         in.len[GRID] = in.len[WORK] = POINT_ROOM;
+        in.len[TOTALS] = MOST_BLOCKS;
         hostile_grids[h].make(&m, in.buffer[GRID]);
         measure(&in);
     }

@@ -15,11 +15,13 @@ use Rattle.refusals.proofs.Levels.{read-known}
 use Rattle.marking.specs.Ranges.{allInRange, triangleOf}
 use Rattle.marking.specs.OutOfRange.{firstOut, badOne, outNumber}
 use Rattle.meeting.specs.Met.{marked}
-use Rattle.marking.specs.Mark.{done, refusedAt, refused, markRows, markCall}
+use Rattle.marking.specs.Mark.{refusedAt, refused, doneWith, markRows, markCall}
 use Rattle.marking.proofs.Ranges.{triangle-within}
 use Rattle.marking.proofs.OutOfRange.{out-told}
 use Rattle.meeting.proofs.Marks.{grid-after, marked-length, unsigned-after}
 use Rattle.feeding.specs.Feed.{Ready}
+use Rattle.feeding.specs.Lent.{lentTotals}
+use Rattle.feeding.proofs.Lent.{lent-long}
 
 -- a level's number is that of a level
 named : (l : Level) → levelOf (numberOf l) ≡ Known l
@@ -40,19 +42,20 @@ module _ (l : Level) (g : List ℕ) (r : Ready l g) (c : List ℤ) where
   level-is = known l .1
 
   -- 3: not nine numbers
-  pub mark-short : (length c ≡ 9 → ⊥) → markCall (numberOf l) g c ≡ refused l c g 3
+  pub mark-short : (length c ≡ 9 → ⊥) → markCall (numberOf l) g c lentTotals ≡ refused l c g lentTotals 3
   unfolding markRows markCall
   mark-short h = rw (level-is, good, le-ltb (length g) (pointsOf l) (r .long), ne-eqb (length c) 9 h)
 
   -- 4 or 24: a coordinate out of the level's range
-  pub mark-out : length c ≡ 9 → allInRange l c ≡ false → markCall (numberOf l) g c ≡ refusedAt (outNumber l (badOne l c)) (firstOut l c) g
+  pub mark-out : length c ≡ 9 → allInRange l c ≡ false → markCall (numberOf l) g c lentTotals ≡ refusedAt (outNumber l (badOne l c))
+      (firstOut l c) g lentTotals
   unfolding markRows markCall
-  mark-out h e = rw (level-is, good, le-ltb (length g) (pointsOf l) (r .long), eq-eqb (length c) 9 h) (sym (out-told l c g _ e))
+  mark-out h e = rw (level-is, good, le-ltb (length g) (pointsOf l) (r .long), eq-eqb (length c) 9 h) (sym (out-told l c g lentTotals _ e))
 
   -- else it is done
-  pub mark-in : length c ≡ 9 → allInRange l c ≡ true → markCall (numberOf l) g c ≡ done (marked l (triangleOf c) g)
+  pub mark-in : length c ≡ 9 → allInRange l c ≡ true → markCall (numberOf l) g c lentTotals ≡ doneWith l (triangleOf c) g lentTotals
   unfolding markRows markCall
-  mark-in h e = rw (level-is, good, le-ltb (length g) (pointsOf l) (r .long), eq-eqb (length c) 9 h, e, r .grid)
+  mark-in h e = rw (level-is, good, le-ltb (length g) (pointsOf l) (r .long), eq-eqb (length c) 9 h, e, r .grid, lent-long l)
 
 -- marking leaves a grid of the level, without signs
 pub ready-after : (l : Level) (g : List ℕ) (c : List ℤ) → Ready l g → length c ≡ 9 → allInRange l c ≡ true → Ready l (marked l (triangleOf c) g)

@@ -5,6 +5,7 @@ use Prim.Native.Nat.{ℕ, zero, suc, _+_, _-_, _%_, _≤_, _<_}
 use native.Mathlib.Numerals.{add-one}
 use native.Mathlib.Omega.{arith}
 use lib.ListN.{length, drop, length-append, length-drop}
+use lib.IntN.{ℤ}
 use lib.Seq.{drop-append-le, drop-drop}
 use borrow.Author.Tests.{eq-eqb, ne-eqb}
 use Rattle.lattice.specs.declared.level.Level.{Level}
@@ -14,6 +15,7 @@ use Rattle.text.specs.Words.{numbers}
 use Rattle.text.proofs.Numbers.{numbers-ahead, numbers-short}
 use Rattle.feeding.specs.Taken.{marked, refusedBy, taken, mostTriangles}
 use Rattle.feeding.specs.Feed.{Ready, Whole}
+use Rattle.feeding.specs.Lent.{lentTotals}
 use Rattle.feeding.proofs.Marked.{mark-short}
 
 module _ (level t : ℕ) (g : List ℕ) where
@@ -32,7 +34,7 @@ module _ (level t : ℕ) (g : List ℕ) where
     unfolding taken
     taken-full = rw (ne-eqb (length s) 0 some)
 
-    module _ (k : ℕ) (o : Outcome) (e : o ≡ markCall level g (numbers s)) where
+    module _ (k : ℕ) (o : Outcome) (e : o ≡ markCall level g (numbers s) lentTotals) where
       -- a triangle that mark refuses
       pub taken-refused : (o .number ≡ 0 → ⊥) → taken level (suc k) s t g ≡ refusedBy (o .number)
       unfolding taken
@@ -87,9 +89,9 @@ module _ (l : Level) (t : ℕ) (g block rest : List ℕ) (at : ℕ) (h : at < le
             torn : length block % 36 ≡ 0 → ⊥
             torn e = omega arith
 
-    module _ (long : 36 ≤ length block - at) (o : Outcome) (e : o ≡ markCall (numberOf l) g (numbers left)) where
-      ahead : o ≡ markCall (numberOf l) g (numbers (left ++ rest))
-      ahead = e ∙ ap (markCall (numberOf l) g) (sym (numbers-ahead left rest (omega (arith, left-long))))
+    module _ (long : 36 ≤ length block - at) (o : Outcome) (e : o ≡ markCall (numberOf l) g (numbers left) lentTotals) where
+      ahead : o ≡ markCall (numberOf l) g (numbers (left ++ rest)) lentTotals
+      ahead = e ∙ ap (λ (x : List ℤ). markCall (numberOf l) g x lentTotals) (sym (numbers-ahead left rest (omega (arith, left-long))))
 
       -- what mark refuses the triangle by
       pub block-refused : (o .number ≡ 0 → ⊥) → taken (numberOf l) more (left ++ rest) t g ≡ refusedBy (o .number)

@@ -9,6 +9,7 @@ use Rattle.lattice.specs.declared.level.Level.{Level}
 use Rattle.lattice.specs.Levels.{numberOf, cellsOf, pointsOf}
 use Rattle.marking.specs.Mark.{markCall}
 use Rattle.text.specs.Words.{numbers}
+use Rattle.feeding.specs.Lent.{lentTotals}
 use Rattle.feeding.specs.declared.Fed.{Fed}
 use Rattle.feeding.specs.declared.Fed.the-variants.{Marked, Refused}
 use Rattle.feeding.specs.Taken.{Taken, refusedBy, taken, mostTriangles}
@@ -21,8 +22,8 @@ pub record Ready (l : Level) (g : List ℕ) : Type 0 where
 
 -- the number and the grid are those of mark, for the triangle of the bytes s
 pub record Marking (l : Level) (s : List ℕ) (number : ℕ) (g g′ : List ℕ) : Type 0 where
-  pub number-is : number ≡ markCall (numberOf l) g (numbers s) .number
-  pub grid-is : g′ ≡ markCall (numberOf l) g (numbers s) .grid
+  pub number-is : number ≡ markCall (numberOf l) g (numbers s) lentTotals .number
+  pub grid-is : g′ ≡ markCall (numberOf l) g (numbers s) lentTotals .grid
   pub ready : Ready l g′
 
 -- a block has whole triangles, unless it is the stream's last

@@ -6,6 +6,7 @@ use lib.Dec.{eqb}
 use lib.ListN.{length, drop}
 use Rattle.marking.specs.Mark.{markCall}
 use Rattle.text.specs.Words.{numbers}
+use Rattle.feeding.specs.Lent.{lentTotals}
 
 -- more than 100,000 triangles are refused
 abbrev pub mostTriangles : ℕ
@@ -20,6 +21,6 @@ pub data Taken : Type 0 where
 unfoldable pub taken : ℕ → ℕ → List ℕ → ℕ → List ℕ → Taken
 taken level zero s t g = cond (eqb (length s) 0) (marked t g) (refusedBy 9)
 taken level (suc more) s t g =
-    let o = markCall level g (numbers s) in
+    let o = markCall level g (numbers s) lentTotals in
     let rest = taken level more (drop 36 s) (suc t) (o .grid) in
     cond (eqb (length s) 0) (marked t g) (cond (eqb (o .number) 0) rest (refusedBy (o .number)))

@@ -61,6 +61,10 @@ module _ (n : ℕ) (g : List ℕ) where
   unfolding unsigned
   unsigned-none = bytes-unsigned n (marks n g) (drop (pointCount n) g)
 
+  -- ready to be marked
+  pub unsigned-ready : pointCount n ≤ length g → (pointCount n ≤ length (unsigned n g)) × (isGrid n (unsigned n g) ≡ true) × Unsigned n (unsigned n g)
+  unsigned-ready long = let l = unsigned-length long in (omega arith, unsigned-grid, unsigned-none)
+
   -- with its marks
   pub unsigned-marks : marks n (unsigned n g) ≡ marks n g
   unfolding unsigned
@@ -70,23 +74,6 @@ module _ (n : ℕ) (g : List ℕ) where
   pub unsigned-rest : drop (pointCount n) (unsigned n g) ≡ drop (pointCount n) g
   unfolding unsigned
   unsigned-rest = drop-at (bytes n (marks n g)) (drop (pointCount n) g) (pointCount n) (bytes-length n (marks n g))
-
--- ---- what `clear_signs` leaves
-module _ (n : ℕ) (g h : List ℕ) (e : h ≡ cond (isGrid n g) (unsigned n g) g) where
-  -- what is no grid is as it was
-  pub cleared-none : isGrid n g ≡ false → h ≡ g
-  cleared-none f = e ∙ ap (λ (b : Bool). cond b (unsigned n g) g) f
-
-  -- a grid has lost its signs
-  pub cleared-grid : isGrid n g ≡ true → h ≡ unsigned n g
-  cleared-grid f = e ∙ ap (λ (b : Bool). cond b (unsigned n g) g) f
-
-  -- and is ready to be marked
-  pub cleared-ready : pointCount n ≤ length g → isGrid n g ≡ true → (pointCount n ≤ length h) × (isGrid n h ≡ true) × Unsigned n h
-  cleared-ready long f =
-      let u = cleared-grid f in
-      let l = ap length u ∙ unsigned-length n g long in
-      (omega arith, ap (isGrid n) u ∙ unsigned-grid n g, subst (Unsigned n) (sym u) (unsigned-none n g))
 
 -- ---- the points inside, counted
 module _ (n : ℕ) (g : List ℕ) where

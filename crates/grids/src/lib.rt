@@ -11,7 +11,7 @@ use lattice::number_of;
 use rules::Axis;
 use rules::Point;
 ghost use mathlib.Core.Path.{_≡_};
-ghost use mathlib.Core.Bool.{true, not, _||_, cond};
+ghost use mathlib.Core.Bool.{true, not, _||_};
 ghost use Prim.Native.Nat.{_≤_};
 ghost use lib.ListN.{length};
 ghost use Rattle.rules.specs.Lists.{between};
@@ -20,6 +20,7 @@ ghost use Rattle.rules.specs.Grid.{has, byteFits, isGrid, marks};
 ghost use Rattle.rules.specs.Lattice.{OfGrid};
 ghost use Rattle.rules.specs.Rims.{evenFaces};
 ghost use Rattle.lattice.specs.Cells.{Cell};
+ghost use Rattle.grids.specs.declared.GridRead.the-variants.{Grid};
 ghost use Rattle.grids.specs.Scans.{nextPoint, innerAlong, deep, lowerEven, readOf, unsigned};
 
 // The point after a point, by rising number.
@@ -177,19 +178,15 @@ fn keep_marks(n: usize, grid: &mut [u8])
     }
 }
 
-// Takes the signs out of a grid, and answers whether the buffer is one; what is none is left as it is. A grid without signs is only looked at.
-pub fn clear_signs(n: usize, grid: &mut [u8]) -> bool
-    requires { ⌜ (n ≤ 32) × (pointCount n ≤ length (now grid)) ⌝ }
-    ensures { λ r. ⌜ (r ≡ isGrid n (now (grid .entry))) × (now (grid .exit) ≡ cond (isGrid n (now (grid .entry))) (unsigned n (now (grid .entry))) (now (grid .entry))) ⌝ }
+// Takes the signs out of a grid that was read, given how many points are inside. A grid without signs is left as it is.
+pub fn clear_signs(n: usize, grid: &mut [u8], inside: usize)
+    requires { ⌜ (n ≤ 32) × (pointCount n ≤ length (now grid)) × (readOf n (now grid) ≡ Grid inside) ⌝ }
+    ensures { λ _. ⌜ now (grid .exit) ≡ unsigned n (now (grid .entry)) ⌝ }
 {
-    let GridRead::Grid { inside } = read_grid(n, grid) else {
-        return false;
-    };
     if inside == 0 {
-        return true;
+        return;
     }
     keep_marks(n, grid);
-    true
 }
 
 // Whether none of a cell's three lower faces is odd.

@@ -14,13 +14,12 @@ use Rattle.rules.specs.Grid.{isGrid}
 use Rattle.lattice.specs.declared.level.Level.{Level}
 use Rattle.lattice.specs.Levels.{numberOf, cellsOf, pointsOf}
 use Rattle.refusals.specs.Rows.{_when_, answered}
-use Rattle.refusals.specs.Columns.{badLevel, levelAt, someShort}
+use Rattle.refusals.specs.Columns.{badLevel, levelAt, someShort, shortTable}
 use Rattle.refusals.proofs.Answered.{answered-both}
 use Rattle.refusals.proofs.Levels.{good-number}
 use Rattle.marking.specs.Ranges.{inRange, allInRange, triangleOf}
 use Rattle.marking.specs.OutOfRange.{below, above, firstOut, badOne, outNumber}
-use Rattle.meeting.specs.Met.{marked}
-use Rattle.marking.specs.Mark.{Outcome, done, refusedAt, refused, markRows, markCall}
+use Rattle.marking.specs.Mark.{Outcome, refusedAt, refused, doneWith, markRows, markCall}
 use Rattle.marking.proofs.OutOfRange.{bad-there, good-before, not-below, Sides, out-sides}
 
 -- refused by 4 or 24
@@ -43,32 +42,36 @@ other k f h (inl e) = eqb-no f e
 other k f h (inr e) = eqb-no h e
 
 -- mark's rows, over any tests
-module _ (l : Level) (c : List ℤ) (g h : List ℕ) where
-  abbrev pick : Bool → Bool → Bool → Bool → Bool → Bool → Bool → Outcome
-  pick u s y z b a w =
-      answered (1 when u ∷ 2 when s ∷ 3 when not y ∷ 4 when (not z && b) ∷ 24 when (not z && a) ∷ 5 when not w ∷ []) (refused l c g) (done h)
+module _ (l : Level) (c : List ℤ) (g t : List ℕ) (whole : Outcome) (none : ForRange (whole .number) → ⊥) where
+  abbrev pick : Bool → Bool → Bool → Bool → Bool → Bool → Bool → Bool → Outcome
+  pick u s y z b a w v =
+      answered
+      (1 when u ∷ 2 when s ∷ 3 when not y ∷ 4 when (not z && b) ∷ 24 when (not z && a) ∷ 5 when not w ∷ 16 when v ∷ [])
+      (refused l c g t)
+      whole
 
-  picked : (u s y z b a w : Bool) → (z ≡ false → b ≡ false → a ≡ true) → ForRange (pick u s y z b a w .number) →
-      (u ≡ false) × (y ≡ true) × (z ≡ false) × (pick u s y z b a w ≡ refusedAt (cond b 4 24) (firstOut l c) g)
-  picked true s y z b a w q f = absurd (other 1 tt tt f)
-  picked false true y z b a w q f = absurd (other 2 tt tt f)
-  picked false false false z b a w q f = absurd (other 3 tt tt f)
-  picked false false true true b a false q f = absurd (other 5 tt tt f)
-  picked false false true true b a true q f = absurd (other 0 tt tt f)
-  picked false false true false true a w q f = (refl, refl, refl, refl)
-  picked false false true false false true w q f = (refl, refl, refl, refl)
-  picked false false true false false false w q f = absurd (true≢false (sym (q refl refl)))
+  picked : (u s y z b a w v : Bool) → (z ≡ false → b ≡ false → a ≡ true) → ForRange (pick u s y z b a w v .number) →
+      (u ≡ false) × (y ≡ true) × (z ≡ false) × (pick u s y z b a w v ≡ refusedAt (cond b 4 24) (firstOut l c) g t)
+  picked true s y z b a w v q f = absurd (other 1 tt tt f)
+  picked false true y z b a w v q f = absurd (other 2 tt tt f)
+  picked false false false z b a w v q f = absurd (other 3 tt tt f)
+  picked false false true true b a false v q f = absurd (other 5 tt tt f)
+  picked false false true true b a true true q f = absurd (other 16 tt tt f)
+  picked false false true true b a true false q f = absurd (none f)
+  picked false false true false true a w v q f = (refl, refl, refl, refl)
+  picked false false true false false true w v q f = (refl, refl, refl, refl)
+  picked false false true false false false w v q f = absurd (true≢false (sym (q refl refl)))
 
-pub mark-bad : (k : ℕ) (g : List ℕ) (c : List ℤ) → ForRange (markCall k g c .number) → Bad k c (markCall k g c)
+pub mark-bad : (k : ℕ) (g : List ℕ) (c : List ℤ) (t : List ℕ) → ForRange (markCall k g c t .number) → Bad k c (markCall k g c t)
 unfolding markCall markRows outNumber
-mark-bad k g c f =
+mark-bad k g c t f =
     let l = levelAt k in
     let v = badOne l c in
     let short = someShort (pointsOf l) (g ∷ []) in
     let nine = eqb (length c) 9 in
     let grid = isGrid (cellsOf l) g in
-    let after = marked l (triangleOf c) g in
-    let p = picked l c g after (badLevel k) short nine (allInRange l c) (below l v) (above l v) grid (λ z. not-below l v (bad-there l c z .1)) f in
+    let whole = doneWith l (triangleOf c) g t in
+    let p = picked l c g t whole (other 0 tt tt) (badLevel k) short nine (allInRange l c) (below l v) (above l v) grid (shortTable (cellsOf l) t) (λ z. not-below l v (bad-there l c z .1)) f in
     let b = bad-there l c (p .2) in
     let n = eqb-true (length c) 9 (p .1) in
     subst (Bad k c) (sym (p .3))
@@ -83,16 +86,17 @@ mark-bad k g c f =
     })
 
 -- place and axis are 0 in all other answers
-pub mark-other : (k : ℕ) (g : List ℕ) (c : List ℤ) → (ForRange (markCall k g c .number) → ⊥) → (markCall k g c .place ≡ 0) × (markCall k g c .axis ≡ 0)
+pub mark-other : (k : ℕ) (g : List ℕ) (c : List ℤ) (t : List ℕ) → (ForRange (markCall k g c t .number) → ⊥) →
+    (markCall k g c t .place ≡ 0) × (markCall k g c t .axis ≡ 0)
 unfolding markCall
-mark-other k g c =
-    answered-both (λ o. (ForRange (o .number) → ⊥) → (o .place ≡ 0) × (o .axis ≡ 0)) (refused l c g) (done (marked l (triangleOf c) g)) nought (λ _. (refl, refl))
-    (markRows k g c)
+mark-other k g c t =
+    answered-both (λ o. (ForRange (o .number) → ⊥) → (o .place ≡ 0) × (o .axis ≡ 0)) (refused l c g t) (doneWith l (triangleOf c) g t) nought (λ _. (refl, refl))
+    (markRows k g c t)
   where
     l : Level
     l = levelAt k
 
-    nought : (j : ℕ) → (ForRange j → ⊥) → (refused l c g j .place ≡ 0) × (refused l c g j .axis ≡ 0)
+    nought : (j : ℕ) → (ForRange j → ⊥) → (refused l c g t j .place ≡ 0) × (refused l c g t j .axis ≡ 0)
     nought j f =
         let e : cond (eqb j 4 || eqb j 24) (firstOut l c) 0 ≡ 0 = rw (ne-eqb j 4 (λ e. f (inl e)), ne-eqb j 24 (λ e. f (inr e))) refl in
         (e, ap (λ (p : ℕ). p % 3) e)

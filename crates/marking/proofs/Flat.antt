@@ -150,38 +150,39 @@ module _ (c : List ℤ) (b : Axis) (v : ℤ) (s : Square b v c) (l : Level) (a :
 
 -- two edges that cross one plane lie in one layer of cells
 pub one-layer : (l : Level) (b : Axis) (v : ℤ) (a d : Axis) (p q : Point) → Crosses l b v a p → Crosses l b v d q → coord b p ≡ coord b q
-one-layer l b v a d p q x y = le-antisymm (at-most p q (<ℤ-≤ℤ-trans (x .begins) (<ℤ-≤ℤ (y .ends)))) (at-most q p (<ℤ-≤ℤ-trans (y .begins) (<ℤ-≤ℤ (x .ends))))
+one-layer l b v a d p q x y = le-antisymm (at-most p q (<ℤ-≤ℤ-trans (x .begins) (<ℤ-≤ℤ (y .ends))))
+    (at-most q p (<ℤ-≤ℤ-trans (y .begins) (<ℤ-≤ℤ (x .ends))))
   where
     at-most : (p q : Point) → pos (coord b p * sideOf l) <ℤ pos (suc (coord b q) * sideOf l) → coord b p ≤ coord b q
     at-most p q h = le-of-suc-le-suc (lt-of-mul-lt-mul-right (sideOf l) (lt-pos h))
 
 -- ---- the call: what a done mark adds for such a triangle are edges that cross its plane
-pub flat-thin : (k : ℕ) (g : List ℕ) (c : List ℤ) (b : Axis) (v : ℤ) → Square b v c → (o : markCall k g c .number ≡ 0) →
-    let l = mark-done k g c o .level in
-    (a : Axis) (p : Point) → marks (cellsOf l) g a p ≡ false → marks (cellsOf l) (markCall k g c .grid) a p ≡ true → Crosses l b v a p
-flat-thin k g c b v s o a p n m =
-    let d = mark-done k g c o in
+pub flat-thin : (k : ℕ) (g : List ℕ) (c : List ℤ) (t : List ℕ) (b : Axis) (v : ℤ) → Square b v c → (o : markCall k g c t .number ≡ 0) →
+    let l = mark-done k g c t o .level in
+    (a : Axis) (p : Point) → marks (cellsOf l) g a p ≡ false → marks (cellsOf l) (markCall k g c t .grid) a p ≡ true → Crosses l b v a p
+flat-thin k g c t b v s o a p n m =
+    let d = mark-done k g c t o in
     ⊎-elim (λ e. absurd (true≢false (sym e ∙ n)))
     (λ u. met-crosses c b v s (d .level) a p (met-exactly (triangleOf c) (endsOf (d .level) a p) .1 (u .clear)))
     (d .exactly a p .0 m)
 
 -- so one that is square to two axes, a line along the third or a point, leaves every mark as it was
-pub line-marks-nothing : (k : ℕ) (g : List ℕ) (c : List ℤ) (b d : Axis) (v w : ℤ) → (b ≡ d → ⊥) → Square b v c → Square d w c →
-    (o : markCall k g c .number ≡ 0) → let l = mark-done k g c o .level in
-    (a : Axis) (p : Point) → marks (cellsOf l) (markCall k g c .grid) a p ≡ marks (cellsOf l) g a p
-line-marks-nothing k g c b d v w ne s t o a p = go (after a p) (before a p) refl refl
+pub line-marks-nothing : (k : ℕ) (g : List ℕ) (c : List ℤ) (t : List ℕ) (b d : Axis) (v w : ℤ) → (b ≡ d → ⊥) → Square b v c → Square d w c →
+    (o : markCall k g c t .number ≡ 0) → let l = mark-done k g c t o .level in
+    (a : Axis) (p : Point) → marks (cellsOf l) (markCall k g c t .grid) a p ≡ marks (cellsOf l) g a p
+line-marks-nothing k g c t b d v w ne s r o a p = go (after a p) (before a p) refl refl
   where
-    made : Marks k g c (markCall k g c .grid)
-    made = mark-done k g c o
+    made : Marks k g c (markCall k g c t .grid) (markCall k g c t .totals)
+    made = mark-done k g c t o
 
     before : Set
     before = marks (cellsOf (made .level)) g
 
     after : Set
-    after = marks (cellsOf (made .level)) (markCall k g c .grid)
+    after = marks (cellsOf (made .level)) (markCall k g c t .grid)
 
     go : (y x : Bool) → after a p ≡ y → before a p ≡ x → after a p ≡ before a p
     go true true e f = e ∙ sym f
     go false false e f = e ∙ sym f
     go false true e f = absurd (true≢false (sym (made .exactly a p .1 (inl f)) ∙ e))
-    go true false e f = absurd (ne (sym (flat-thin k g c b v s o a p f e .runs) ∙ flat-thin k g c d w t o a p f e .runs))
+    go true false e f = absurd (ne (sym (flat-thin k g c t b v s o a p f e .runs) ∙ flat-thin k g c t d w r o a p f e .runs))

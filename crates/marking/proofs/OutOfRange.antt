@@ -157,9 +157,9 @@ module _ (l : Level) where
       go false a h = rw (h refl)
 
   -- by mark
-  pub out-told : (c : List ℤ) (g : List ℕ) (rest : Outcome) → allInRange l c ≡ false →
-      refusedAt (outNumber l (badOne l c)) (firstOut l c) g ≡ cond (firstBelow l c) (refused l c g 4) (cond (firstAbove l c) (refused l c g 24) rest)
-  out-told c g rest e = out-rows (λ k. refusedAt k (firstOut l c) g) rest c e
+  pub out-told : (c : List ℤ) (g t : List ℕ) (rest : Outcome) → allInRange l c ≡ false →
+      refusedAt (outNumber l (badOne l c)) (firstOut l c) g t ≡ cond (firstBelow l c) (refused l c g t 4) (cond (firstAbove l c) (refused l c g t 24) rest)
+  out-told c g t rest e = out-rows (λ k. refusedAt k (firstOut l c) g t) rest c e
 
   -- so where no row tells it, none is out
   pub none-told : (c : List ℤ) → firstBelow l c ≡ false → firstAbove l c ≡ false → allInRange l c ≡ true

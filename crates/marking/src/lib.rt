@@ -5,13 +5,20 @@ use crate::range::first_out;
 use crate::range::is_below;
 use crate::range::triangle_of;
 use descending::mark_cubed;
+use grids::GridRead;
 use grids::clear_signs;
 use lattice::clear;
 use lattice::level::Level;
 use lattice::level::LevelRead;
+use lattice::level::point_count;
+use meeting::box_of;
 use refusals::Answer;
 use refusals::Refusal;
 use scanning::mark_grid;
+use totals::clear_totals;
+use totals::read_held;
+use totals::recount_box;
+use totals::store;
 use triangles::Triangle;
 ghost use mathlib.Core.Path.{_≡_};
 ghost use mathlib.Core.Bool.{true};
@@ -25,11 +32,11 @@ ghost use Rattle.meeting.specs.Met.{marked};
 ghost use Rattle.marking.specs.Outcome.{told};
 ghost use Rattle.marking.specs.Open.{openCall};
 ghost use Rattle.marking.specs.OutOfRange.{outNumber};
-ghost use Rattle.marking.specs.Mark.{refusedAt, told as markTold, markCall};
+ghost use Rattle.marking.specs.Mark.{refusedAt, told as markTold, markCall, markPassed};
 
-// The call open: makes an empty grid of the level in the buffer's first P bytes.
-pub fn open(level: u32, grid: &mut [u8]) -> Answer
-    ensures { λ r. ⌜ told r (now (grid .exit)) ≡ openCall level (now (grid .entry)) ⌝ }
+// The call open: makes an empty grid of the level in the buffer's first P bytes, and the table of its totals.
+pub fn open(level: u32, grid: &mut [u8], totals: &mut [u16]) -> Answer
+    ensures { λ r. ⌜ told r (now (grid .exit)) (now (totals .exit)) ≡ openCall level (now (grid .entry)) (now (totals .entry)) ⌝ }
 {
     let LevelRead::Known(l) = Level::read(level) else {
         return Answer::Refused(Refusal::BadLevel);
@@ -38,7 +45,12 @@ pub fn open(level: u32, grid: &mut [u8]) -> Answer
     if grid.len() < count {
         return Answer::Refused(Refusal::ShortBuffer);
     }
+    let n = l.cells();
+    if totals.len() < point_count(n / 4) {
+        return Answer::Refused(Refusal::ShortTable);
+    }
     clear(count, grid);
+    clear_totals(n, totals);
     Answer::Done
 }
 
@@ -54,7 +66,7 @@ pub enum MarkAnswer {
 impl MarkAnswer {
     // This paper's number: 0 when done.
     pub fn number(self) -> u32
-        ensures { λ r. ⌜ r ≡ (markTold self []) .number ⌝ }
+        ensures { λ r. ⌜ r ≡ (markTold self [] []) .number ⌝ }
     {
         match self {
             MarkAnswer::Done => 0,
@@ -68,7 +80,7 @@ impl MarkAnswer {
 // Answers how a coordinate out of the level's range is refused.
 pub fn out_of_range(l: Level, place: usize, v: i32) -> MarkAnswer
     requires { ⌜ place < 9 ⌝ }
-    ensures { λ r. ⌜ ((g : List ℕ) → markTold r g ≡ refusedAt (outNumber l v) place g) ⌝ }
+    ensures { λ r. ⌜ ((g t : List ℕ) → markTold r g t ≡ refusedAt (outNumber l v) place g t) ⌝ }
 {
     let p = place as u32;
     let a = p % 3;
@@ -85,19 +97,19 @@ pub enum Way {
     Tree,
 }
 
-// The call mark: adds the marks of the edges that a triangle of nine numbers meets, and clears all signs. It looks at every byte of the
-// grid, to see that it is one; `descending::mark_fast` is for callers that know it.
-pub fn mark(level: u32, grid: &mut [u8], triangle: &[i32]) -> MarkAnswer
-    ensures { λ r. ⌜ markTold r (now (grid .exit)) ≡ markCall level (now (grid .entry)) (now (triangle .entry)) ⌝ }
+// The call mark: adds the marks of the edges that a triangle of nine numbers meets, clears all signs, and makes every total true. It looks at
+// every byte of the grid, to see that it is one; `descending::mark_fast` is for callers that know it, and need no table.
+pub fn mark(level: u32, grid: &mut [u8], triangle: &[i32], totals: &mut [u16]) -> MarkAnswer
+    ensures { λ r. ⌜ markTold r (now (grid .exit)) (now (totals .exit)) ≡ markCall level (now (grid .entry)) (now (triangle .entry)) (now (totals .entry)) ⌝ }
 {
-    mark_by(level, grid, triangle, Way::Scan)
+    mark_by(level, grid, triangle, totals, Way::Scan)
 }
 
 // The call mark, by the descent: the promise is mark's own.
-pub fn mark_tree(level: u32, grid: &mut [u8], triangle: &[i32]) -> MarkAnswer
-    ensures { λ r. ⌜ markTold r (now (grid .exit)) ≡ markCall level (now (grid .entry)) (now (triangle .entry)) ⌝ }
+pub fn mark_tree(level: u32, grid: &mut [u8], triangle: &[i32], totals: &mut [u16]) -> MarkAnswer
+    ensures { λ r. ⌜ markTold r (now (grid .exit)) (now (totals .exit)) ≡ markCall level (now (grid .entry)) (now (triangle .entry)) (now (totals .entry)) ⌝ }
 {
-    mark_by(level, grid, triangle, Way::Tree)
+    mark_by(level, grid, triangle, totals, Way::Tree)
 }
 
 // Adds the marks of the edges that a triangle meets to a buffer that is known to be a grid without signs, either way.
@@ -112,9 +124,37 @@ fn mark_edges(l: Level, grid: &mut [u8], t: Triangle, w: Way)
     }
 }
 
+// Room for the totals of any level.
+fn no_totals() -> [u16; 729]
+    ensures { λ r. ⌜ length r ≡ 729 ⌝ }
+{
+    [0u16; 729]
+}
+
+// What is left of mark for a triangle in range. The totals are counted in the scan that reads the grid, and held until nothing can be refused;
+// then only the blocks that the triangle's own box touches are counted anew.
+fn mark_passed(l: Level, grid: &mut [u8], t: Triangle, totals: &mut [u16], w: Way) -> MarkAnswer
+    requires { ⌜ TriangleWithin l t × (pointsOf l ≤ length (now grid)) ⌝ }
+    ensures { λ r. ⌜ markTold r (now (grid .exit)) (now (totals .exit)) ≡ markPassed l t (now (grid .entry)) (now (totals .entry)) ⌝ }
+{
+    let n = l.cells();
+    let mut held = no_totals();
+    let GridRead::Grid { inside } = read_held(n, grid, &mut held) else {
+        return MarkAnswer::Refused(Refusal::NoGrid);
+    };
+    if totals.len() < point_count(n / 4) {
+        return MarkAnswer::Refused(Refusal::ShortTable);
+    }
+    clear_signs(n, grid, inside);
+    store(n, &held, totals);
+    mark_edges(l, grid, t, w);
+    recount_box(n, grid, totals, box_of(l, t));
+    MarkAnswer::Done
+}
+
 // The call mark, either way.
-fn mark_by(level: u32, grid: &mut [u8], triangle: &[i32], w: Way) -> MarkAnswer
-    ensures { λ r. ⌜ markTold r (now (grid .exit)) ≡ markCall level (now (grid .entry)) (now (triangle .entry)) ⌝ }
+fn mark_by(level: u32, grid: &mut [u8], triangle: &[i32], totals: &mut [u16], w: Way) -> MarkAnswer
+    ensures { λ r. ⌜ markTold r (now (grid .exit)) (now (totals .exit)) ≡ markCall level (now (grid .entry)) (now (triangle .entry)) (now (totals .entry)) ⌝ }
 {
     let LevelRead::Known(l) = Level::read(level) else {
         return MarkAnswer::Refused(Refusal::BadLevel);
@@ -129,9 +169,5 @@ fn mark_by(level: u32, grid: &mut [u8], triangle: &[i32], w: Way) -> MarkAnswer
     if place < 9 {
         return out_of_range(l, place, triangle[place]);
     }
-    if !clear_signs(l.cells(), grid) {
-        return MarkAnswer::Refused(Refusal::NoGrid);
-    }
-    mark_edges(l, grid, triangle_of(triangle), w);
-    MarkAnswer::Done
+    mark_passed(l, grid, triangle_of(triangle), totals, w)
 }

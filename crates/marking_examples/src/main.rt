@@ -37,7 +37,8 @@ fn say_left(number: u32, grid: &[u8]) {
 // Opens a grid in a buffer that is longer and dirty.
 fn show_open(name: &[u8], level: u32) {
     let mut grid = [DIRTY; LONG];
-    let number = open(level, &mut grid).number();
+    let mut totals = [0u16; 8];
+    let number = open(level, &mut grid, &mut totals).number();
     say_opened(name, number, &grid);
     say_left(number, &grid);
     say(b"\n");
@@ -46,9 +47,23 @@ fn show_open(name: &[u8], level: u32) {
 // Opens a grid in a buffer that is a byte short.
 fn show_open_short() {
     let mut grid = [DIRTY; 124];
-    let number = open(2, &mut grid).number();
+    let mut totals = [0u16; 8];
+    let number = open(2, &mut grid, &mut totals).number();
     say_opened(b"a byte short", number, &grid);
     say(b"\n");
+}
+
+// Opens a grid with a table that is a total short, and marks a triangle in one.
+fn show_short_table() {
+    let mut grid = [DIRTY; LONG];
+    let mut totals = [0u16; 8];
+    let mut short = [0u16; 7];
+    let number = open(2, &mut grid, &mut short).number();
+    say_opened(b"a total short", number, &grid);
+    open(2, &mut grid, &mut totals);
+    let number = mark(2, &mut grid, &[262_144; 9], &mut short).number();
+    say(b"\n");
+    say_marked(b"a total short", number, &grid);
 }
 
 // Says a number, and the marks of the first points.
@@ -62,9 +77,10 @@ fn say_marked(name: &[u8], number: u32, grid: &[u8]) {
 // Marks a triangle in a new grid in which one byte is put; the buffer is longer.
 fn show_put(name: &[u8], level: u32, p: usize, v: u8, numbers: &[i32]) {
     let mut grid = [DIRTY; LONG];
-    open(2, &mut grid);
+    let mut totals = [0u16; 8];
+    open(2, &mut grid, &mut totals);
     put(&mut grid, p, v);
-    let number = mark(level, &mut grid, numbers).number();
+    let number = mark(level, &mut grid, numbers, &mut totals).number();
     say_marked(name, number, &grid);
 }
 
@@ -76,9 +92,10 @@ fn show(name: &[u8], numbers: &[i32]) {
 // Marks one triangle after another in one grid.
 fn show_both(name: &[u8], first: &[i32], second: &[i32]) {
     let mut grid = [DIRTY; LONG];
-    open(2, &mut grid);
-    mark(2, &mut grid, first);
-    let number = mark(2, &mut grid, second).number();
+    let mut totals = [0u16; 8];
+    open(2, &mut grid, &mut totals);
+    mark(2, &mut grid, first, &mut totals);
+    let number = mark(2, &mut grid, second, &mut totals).number();
     say_marked(name, number, &grid);
 }
 
@@ -100,7 +117,8 @@ fn say_with(k: usize, v: i32) {
     let mut grid = [0u8; POINTS];
     let mut numbers = [262_144; 9];
     put_number(&mut numbers, k, v);
-    let answer = mark(2, &mut grid, &numbers);
+    let mut totals = [0u16; 8];
+    let answer = mark(2, &mut grid, &numbers, &mut totals);
     say_count(b" ", answer.number());
     if let MarkAnswer::Below { place: p, axis: a } = answer {
         say_place(p, a);
@@ -274,11 +292,15 @@ fn show_bytes() {
 
 fn show_no_bytes() {
     let mut none = [0u8; 0];
+    let mut no_totals = [0u16; 0];
     say_count(
         b"mark, level 1, no bytes: ",
-        mark(1, &mut none, &[262_144; 9]).number(),
+        mark(1, &mut none, &[262_144; 9], &mut no_totals).number(),
     );
-    say_count(b"\nopen, level 1, no bytes: ", open(1, &mut none).number());
+    say_count(
+        b"\nopen, level 1, no bytes: ",
+        open(1, &mut none, &mut no_totals).number(),
+    );
     say(b"\n");
 }
 
@@ -288,6 +310,7 @@ fn show_opens() {
     show_open(b"level 6", 6);
     show_open(b"level 3, short", 3);
     show_open_short();
+    show_short_table();
 }
 
 fn main() {

@@ -11,11 +11,11 @@ use lib.IntN.{ℤ}
 use lib.ListN.{length, drop, length-drop}
 use Rattle.refusals.proofs.Answered.{answered-done}
 use Rattle.refusals.specs.Columns.{levelAt}
-use Rattle.meeting.specs.Met.{marked as markedBy}
 use Rattle.marking.specs.Ranges.{triangleOf}
-use Rattle.marking.specs.Mark.{Outcome, done, refused, markRows, markCall}
+use Rattle.marking.specs.Mark.{Outcome, refused, doneWith, markRows, markCall}
 use Rattle.text.specs.Words.{numbers}
 use Rattle.text.proofs.Numbers.{numbers-short}
+use Rattle.feeding.specs.Lent.{lentTotals}
 use Rattle.feeding.specs.Taken.{Taken, marked, refusedBy, taken}
 
 -- whether a stream was taken, and how many triangles came
@@ -28,11 +28,12 @@ came (marked t g) = t
 came (refusedBy k) = 0
 
 -- mark takes nine numbers
-mark-nine : (level : ℕ) (g : List ℕ) (c : List ℤ) → markCall level g c .number ≡ 0 → length c ≡ 9
+mark-nine : (level : ℕ) (g : List ℕ) (c : List ℤ) → markCall level g c lentTotals .number ≡ 0 → length c ≡ 9
 unfolding markRows markCall
 mark-nine level g c e =
     let l = levelAt level in
-    let r = answered-done (λ (o : Outcome). o .number) (refused l c g) (done (markedBy l (triangleOf c) g)) (λ k. refl) refl (markRows level g c) refl e in
+    let r = answered-done (λ (o : Outcome). o .number) (refused l c g lentTotals) (doneWith l (triangleOf c) g lentTotals) (λ k. refl) refl
+    (markRows level g c lentTotals) refl e in
     eqb-true (length c) 9 (not-false _ (r .0 .1 .1 .0))
 
 -- s has the bytes of the triangles from the u-th to the t-th, and no more than so many of them
@@ -40,7 +41,7 @@ abbrev Counts : ℕ → ℕ → ℕ → List ℕ → Type 0
 Counts more u t s = (length s + 36 * u ≡ 36 * t) × (t ≤ u + more)
 
 -- a triangle that mark takes has 36 bytes
-mark-whole : (level : ℕ) (g s : List ℕ) → markCall level g (numbers s) .number ≡ 0 → 36 ≤ length s
+mark-whole : (level : ℕ) (g s : List ℕ) → markCall level g (numbers s) lentTotals .number ≡ 0 → 36 ≤ length s
 mark-whole level g s z = go (decLt (length s) 36)
   where
     go : Dec (length s < 36) → 36 ≤ length s
@@ -50,7 +51,7 @@ mark-whole level g s z = go (decLt (length s) 36)
 -- one triangle, and then the others
 module _ (level more u t : ℕ) (s g h : List ℕ) where
   abbrev o : Outcome
-  o = markCall level g (numbers s)
+  o = markCall level g (numbers s) lentTotals
 
   abbrev rest : Taken
   rest = taken level more (drop 36 s) (suc u) (o .grid)
@@ -79,4 +80,4 @@ unfolding taken
 taken-count level zero u t s g h e = taken-last u t s g h (eqb (length s) 0) refl e
 taken-count level (suc more) u t s g h e =
     taken-some level more u t s g h (eqb (length s) 0) refl e
-    (taken-count level more (suc u) t (drop 36 s) (markCall level g (numbers s) .grid) h)
+    (taken-count level more (suc u) t (drop 36 s) (markCall level g (numbers s) lentTotals .grid) h)

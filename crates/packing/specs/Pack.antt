@@ -10,6 +10,7 @@ use Rattle.patching.specs.Call.{Outcome as Patching}
 use Rattle.signing.specs.Call.{Outcome as Signing}
 use Rattle.surfacing.specs.Call.{surfaceCall}
 use Rattle.text.specs.Listing.{refusedLine}
+use Rattle.feeding.specs.Lent.{lentTotals}
 use Rattle.feeding.specs.Taken.{mostTriangles, Taken, marked, refusedBy, taken}
 use Rattle.reporting.specs.Report.{lentBytes, lentList, unless, closed}
 use Rattle.job_writing.specs.Write.{writeCall}
@@ -35,5 +36,5 @@ packedTaken level s (refusedBy k) = refusedLine k
 unfoldable pub jobOf : List ℕ → List ℕ
 jobOf [] = refusedLine 1
 jobOf (level ∷ s) =
-    let o = openCall level lentBytes in
+    let o = openCall level lentBytes lentTotals in
     unless (o .number) (packedTaken level s (taken level mostTriangles s 0 (o .grid)))

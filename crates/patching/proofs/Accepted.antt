@@ -2,8 +2,10 @@
 use mathlib.Core.Path.{_≡_, refl}
 use mathlib.Core.Bool.{true}
 use Rattle.rules.specs.Lists.{allOf}
-use Rattle.rules.specs.Grid.{marks, isGrid}
-use Rattle.rules.specs.Rims.{facesWith}
+use Rattle.rules.specs.Grid.{marks, bytes, isGrid}
+use Rattle.rules.specs.Rims.{oddFaces, rims, facesWith}
+use Rattle.rules.specs.Patch.{patchOf, patchRim, flips, patched}
+use Rattle.totals.specs.Totals.{marksIn, totals}
 use Rattle.lattice.specs.Levels.{levelOf}
 use Rattle.refusals.specs.Columns.{badLevel, levelAt}
 use Rattle.refusals.specs.Cases.{right}
@@ -12,5 +14,5 @@ use Rattle.patching.specs.Refused.{cases}
 
 -- every call gives the number, or the count, that the rules have for it
 pub cases-hold : allOf right cases ≡ true
-unfolding cases badLevel levelAt levelOf patchRows patchCall patchDone isGrid marks facesWith
+unfolding cases badLevel levelAt levelOf patchRows patchCall patchDone isGrid marks bytes facesWith oddFaces rims patchOf patchRim flips patched marksIn totals
 cases-hold = refl

@@ -10,12 +10,13 @@ use Rattle.rules.specs.declared.Point.{Point}
 use Rattle.rules.specs.declared.Place.{Place}
 use Rattle.rules.specs.Lattice.{Set, setOf, samePoint, edgeIn, whole, pointCount, pointOf, OfGrid}
 use Rattle.rules.specs.Cell.{oddFace}
-use Rattle.rules.specs.Rims.{rims, touch}
+use Rattle.rules.specs.Rims.{rims, touch, facesWith}
 use Rattle.rules.specs.Patch.{flips, patchRim}
-use Rattle.rules.specs.Grid.{stored}
-use Rattle.lattice.specs.Byte.{high}
+use Rattle.rules.specs.Grid.{stored, marks}
+use Rattle.lattice.specs.Byte.{high, marksPutBy}
 use Rattle.lattice.specs.Cells.{Cell}
 use Rattle.walking.specs.Walks.{oddIn, seenB}
+use Rattle.patching.specs.Paint.{paint}
 
 -- a rim has a face at the point
 abbrev pub owns : Point → List Place → Bool
@@ -70,3 +71,9 @@ Moves n c g w g₂ w₂ r =
 -- what the whole scan does, from no rim hit
 abbrev pub AllPatched : ℕ → List ℕ → List ℕ → List ℕ → List ℕ → ℕ → Type 0
 AllPatched n g w g₂ w₂ r = (E : Set) → Inner n E → Between n E none g w g w 0 → Finished n E g w g₂ w₂ r
+
+-- every rim of the grid g has been patched, r of them, with its marks put by as they came; it came with o faces of one mark and t of three
+abbrev pub Mends : ℕ → List ℕ → List ℕ → List ℕ → List ℕ → ℕ → ℕ → ℕ → Type 0
+Mends n g w g₂ w₂ r o t =
+    let E = marks n g in
+    Finished n E (paint marksPutBy (pointCount n) g) w g₂ w₂ r × (o ≡ facesWith 1 n E) × (t ≡ facesWith 3 n E)

@@ -3,6 +3,7 @@ pub mod finding;
 
 use crate::finding::find_odd;
 use grids::is_grid;
+use grids::next_point;
 use halving::patch_box;
 use lattice::byte::changes;
 use lattice::byte::is_seen;
@@ -14,17 +15,21 @@ use lattice::level::LevelRead;
 use lattice::level::point_count;
 use refusals::Refusal;
 use rules::Point;
+use totals::clear_totals;
+use totals::hold;
 use walking::find_rim;
 ghost use mathlib.Core.Path.{_≡_};
 ghost use mathlib.Core.Bool.{true};
-ghost use Prim.Native.Nat.{_≤_, _<_};
+ghost use mathlib.Core.List.{List};
+ghost use Prim.Native.Nat.{ℕ, _≤_, _<_};
 ghost use lib.ListN.{length};
 ghost use Rattle.rules.specs.Lattice.{pointCount, pointOf};
 ghost use Rattle.rules.specs.Grid.{isGrid};
+ghost use Rattle.totals.specs.Totals.{blockCount, trued};
 ghost use Rattle.lattice.specs.Byte.{low, marksPutBy};
 ghost use Rattle.walking.specs.Walks.{Fine};
 ghost use Rattle.patching.specs.Paint.{paint, allChanges, nought};
-ghost use Rattle.patching.specs.Between.{Moves, AllPatched};
+ghost use Rattle.patching.specs.Between.{Moves, AllPatched, Mends};
 ghost use Rattle.patching.specs.Call.{told, counted, patchDone, patchCall};
 
 // What patch answers: the counts, or why it is refused.
@@ -47,9 +52,10 @@ pub struct Counts {
     pub threes: u32,
 }
 
-// The call patch: patches the grid, or refuses an unknown level, a buffer shorter than P, and one that is no grid.
-pub fn patch(level: u32, grid: &mut [u8], work: &mut [u8]) -> PatchAnswer
-    ensures { λ r. ⌜ told r (now (grid .exit)) (now (work .exit)) ≡ patchCall level (now (grid .entry)) (now (work .entry)) ⌝ }
+// The call patch: patches the grid and makes every total true, or refuses an unknown level, a buffer shorter than P, one that is no grid,
+// and a short table.
+pub fn patch(level: u32, grid: &mut [u8], work: &mut [u8], totals: &mut [u16]) -> PatchAnswer
+    ensures { λ r. ⌜ told r (now (grid .exit)) (now (work .exit)) (now (totals .exit)) ≡ patchCall level (now (grid .entry)) (now (work .entry)) (now (totals .entry)) ⌝ }
 {
     let LevelRead::Known(l) = Level::read(level) else {
         return PatchAnswer::Refused(Refusal::BadLevel);
@@ -65,7 +71,10 @@ pub fn patch(level: u32, grid: &mut [u8], work: &mut [u8]) -> PatchAnswer
     if !is_grid(n, grid) {
         return PatchAnswer::Refused(Refusal::NoGrid);
     }
-    let counts = patch_grid(n, grid, work);
+    if totals.len() < point_count(n / 4) {
+        return PatchAnswer::Refused(Refusal::ShortTable);
+    }
+    let counts = patch_held(n, grid, work, totals);
     PatchAnswer::Done {
         rims: counts.rims,
         flips: counts.flips,
@@ -74,19 +83,54 @@ pub fn patch(level: u32, grid: &mut [u8], work: &mut [u8]) -> PatchAnswer
     }
 }
 
-// Patches what is known to be a grid of n cells a side. Its buffers are long enough.
+// Patches what is known to be a grid of n cells a side, and makes every total true. Its buffers and its table are long enough.
+fn patch_held(n: usize, grid: &mut [u8], work: &mut [u8], totals: &mut [u16]) -> Counts
+    requires { ⌜ (1 ≤ n) × (n ≤ 32) × (pointCount n ≤ length (now grid)) × (pointCount n ≤ length (now work)) × (isGrid n (now grid) ≡ true) ⌝ }
+    requires { ⌜ blockCount n ≤ length (now totals) ⌝ }
+    ensures { λ r. ⌜ counted (r .rims) (r .flips) (r .ones) (r .threes) (now (grid .exit)) (now (work .exit)) (now (totals .exit)) ≡ patchDone n (now (grid .entry)) (now (work .entry)) (now (totals .entry)) ⌝ }
+{
+    let found = patch_rims(n, grid, work);
+    let flips = finish_held(n, grid, work, totals);
+    Counts {
+        rims: found.rims,
+        flips: flips,
+        ones: found.ones,
+        threes: found.threes,
+    }
+}
+
+// The same without a table: whatever table there is, once it is true of the grid that is left, the call has done what it promises.
 pub fn patch_grid(n: usize, grid: &mut [u8], work: &mut [u8]) -> Counts
     requires { ⌜ (1 ≤ n) × (n ≤ 32) × (pointCount n ≤ length (now grid)) × (pointCount n ≤ length (now work)) × (isGrid n (now grid) ≡ true) ⌝ }
-    ensures { λ r. ⌜ counted (r .rims) (r .flips) (r .ones) (r .threes) (now (grid .exit)) (now (work .exit)) ≡ patchDone n (now (grid .entry)) (now (work .entry)) ⌝ }
+    ensures { λ r. ⌜ ((s : List ℕ) → counted (r .rims) (r .flips) (r .ones) (r .threes) (now (grid .exit)) (now (work .exit)) (trued n (now (grid .exit)) s) ≡ patchDone n (now (grid .entry)) (now (work .entry)) s) ⌝ }
 {
-    let count = point_count(n);
-    let came = find_odd(n, grid, work);
-    put_by(count, grid);
-    let rims = all_rims(n, grid, work);
-    let flips = finish(count, grid, work);
+    let found = patch_rims(n, grid, work);
+    let flips = finish(point_count(n), grid, work);
     Counts {
-        rims: rims,
+        rims: found.rims,
         flips: flips,
+        ones: found.ones,
+        threes: found.threes,
+    }
+}
+
+// The number of rims that were patched, and of faces with one mark and with three in the grid as it came.
+struct Mended {
+    rims: u32,
+    ones: u32,
+    threes: u32,
+}
+
+// Patches every rim of a grid; its marks as they came stay put by beside those that they are now.
+fn patch_rims(n: usize, grid: &mut [u8], work: &mut [u8]) -> Mended
+    requires { ⌜ (1 ≤ n) × (n ≤ 32) × (pointCount n ≤ length (now grid)) × (pointCount n ≤ length (now work)) × (isGrid n (now grid) ≡ true) ⌝ }
+    ensures { λ r. ⌜ Mends n (now (grid .entry)) (now (work .entry)) (now (grid .exit)) (now (work .exit)) (r .rims) (r .ones) (r .threes) ⌝ }
+{
+    let came = find_odd(n, grid, work);
+    put_by(point_count(n), grid);
+    let rims = all_rims(n, grid, work);
+    Mended {
+        rims: rims,
         ones: came.ones,
         threes: came.threes,
     }
@@ -160,6 +204,29 @@ fn finish(count: usize, grid: &mut [u8], work: &mut [u8]) -> u32
         flips += changes(grid[p]);
         grid[p] = low(grid[p]);
         work[p] = 0;
+        p += 1;
+    }
+    flips
+}
+
+// The same, and counts the totals of all blocks in the same pass.
+fn finish_held(n: usize, grid: &mut [u8], work: &mut [u8], totals: &mut [u16]) -> u32
+    requires { ⌜ (n ≤ 32) × (pointCount n ≤ length (now grid)) × (pointCount n ≤ length (now work)) × (blockCount n ≤ length (now totals)) ⌝ }
+    ensures { λ r. ⌜ (r ≡ allChanges (pointCount n) (now (grid .entry))) × (now (grid .exit) ≡ paint low (pointCount n) (now (grid .entry))) ⌝ }
+    ensures { λ r. ⌜ (now (work .exit) ≡ paint nought (pointCount n) (now (work .entry))) × (now (totals .exit) ≡ trued n (now (grid .exit)) (now (totals .entry))) ⌝ }
+{
+    clear_totals(n, totals);
+    let count = point_count(n);
+    let mut flips: u32 = 0;
+    let mut q = Point { i: 0, j: 0, k: 0 };
+    let mut p: usize = 0;
+    while p < count {
+        flips += changes(grid[p]);
+        let b = low(grid[p]);
+        grid[p] = b;
+        work[p] = 0;
+        hold(n, totals, q, b);
+        q = next_point(n, q);
         p += 1;
     }
     flips

@@ -94,62 +94,62 @@ parity-of L good F inner-only even rest =
 
 -- ---- the promised stage
 -- the marks that patch leaves are the patched marks
-pub marks-left : (n : ℕ) (g w : List ℕ) → marks n (patchDone n g w .grid) ≡ patched n (marks n g)
+pub marks-left : (n : ℕ) (g w u : List ℕ) → marks n (patchDone n g w u .grid) ≡ patched n (marks n g)
 unfolding patchDone
-marks-left n g w = bytes-have-marks n (patched n (marks n g)) (patched-inner n (marks n g) (marks-inner n g)) (drop (pointCount n) g)
+marks-left n g w u = bytes-have-marks n (patched n (marks n g)) (patched-inner n (marks n g) (marks-inner n g)) (drop (pointCount n) g)
 
 -- on a grid
-grid-left : (n : ℕ) (g w : List ℕ) → isGrid n (patchDone n g w .grid) ≡ true
+grid-left : (n : ℕ) (g w u : List ℕ) → isGrid n (patchDone n g w u .grid) ≡ true
 unfolding patchDone
-grid-left n g w = bytes-are-grid n (patched n (marks n g)) (patched-inner n (marks n g) (marks-inner n g)) (drop (pointCount n) g)
+grid-left n g w u = bytes-are-grid n (patched n (marks n g)) (patched-inner n (marks n g) (marks-inner n g)) (drop (pointCount n) g)
 
 -- without signs
-unsigned-left : (n : ℕ) (g w : List ℕ) → Unsigned n (patchDone n g w .grid)
+unsigned-left : (n : ℕ) (g w u : List ℕ) → Unsigned n (patchDone n g w u .grid)
 unfolding patchDone
-unsigned-left n g w = bytes-unsigned n (patched n (marks n g)) (drop (pointCount n) g)
+unsigned-left n g w u = bytes-unsigned n (patched n (marks n g)) (drop (pointCount n) g)
 
-parity-left : (L : ℕ) → badLevel L ≡ false → (g w : List ℕ) → isGrid (cells L) g ≡ true → Parity L (patchDone (cells L) g w .grid)
+parity-left : (L : ℕ) → badLevel L ≡ false → (g w u : List ℕ) → isGrid (cells L) g ≡ true → Parity L (patchDone (cells L) g w u .grid)
 unfolding patchDone
-parity-left L good g w grid =
+parity-left L good g w u grid =
     let n = cells L in
     parity-of L good (patched n (marks n g)) (patched-inner n (marks n g) (marks-inner n g)) (grid-repaired n g grid .even) (drop (pointsAt L) g)
 
-module _ (L : ℕ) (g w : List ℕ) (e : patchCall L g w .number ≡ 0) where
-  left-marks : marks (cells L) (patchCall L g w .grid) ≡ patched (cells L) (marks (cells L) g)
-  left-marks = ap (λ (o : Patching). marks (cells L) (o .grid)) (patch-done L g w e .outcome) ∙ marks-left (cells L) g w
+module _ (L : ℕ) (g w u : List ℕ) (e : patchCall L g w u .number ≡ 0) where
+  left-marks : marks (cells L) (patchCall L g w u .grid) ≡ patched (cells L) (marks (cells L) g)
+  left-marks = ap (λ (o : Patching). marks (cells L) (o .grid)) (patch-done L g w u e .outcome) ∙ marks-left (cells L) g w u
 
-  left-grid : isGrid (cells L) (patchCall L g w .grid) ≡ true
-  left-grid = ap (λ (o : Patching). isGrid (cells L) (o .grid)) (patch-done L g w e .outcome) ∙ grid-left (cells L) g w
+  left-grid : isGrid (cells L) (patchCall L g w u .grid) ≡ true
+  left-grid = ap (λ (o : Patching). isGrid (cells L) (o .grid)) (patch-done L g w u e .outcome) ∙ grid-left (cells L) g w u
 
-  left-parity : Parity L (patchCall L g w .grid)
+  left-parity : Parity L (patchCall L g w u .grid)
   left-parity =
-      let d = patch-done L g w e in
-      subst (λ (o : Patching). Parity L (o .grid)) (sym (d .outcome)) (parity-left L (d .good) g w (d .grid))
+      let d = patch-done L g w u e in
+      subst (λ (o : Patching). Parity L (o .grid)) (sym (d .outcome)) (parity-left L (d .good) g w u (d .grid))
 
-  left-boxed : (a : Axis) (p : Point) → marks (cells L) g a p ≢ marks (cells L) (patchCall L g w .grid) a p →
+  left-boxed : (a : Axis) (p : Point) → marks (cells L) g a p ≢ marks (cells L) (patchCall L g w u .grid) a p →
       anyOf (λ r. edgeIn (boxOf r) a p) (rims (cells L) (marks (cells L) g)) ≡ true
   left-boxed a p d =
-      grid-repaired (cells L) g (patch-done L g w e .grid) .boxed a p (λ q. d (q ∙ ap (λ (E : Set). E a p) (sym left-marks)))
+      grid-repaired (cells L) g (patch-done L g w u e .grid) .boxed a p (λ q. d (q ∙ ap (λ (E : Set). E a p) (sym left-marks)))
 
 -- whatever is lent, patch counts rims, flips, and faces with one mark and with three, and leaves a grid with the patched marks and no sign where it is done
 pub promised-condition-2 : Condition2 promised
 unfolding patchDone
 promised-condition-2 = record {
-  counted = λ L g w e. ap (λ (o : Patching). o .rims) (patch-done L g w e .outcome);
-  flipped = λ L g w e. ap (λ (o : Patching). o .flips) (patch-done L g w e .outcome);
-  single = λ L g w e. ap (λ (o : Patching). o .ones) (patch-done L g w e .outcome);
-  triple = λ L g w e. ap (λ (o : Patching). o .threes) (patch-done L g w e .outcome);
+  counted = λ L g w u e. ap (λ (o : Patching). o .rims) (patch-done L g w u e .outcome);
+  flipped = λ L g w u e. ap (λ (o : Patching). o .flips) (patch-done L g w u e .outcome);
+  single = λ L g w u e. ap (λ (o : Patching). o .ones) (patch-done L g w u e .outcome);
+  triple = λ L g w u e. ap (λ (o : Patching). o .threes) (patch-done L g w u e .outcome);
   grid = left-grid;
-  patched = λ L g w e a p. ap (λ (E : Set). E a p) (left-marks L g w e);
-  unsigned = λ L g w e. subst (λ (o : Patching). Unsigned (cells L) (o .grid)) (sym (patch-done L g w e .outcome)) (unsigned-left (cells L) g w);
+  patched = λ L g w u e a p. ap (λ (E : Set). E a p) (left-marks L g w u e);
+  unsigned = λ L g w u e. subst (λ (o : Patching). Unsigned (cells L) (o .grid)) (sym (patch-done L g w u e .outcome)) (unsigned-left (cells L) g w u);
 }
 
 -- whatever is lent, what patch leaves where it is done meets condition 3
 pub promised-condition-3 : Condition3 promised
 promised-condition-3 = record {
-  even = λ L g w e. left-parity L g w e .even;
-  signed = λ L g w e. left-parity L g w e .signed;
-  routed = λ L g w e. left-parity L g w e .routed;
+  even = λ L g w u e. left-parity L g w u e .even;
+  signed = λ L g w u e. left-parity L g w u e .signed;
+  routed = λ L g w u e. left-parity L g w u e .routed;
   boxed = left-boxed;
 }
 
@@ -157,9 +157,9 @@ promised-condition-3 = record {
 -- nobody can tell it from the promised one
 pub keeps-same : (s : Stage) → Keeps s → s ≡ promised
 keeps-same s k = λ i. record {
-  opens = λ L g. k .opens L g i;
-  marks = λ L g t. k .marks L g t i;
-  patches = λ L g w. k .patches L g w i;
+  opens = λ L g u. k .opens L g u i;
+  marks = λ L g t u. k .marks L g t u i;
+  patches = λ L g w u. k .patches L g w u i;
   signs = λ L g. k .signs L g i;
   surfaces = λ L g q. k .surfaces L g q i;
 }

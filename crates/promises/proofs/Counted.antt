@@ -16,10 +16,10 @@ pub record FacesCounted (L : ℕ) (g : List ℕ) (o : Outcome) : Type 0 where
   pub odd-faces : o .ones + o .threes ≡ length (oddFaces (cells L) (marks (cells L) g))
   pub neither : ((o .ones ≡ 0) × (o .threes ≡ 0)) ↔ (o .rims ≡ 0)
 
-done-counted : (L : ℕ) (g w : List ℕ) → FacesCounted L g (patchDone (cells L) g w)
+done-counted : (L : ℕ) (g w u : List ℕ) → FacesCounted L g (patchDone (cells L) g w u)
 unfolding patchDone
-done-counted L g w = record { odd-faces = ones-and-threes (cells L) (marks (cells L) g); neither = neither-no-rim (cells L) (marks (cells L) g) }
+done-counted L g w u = record { odd-faces = ones-and-threes (cells L) (marks (cells L) g); neither = neither-no-rim (cells L) (marks (cells L) g) }
 
 -- whatever is lent, where patch is done
-pub faces-counted : (L : ℕ) (g w : List ℕ) → patchCall L g w .number ≡ 0 → FacesCounted L g (patchCall L g w)
-faces-counted L g w e = subst (FacesCounted L g) (sym (patch-done L g w e .outcome)) (done-counted L g w)
+pub faces-counted : (L : ℕ) (g w u : List ℕ) → patchCall L g w u .number ≡ 0 → FacesCounted L g (patchCall L g w u)
+faces-counted L g w u e = subst (FacesCounted L g) (sym (patch-done L g w u e .outcome)) (done-counted L g w u)

@@ -21,6 +21,7 @@ use Rattle.meeting.specs.Met.{placeOf, endsOf, met, marked}
 use Rattle.marking.specs.Open.{opened, openRows, openCall}
 use Rattle.marking.specs.Mark.{markRows, markCall}
 use Rattle.patching.specs.Call.{patchDone, patchRows, patchCall}
+use Rattle.totals.specs.Totals.{marksIn, totals}
 use Rattle.signing.specs.Call.{signRows, signCall}
 use Rattle.surfacing.specs.Fit.{edgeFits, pointFits, signsFit}
 use Rattle.surfacing.specs.Listing.{quadCount}
@@ -34,7 +35,7 @@ unfolding
     examples single gap pair bytes marks isGrid oddFaces evenFaces rims patchRim patchOf flips patched flipCount signBytes quads levelOf
     along minus cross dot lesser greater apart units sides normal crossEach crossed axes
     triangleSpan edgeSpan separates noneSeparates edgeMet inRange latticeOf allInRange vertexAt triangleOf placeOf endsOf met marked
-    badLevel levelAt opened openRows openCall markRows markCall patchDone patchRows patchCall signRows signCall
+    badLevel levelAt opened openRows openCall markRows markCall patchDone patchRows patchCall marksIn totals signRows signCall
     edgeFits pointFits signsFit quadCount surfaceDone surfaceRows surfaceCall
 computed = (refl, refl, refl)
 

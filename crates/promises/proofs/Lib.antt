@@ -14,3 +14,5 @@ pub mod Jobs
 pub mod Accepting
 pub mod Partner
 pub mod Masking
+pub mod Totals
+pub mod Asking

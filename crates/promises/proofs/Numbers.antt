@@ -27,44 +27,46 @@ use Rattle.promises.specs.Stage.{promised, numberBy, Untouched, Conditio
 -- the number is that of the first row that applies
 first-given : (L : ℕ) (c : Call) → numberBy promised L c ≡ firstOf (table L c)
 unfolding openCall markCall patchCall patchDone signCall surfaceCall surfaceDone
-first-given L (Open g) = answered-number (λ o. o .number) (Opening.refused g) _ (λ i. refl) refl (openRows L g)
-first-given L (Mark g t) = answered-number (λ o. o .number) (Marking.refused (levelAt L) t g) _ (λ i. refl) refl (markRows L g t)
-first-given L (Patch g w) = answered-number (λ o. o .number) (Patching.refused g w) _ (λ i. refl) refl (patchRows L g w)
+first-given L (Open g u) = answered-number (λ o. o .number) (Opening.refused g u) _ (λ i. refl) refl (openRows L g u)
+first-given L (Mark g t u) = answered-number (λ o. o .number) (Marking.refused (levelAt L) t g u) _ (λ i. refl) refl (markRows L g t u)
+first-given L (Patch g w u) = answered-number (λ o. o .number) (Patching.refused g w u) _ (λ i. refl) refl (patchRows L g w u)
 first-given L (Sign g) = answered-number (λ o. o .number) (Signing.refused g) _ (λ i. refl) refl (signRows L g)
 first-given L (Surface g q) = answered-number (λ o. o .number) (Surfacing.refused q) _ (λ i. refl) refl (surfaceRows L g q)
 
 -- the numbers of the rows rise for each call but mark, where 24 stands at 4's place
 abbrev pub NotMark : Call → Type 0
-NotMark (Open g) = Unit {0}
-NotMark (Mark g t) = ⊥
-NotMark (Patch g w) = Unit {0}
+NotMark (Open g u) = Unit {0}
+NotMark (Mark g t u) = ⊥
+NotMark (Patch g w u) = Unit {0}
 NotMark (Sign g) = Unit {0}
 NotMark (Surface g q) = Unit {0}
 
 pub rows-rise : (L : ℕ) (c : Call) → NotMark c → rising 0 (table L c) ≡ true
 unfolding openRows markRows patchRows signRows surfaceRows
-rows-rise L (Open g) m = refl
-rows-rise L (Mark g t) m = absurd m
-rows-rise L (Patch g w) m = refl
+rows-rise L (Open g u) m = refl
+rows-rise L (Mark g t u) m = absurd m
+rows-rise L (Patch g w u) m = refl
 rows-rise L (Sign g) m = refl
 rows-rise L (Surface g q) m = refl
 
 -- any other number than 0 is a refusal, which keeps every buffer and returns counts of 0
 pub refusals-keep : (L : ℕ) (c : Call) → numberBy promised L c ≢ 0 → Untouched promised L c
 unfolding openCall markCall patchCall patchDone signCall surfaceCall surfaceDone
-refusals-keep L (Open g) n =
-    ap (λ (o : Opening.Outcome). o .grid) (answered-refused (λ o. o .number) (Opening.refused g) _ (λ i. refl) refl (openRows L g) n)
-refusals-keep L (Mark g t) n =
-    let e = answered-refused (λ o. o .number) (Marking.refused (levelAt L) t g) _ (λ i. refl) refl (markRows L g t) n in
-    ap (λ (o : Marking.Outcome). o .grid) e
-refusals-keep L (Patch g w) n =
-    let e = answered-refused (λ o. o .number) (Patching.refused g w) _ (λ i. refl) refl (patchRows L g w) n in (
+refusals-keep L (Open g u) n =
+    let e = answered-refused (λ o. o .number) (Opening.refused g u) _ (λ i. refl) refl (openRows L g u) n in
+    (ap (λ (o : Opening.Outcome). o .grid) e, ap (λ (o : Opening.Outcome). o .totals) e)
+refusals-keep L (Mark g t u) n =
+    let e = answered-refused (λ o. o .number) (Marking.refused (levelAt L) t g u) _ (λ i. refl) refl (markRows L g t u) n in
+    (ap (λ (o : Marking.Outcome). o .grid) e, ap (λ (o : Marking.Outcome). o .totals) e)
+refusals-keep L (Patch g w u) n =
+    let e = answered-refused (λ o. o .number) (Patching.refused g w u) _ (λ i. refl) refl (patchRows L g w u) n in (
       ap (λ (o : Patching.Outcome). o .rims) e,
       ap (λ (o : Patching.Outcome). o .flips) e,
       ap (λ (o : Patching.Outcome). o .ones) e,
       ap (λ (o : Patching.Outcome). o .threes) e,
       ap (λ (o : Patching.Outcome). o .grid) e,
       ap (λ (o : Patching.Outcome). o .work) e,
+      ap (λ (o : Patching.Outcome). o .totals) e,
     )
 refusals-keep L (Sign g) n =
     ap (λ (o : Signing.Outcome). o .grid) (answered-refused (λ o. o .number) (Signing.refused g) _ (λ i. refl) refl (signRows L g) n)

@@ -10,7 +10,7 @@ use Rattle.refusals.specs.declared.Answer.the-variants.{Done, Refused}
 use Rattle.refusals.specs.Reasons.{answerNumber, readNumber}
 use Rattle.refusals.proofs.Reasons.{read-back}
 use Rattle.refusals.specs.declared.Refusal.the-variants.{BadLevel, ShortBuffer, NotNine, NoGrid, OddFace, SignsMisfit, ShortList}
-use Rattle.refusals.specs.declared.Refusal.the-variants.{WrongLength, TextForm, TooFar, BadScale, NotFours, CutShort, BadKind, BadPlace}
+use Rattle.refusals.specs.declared.Refusal.the-variants.{WrongLength, TextForm, TooFar, BadScale, BadBox, ShortTable, NotFours, CutShort, BadKind, BadPlace}
 use Rattle.marking.specs.declared.MarkAnswer.{MarkAnswer}
 use Rattle.marking.specs.declared.MarkAnswer.the-variants as Mark
 use Rattle.marking.specs.Outcome as Opening
@@ -35,68 +35,78 @@ answer-back : (r : Answer) → readNumber (answerNumber r) Done Refused ≡ r
 answer-back Done = refl
 answer-back (Refused r) = read-back Done Refused r
 
--- ---- open: the answer and the grid
-pub open-one : (L : ℕ) (g : List ℕ) (x y : Answer × List ℕ) →
-    Opening.told (x .0) (x .1) ≡ openCall L g → Opening.told (y .0) (y .1) ≡ openCall L g → x ≡ y
-open-one L g =
-    settled (λ x. Opening.told (x .0) (x .1)) (λ o. (readNumber (o .number) Done Refused, o .grid))
-    (λ x. ap (λ (a : Answer). (a, x .1)) (answer-back (x .0))) (openCall L g)
+-- ---- open: the answer, the grid and the totals
+pub open-one : (L : ℕ) (g u : List ℕ) (x y : Answer × List ℕ × List ℕ) →
+    Opening.told (x .0) (x .1) (x .2) ≡ openCall L g u → Opening.told (y .0) (y .1) (y .2) ≡ openCall L g u → x ≡ y
+open-one L g u =
+    settled (λ x. Opening.told (x .0) (x .1) (x .2)) (λ o. (readNumber (o .number) Done Refused, o .grid, o .totals))
+    (λ x. ap (λ (a : Answer). (a, x .1, x .2)) (answer-back (x .0))) (openCall L g u)
 
--- ---- mark: the answer with its place and axis, and the grid
-abbrev pub markTold : MarkAnswer × List ℕ → Marking.Outcome
-markTold x = Marking.told (x .0) (x .1)
+-- ---- mark: the answer with its place and axis, the grid and the totals
+abbrev pub markTold : MarkAnswer × List ℕ × List ℕ → Marking.Outcome
+markTold x = Marking.told (x .0) (x .1) (x .2)
 
-markRead : Marking.Outcome → MarkAnswer × List ℕ
+markRead : Marking.Outcome → MarkAnswer × List ℕ × List ℕ
 markRead o =
-    let k = o .number in
-    (cond (eqb k 4) (Mark.Below (o .place) (o .axis)) (cond (eqb k 24) (Mark.Above (o .place) (o .axis)) (readNumber k Mark.Done Mark.Refused)), o .grid)
+    let k = o .number in (
+      cond (eqb k 4) (Mark.Below (o .place) (o .axis)) (cond (eqb k 24) (Mark.Above (o .place) (o .axis)) (readNumber k Mark.Done Mark.Refused)),
+      o .grid,
+      o .totals,
+    )
 
-mark-back : (r : MarkAnswer) (g : List ℕ) → markRead (Marking.told r g) ≡ (r, g)
+mark-back : (r : MarkAnswer) (g u : List ℕ) → markRead (Marking.told r g u) ≡ (r, g, u)
 unfolding markRead
-mark-back Mark.Done g = refl
-mark-back (Mark.Refused BadLevel) g = refl
-mark-back (Mark.Refused ShortBuffer) g = refl
-mark-back (Mark.Refused NotNine) g = refl
-mark-back (Mark.Refused NoGrid) g = refl
-mark-back (Mark.Refused OddFace) g = refl
-mark-back (Mark.Refused SignsMisfit) g = refl
-mark-back (Mark.Refused ShortList) g = refl
-mark-back (Mark.Refused WrongLength) g = refl
-mark-back (Mark.Refused TextForm) g = refl
-mark-back (Mark.Refused TooFar) g = refl
-mark-back (Mark.Refused BadScale) g = refl
-mark-back (Mark.Refused NotFours) g = refl
-mark-back (Mark.Refused CutShort) g = refl
-mark-back (Mark.Refused BadKind) g = refl
-mark-back (Mark.Refused BadPlace) g = refl
-mark-back (Mark.Below p a) g = refl
-mark-back (Mark.Above p a) g = refl
+mark-back Mark.Done g u = refl
+mark-back (Mark.Refused BadLevel) g u = refl
+mark-back (Mark.Refused ShortBuffer) g u = refl
+mark-back (Mark.Refused NotNine) g u = refl
+mark-back (Mark.Refused NoGrid) g u = refl
+mark-back (Mark.Refused OddFace) g u = refl
+mark-back (Mark.Refused SignsMisfit) g u = refl
+mark-back (Mark.Refused ShortList) g u = refl
+mark-back (Mark.Refused WrongLength) g u = refl
+mark-back (Mark.Refused TextForm) g u = refl
+mark-back (Mark.Refused TooFar) g u = refl
+mark-back (Mark.Refused BadScale) g u = refl
+mark-back (Mark.Refused BadBox) g u = refl
+mark-back (Mark.Refused ShortTable) g u = refl
+mark-back (Mark.Refused NotFours) g u = refl
+mark-back (Mark.Refused CutShort) g u = refl
+mark-back (Mark.Refused BadKind) g u = refl
+mark-back (Mark.Refused BadPlace) g u = refl
+mark-back (Mark.Below p a) g u = refl
+mark-back (Mark.Above p a) g u = refl
 
-pub mark-one : (L : ℕ) (g : List ℕ) (t : List ℤ) (x y : MarkAnswer × List ℕ) →
-    markTold x ≡ markCall L g t → markTold y ≡ markCall L g t → x ≡ y
-mark-one L g t = settled markTold markRead (λ z. mark-back (z .0) (z .1)) (markCall L g t)
+pub mark-one : (L : ℕ) (g : List ℕ) (t : List ℤ) (u : List ℕ) (x y : MarkAnswer × List ℕ × List ℕ) →
+    markTold x ≡ markCall L g t u → markTold y ≡ markCall L g t u → x ≡ y
+mark-one L g t u = settled markTold markRead (λ z. mark-back (z .0) (z .1) (z .2)) (markCall L g t u)
 
 -- M-103: mark and mark_tree have one promise, so that nobody can tell them apart: lent the same, they give the same answer with its
--- place and axis and leave the same buffer, refusals included
-pub either-way : (L : ℕ) (g : List ℕ) (t : List ℤ) (scanned walked : MarkAnswer × List ℕ) →
-    markTold scanned ≡ markCall L g t → markTold walked ≡ markCall L g t → (scanned .0 ≡ walked .0) × (scanned .1 ≡ walked .1)
-either-way L g t x y e f = let h = mark-one L g t x y e f in (ap (λ (z : MarkAnswer × List ℕ). z .0) h, ap (λ (z : MarkAnswer × List ℕ). z .1) h)
+-- place and axis and leave the same buffer and table, refusals included
+pub either-way : (L : ℕ) (g : List ℕ) (t : List ℤ) (u : List ℕ) (scanned walked : MarkAnswer × List ℕ × List ℕ) →
+    markTold scanned ≡ markCall L g t u → markTold walked ≡ markCall L g t u → (scanned .0 ≡ walked .0) × (scanned .1 ≡ walked .1) × (scanned .2 ≡ walked .2)
+either-way L g t u x y e f =
+    let h = mark-one L g t u x y e f in (
+      ap (λ (z : MarkAnswer × List ℕ × List ℕ). z .0) h,
+      ap (λ (z : MarkAnswer × List ℕ × List ℕ). z .1) h,
+      ap (λ (z : MarkAnswer × List ℕ × List ℕ). z .2) h,
+    )
 
--- ---- patch: the answer, the grid and the work buffer
-abbrev pub patchTold : PatchAnswer × List ℕ × List ℕ → Patching.Outcome
-patchTold x = Patching.told (x .0) (x .1) (x .2)
+-- ---- patch: the answer, the grid, the work buffer and the totals
+abbrev pub patchTold : PatchAnswer × List ℕ × List ℕ × List ℕ → Patching.Outcome
+patchTold x = Patching.told (x .0) (x .1) (x .2) (x .3)
 
-patchRead : Patching.Outcome → PatchAnswer × List ℕ × List ℕ
-patchRead o = (readNumber (o .number) (Patch.Done (o .rims) (o .flips) (o .ones) (o .threes)) Patch.Refused, o .grid, o .work)
+patchRead : Patching.Outcome → PatchAnswer × List ℕ × List ℕ × List ℕ
+patchRead o = (readNumber (o .number) (Patch.Done (o .rims) (o .flips) (o .ones) (o .threes)) Patch.Refused, o .grid, o .work, o .totals)
 
-patch-back : (r : PatchAnswer) (g w : List ℕ) → patchRead (Patching.told r g w) ≡ (r, g, w)
+patch-back : (r : PatchAnswer) (g w u : List ℕ) → patchRead (Patching.told r g w u) ≡ (r, g, w, u)
 unfolding patchRead
-patch-back (Patch.Done r f o t) g w = refl
-patch-back (Patch.Refused r) g w = ap (λ (a : PatchAnswer). (a, g, w)) (read-back (Patch.Done 0 0 0 0) Patch.Refused r)
+patch-back (Patch.Done r f o t) g w u = refl
+patch-back (Patch.Refused r) g w u = ap (λ (a : PatchAnswer). (a, g, w, u)) (read-back (Patch.Done 0 0 0 0) Patch.Refused r)
 
-pub patch-one : (L : ℕ) (g w : List ℕ) (x y : PatchAnswer × List ℕ × List ℕ) →
-    patchTold x ≡ Patching.patchCall L g w → patchTold y ≡ Patching.patchCall L g w → x ≡ y
-patch-one L g w = settled patchTold patchRead (λ z. patch-back (z .0) (z .1) (z .2)) (Patching.patchCall L g w)
+pub patch-one : (L : ℕ) (g w u : List ℕ) (x y : PatchAnswer × List ℕ × List ℕ × List ℕ) →
+    patchTold x ≡ Patching.patchCall L g w u → patchTold y ≡ Patching.patchCall L g w u → x ≡ y
+patch-one L g w u = settled patchTold patchRead (λ z. patch-back (z .0) (z .1) (z .2) (z .3)) (Patching.patchCall L g w u)
 
 -- ---- sign: the answer and the grid
 pub sign-one : (L : ℕ) (g : List ℕ) (x y : Answer × List ℕ) →

@@ -35,37 +35,37 @@ use Rattle.promises.proofs.Done.{patch-done}
 use Rattle.promises.proofs.Condition.{Parity, parity-of}
 
 -- a wrong patch is done where the promised one is, and only there
-module _ (f : ℕ → List ℕ → Patching.Outcome → Patching.Outcome) (L : ℕ) (g w : List ℕ) where
-  was-done : Done (withPatch f) L g w → patchCall L g w .number ≡ 0
-  was-done = go (eqb (patchCall L g w .number) 0) refl
+module _ (f : ℕ → List ℕ → Patching.Outcome → Patching.Outcome) (L : ℕ) (g w u : List ℕ) where
+  was-done : Done (withPatch f) L g w u → patchCall L g w u .number ≡ 0
+  was-done = go (eqb (patchCall L g w u .number) 0) refl
     where
-      go : (b : Bool) → eqb (patchCall L g w .number) 0 ≡ b → cond b (f L g (patchCall L g w)) (patchCall L g w) .number ≡ 0 →
-          patchCall L g w .number ≡ 0
+      go : (b : Bool) → eqb (patchCall L g w u .number) 0 ≡ b → cond b (f L g (patchCall L g w u)) (patchCall L g w u) .number ≡ 0 →
+          patchCall L g w u .number ≡ 0
       go true e d = eqb→ _ 0 e
       go false e d = d
 
-  does : patchCall L g w .number ≡ 0 → withPatch f .patches L g w ≡ f L g (patchCall L g w)
-  does e = ap (λ (b : Bool). cond b (f L g (patchCall L g w)) (patchCall L g w)) (eqb-yes (patchCall L g w .number) 0 e)
+  does : patchCall L g w u .number ≡ 0 → withPatch f .patches L g w u ≡ f L g (patchCall L g w u)
+  does e = ap (λ (b : Bool). cond b (f L g (patchCall L g w u)) (patchCall L g w u)) (eqb-yes (patchCall L g w u .number) 0 e)
 
-  done-so : Done (withPatch f) L g w → withPatch f .patches L g w ≡ f L g (patchCall L g w)
+  done-so : Done (withPatch f) L g w u → withPatch f .patches L g w u ≡ f L g (patchCall L g w u)
   done-so d = does (was-done d)
 
 pub refusing-refuses : (f : ℕ → Call → ℕ) → ((L : ℕ) (c : Call) → f L c ≢ 0) → Refuses (refusing f)
 unfolding refusing
-refusing-refuses f never L (Open g) = never L (Open g)
-refusing-refuses f never L (Mark g t) = never L (Mark g t)
-refusing-refuses f never L (Patch g w) = never L (Patch g w)
+refusing-refuses f never L (Open g u) = never L (Open g u)
+refusing-refuses f never L (Mark g t u) = never L (Mark g t u)
+refusing-refuses f never L (Patch g w u) = never L (Patch g w u)
 refusing-refuses f never L (Sign g) = never L (Sign g)
 refusing-refuses f never L (Surface g q) = never L (Surface g q)
 
 -- the wrong grid in the outcome
 abbrev put : (ℕ → List ℕ → Set) → ℕ → List ℕ → Patching.Outcome → Patching.Outcome
-put F L g o = Patching.counted (o .rims) (o .flips) (o .ones) (o .threes) (bytes (cells L) (F L g) ++ drop (pointsAt L) g) (o .work)
+put F L g o = Patching.counted (o .rims) (o .flips) (o .ones) (o .threes) (bytes (cells L) (F L g) ++ drop (pointsAt L) g) (o .work) (o .totals)
 
 with-marks : (F : ℕ → List ℕ → Set) → Takes (withMarks F) × Yields F (withMarks F)
 with-marks F = (
-  λ L g w e. ap (λ (o : Patching.Outcome). o .number) (does (put F) L g w e),
-  λ L g w d. ap (λ (o : Patching.Outcome). o .grid) (done-so (put F) L g w d),
+  λ L g w u e. ap (λ (o : Patching.Outcome). o .number) (does (put F) L g w u e),
+  λ L g w u d. ap (λ (o : Patching.Outcome). o .grid) (done-so (put F) L g w u d),
 )
 
 pub emptying-empties : Takes emptying × Yields none emptying
@@ -79,8 +79,10 @@ patching-first = with-marks firstPatched
 pub leaving-leaves : Takes leaving × Leaves leaving
 unfolding leaving
 leaving-leaves = (
-  λ L g w e. ap (λ (o : Patching.Outcome). o .number) (does (λ K h o. Patching.counted (o .rims) (o .flips) (o .ones) (o .threes) h (o .work)) L g w e),
-  λ L g w d. ap (λ (o : Patching.Outcome). o .grid) (done-so (λ K h o. Patching.counted (o .rims) (o .flips) (o .ones) (o .threes) h (o .work)) L g w d),
+  λ L g w u e. ap (λ (o : Patching.Outcome). o .number)
+      (does (λ K h o. Patching.counted (o .rims) (o .flips) (o .ones) (o .threes) h (o .work) (o .totals)) L g w u e),
+  λ L g w u d. ap (λ (o : Patching.Outcome). o .grid)
+      (done-so (λ K h o. Patching.counted (o .rims) (o .flips) (o .ones) (o .threes) h (o .work) (o .totals)) L g w u d),
 )
 
 -- on a grid without marks
@@ -90,6 +92,7 @@ inventing-miscounts r f some = record {
   level = 2;
   grid = bytes 4 (setOf []);
   work = replicate 125 0;
+  totals = replicate 8 0;
   done = refl;
   wrong = λ h. let a : 0 + r ≡ 0 = h .0 in let b : 0 + f ≡ 0 = h .1 in some (omega arith, omega arith);
 }
@@ -104,6 +107,7 @@ exchanging-miscounts = record {
   level = 2;
   grid = lone;
   work = replicate 125 0;
+  totals = replicate 8 0;
   done = refl;
   wrong = λ h. let a : _≡_ {A = ℕ} 0 4 = h .2 in omega (arith, a);
 }
@@ -114,6 +118,7 @@ counting-after-miscounts = record {
   level = 2;
   grid = lone;
   work = replicate 125 0;
+  totals = replicate 8 0;
   done = refl;
   wrong = λ h. let a : _≡_ {A = ℕ} 0 4 = h .2 in omega (arith, a);
 }
@@ -124,6 +129,7 @@ flipping-more = record {
   level = 2;
   grid = bytes 4 (setOf []);
   work = replicate 125 0;
+  totals = replicate 8 0;
   done = refl;
   axis = X;
   point = record { i = 2; j = 2; k = 2 };
@@ -141,9 +147,9 @@ number-kept number refused named o = go (eqb (number o) 0)
 
 same-number : (L : ℕ) (c : Call) → numberBy wiping L c ≡ numberBy promised L c
 unfolding wiping
-same-number L (Open g) = number-kept (λ o. o .number) (Opening.refused (wiped g)) (λ k. refl) (openCall L g)
-same-number L (Mark g t) = number-kept (λ o. o .number) (Marking.refused (levelAt L) t (wiped g)) (λ k. refl) (markCall L g t)
-same-number L (Patch g w) = number-kept (λ o. o .number) (Patching.refused (wiped g) (wiped w)) (λ k. refl) (patchCall L g w)
+same-number L (Open g u) = number-kept (λ o. o .number) (Opening.refused (wiped g) (wiped u)) (λ k. refl) (openCall L g u)
+same-number L (Mark g t u) = number-kept (λ o. o .number) (Marking.refused (levelAt L) t (wiped g) (wiped u)) (λ k. refl) (markCall L g t u)
+same-number L (Patch g w u) = number-kept (λ o. o .number) (Patching.refused (wiped g) (wiped w) (wiped u)) (λ k. refl) (patchCall L g w u)
 same-number L (Sign g) = number-kept (λ o. o .number) (Signing.refused (wiped g)) (λ k. refl) (signCall L g)
 same-number L (Surface g q) = number-kept (λ o. o .number) (Surfacing.refused (wiped q)) (λ k. refl) (surfaceCall L g q)
 
@@ -157,20 +163,20 @@ pub wiping-spoils : Spoils wiping
 unfolding wiping openCall openRows badLevel levelAt levelOf
 wiping-spoils = record {
   level = 1;
-  call = Open (1 ∷ []);
+  call = Open (1 ∷ []) [];
   refused = λ e. omega arith;
-  changed = λ e. let k : _≡_ {A = ℕ} 0 1 = ap (λ (l : List ℕ). getD l 0 0) e in omega arith;
+  changed = λ e. let k : _≡_ {A = ℕ} 0 1 = ap (λ (l : List ℕ). getD l 0 0) (e .0) in omega arith;
 }
 
 -- the one that yields the empty grid keeps condition 3's parity: every face is even, sign takes the grid, and its bytes agree with the
 -- marks along any route
-parity : (L : ℕ) (g w : List ℕ) → Done emptying L g w → Parity L (emptying .patches L g w .grid)
+parity : (L : ℕ) (g w u : List ℕ) → Done emptying L g w u → Parity L (emptying .patches L g w u .grid)
 unfolding emptying
-parity L g w d =
-    let k = patch-done L g w (was-done (put none) L g w d) in
-    subst (λ (o : Patching.Outcome). Parity L (o .grid)) (sym (done-so (put none) L g w d))
+parity L g w u d =
+    let k = patch-done L g w u (was-done (put none) L g w u d) in
+    subst (λ (o : Patching.Outcome). Parity L (o .grid)) (sym (done-so (put none) L g w u d))
     (parity-of L (k .good) (λ a p. false) (λ a p q. absurd (true≢false (sym q))) (λ a p. refl) (drop (pointsAt L) g))
 
 pub emptying-keeps-parity : Even emptying × Signed emptying × Routed emptying
 unfolding emptying
-emptying-keeps-parity = (λ L g w d. parity L g w d .even, λ L g w d. parity L g w d .signed, λ L g w d. parity L g w d .routed)
+emptying-keeps-parity = (λ L g w u d. parity L g w u d .even, λ L g w u d. parity L g w u d .signed, λ L g w u d. parity L g w u d .routed)

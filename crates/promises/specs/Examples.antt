@@ -4,7 +4,7 @@ use mathlib.Core.List.{List, [], _∷_, _++_}
 use Prim.Native.Nat.{ℕ}
 use lib.Dec.{eqb}
 use lib.IntN.{ℤ, pos}
-use lib.ListN.{length, replicate}
+use lib.ListN.{length, getD, replicate}
 use Rattle.rules.specs.declared.Axis.{Axis}
 use Rattle.rules.specs.declared.Axis.the-variants.{X, Y}
 use Rattle.rules.specs.declared.Point.{Point}
@@ -34,7 +34,7 @@ pub data Given : Type 0 where
   triangle : List ℤ → Given
 
 -- what the rules say of it: the number of odd faces, of rims, of the one rim's faces, of flips, of quads; the marks after mark
--- and after patch; the points inside
+-- and after patch; the points inside; the total of block 0 after patch
 pub data Stated : Type 0 where
   oddFaces : ℕ → Stated
   rims : ℕ → Stated
@@ -44,6 +44,7 @@ pub data Stated : Type 0 where
   result : List Edge → Stated
   inside : List Point → Stated
   quads : ℕ → Stated
+  total : ℕ → Stated
 
 pub record Example : Type 0 where
   pub given : Given
@@ -63,8 +64,8 @@ unfoldable pub examples : List Example
 examples =
     -- 1. no marks: 0 rims, 0 flips; no quads
     record { given = edges []; stated = rims 0 ∷ (flips 0 ∷ (quads 0 ∷ [])) }
-    -- 2. the six edges of point (2,2,2): 0 rims; only point (2,2,2) inside
-    ∷ (record { given = edges Drawn.single; stated = rims 0 ∷ (inside (point 2 2 2 ∷ []) ∷ []) }
+    -- 2. the six edges of point (2,2,2): 0 rims; only point (2,2,2) inside; 6 marks in block 0
+    ∷ (record { given = edges Drawn.single; stated = rims 0 ∷ (inside (point 2 2 2 ∷ []) ∷ (total 6 ∷ [])) }
     -- 3. as 2 without x(2,2,2): four odd faces, 1 rim, 1 flip, result as 2
     ∷ (record { given = edges Drawn.gap; stated = oddFaces 4 ∷ (rims 1 ∷ (flips 1 ∷ (result Drawn.single ∷ []))) }
     -- 4. x(2,2,2) alone: 1 rim, 1 flip, empty grid
@@ -97,16 +98,20 @@ pub record Run : Type 0 where
 abbrev lent : List ℕ
 lent = replicate 125 255
 
+-- a table for 8 blocks, none of whose totals is true
+abbrev untrue : List ℕ
+untrue = replicate 8 200
+
 -- the grid to begin with
 abbrev begun : Given → Marking.Outcome
-begun (edges l) = Marking.done (Grid.bytes 4 (setOf l))
-begun (triangle t) = markCall 2 (openCall 2 lent .grid) t
+begun (edges l) = Marking.done (Grid.bytes 4 (setOf l)) untrue
+begun (triangle t) = let o = openCall 2 lent untrue in markCall 2 (o .grid) t (o .totals)
 
 -- through patch, sign and surface, with room for 96 quads
 abbrev pub run : Given → Run
 run s =
     let m = begun s in
-    let p = Patching.patchCall 2 (m .grid) lent in
+    let p = Patching.patchCall 2 (m .grid) lent (m .totals) in
     let b = Signing.signCall 2 (p .grid) in
     record { marking = m; patching = p; signing = b; surfacing = Surfacing.surfaceCall 2 (b .grid) (replicate 384 65535) }
 
@@ -124,6 +129,7 @@ holds r (marked l) = sameEdges (Grid.marks 4 (r .marking .grid)) (setOf l)
 holds r (result l) = sameEdges (Grid.marks 4 (r .patching .grid)) (setOf l)
 holds r (inside l) = allOf (λ q. Bool·beq (Grid.inside 4 (r .signing .grid) q) (anyOf (samePoint q) l)) (Lattice.points 5)
 holds r (quads k) = eqb (r .surfacing .quads) k
+holds r (total k) = eqb (getD (r .patching .totals) 0 0) k
 
 -- every call is done, and all that is stated is so
 abbrev pub right : Example → Bool

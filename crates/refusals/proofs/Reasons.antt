@@ -4,7 +4,7 @@ use mathlib.Core.Bool.{Bool, true, false, true≢false}
 use Prim.Native.Nat.{ℕ}
 use Rattle.refusals.specs.declared.Refusal.{Refusal}
 use Rattle.refusals.specs.declared.Refusal.the-variants.{BadLevel, ShortBuffer, NotNine, NoGrid, OddFace, SignsMisfit, ShortList, WrongLength, TextForm, TooFar, BadScale}
-use Rattle.refusals.specs.declared.Refusal.the-variants.{NotFours, CutShort, BadKind, BadPlace}
+use Rattle.refusals.specs.declared.Refusal.the-variants.{BadBox, ShortTable, NotFours, CutShort, BadKind, BadPlace}
 use Rattle.refusals.specs.Reasons.{numberOf, readNumber}
 
 pub read-back : {A : Type 0} (done : A) (refused : Refusal → A) (r : Refusal) → readNumber (numberOf r) done refused ≡ refused r
@@ -19,6 +19,8 @@ read-back done refused WrongLength = refl
 read-back done refused TextForm = refl
 read-back done refused TooFar = refl
 read-back done refused BadScale = refl
+read-back done refused BadBox = refl
+read-back done refused ShortTable = refl
 read-back done refused NotFours = refl
 read-back done refused CutShort = refl
 read-back done refused BadKind = refl

@@ -1,10 +1,11 @@
 -- The columns that the calls have in common. Assumes nothing.
 use mathlib.Core.Bool.{Bool, not, _&&_}
 use mathlib.Core.List.{List}
-use Prim.Native.Nat.{ℕ}
+use Prim.Native.Nat.{ℕ, _/_}
 use lib.Dec.{leb, ltb}
 use lib.ListN.{length}
 use Rattle.rules.specs.Lists.{anyOf}
+use Rattle.rules.specs.Lattice.{pointCount}
 use Rattle.lattice.specs.declared.level.Level.{Level}
 use Rattle.lattice.specs.declared.level.Level.the-variants.{Two}
 use Rattle.lattice.specs.declared.level.LevelRead.{LevelRead}
@@ -26,3 +27,7 @@ levelAt k = orTwo (levelOf k)
 -- 2: a grid, work or sign buffer shorter than P
 abbrev pub someShort : ℕ → List (List ℕ) → Bool
 someShort P buffers = anyOf (λ b. ltb (length b) P) buffers
+
+-- 16: a table with fewer totals than there are blocks of 4 × 4 × 4 points, numbered like the points of a grid of n/4 cells a side
+abbrev pub shortTable : ℕ → List ℕ → Bool
+shortTable n t = ltb (length t) (pointCount (n / 4))

@@ -7,7 +7,7 @@ use Rattle.refusals.specs.declared.Answer.{Answer}
 use Rattle.refusals.specs.declared.Answer.the-variants.{Done, Refused}
 use Rattle.refusals.specs.declared.Refusal.{Refusal}
 use Rattle.refusals.specs.declared.Refusal.the-variants.{BadLevel, ShortBuffer, NotNine, NoGrid, OddFace, SignsMisfit, ShortList, WrongLength, TextForm, TooFar, BadScale}
-use Rattle.refusals.specs.declared.Refusal.the-variants.{NotFours, CutShort, BadKind, BadPlace}
+use Rattle.refusals.specs.declared.Refusal.the-variants.{BadBox, ShortTable, NotFours, CutShort, BadKind, BadPlace}
 
 abbrev pub numberOf : Refusal → ℕ
 numberOf BadLevel = 1
@@ -21,6 +21,8 @@ numberOf WrongLength = 10
 numberOf TextForm = 11
 numberOf TooFar = 13
 numberOf BadScale = 14
+numberOf BadBox = 15
+numberOf ShortTable = 16
 numberOf NotFours = 17
 numberOf CutShort = 18
 numberOf BadKind = 19
@@ -35,7 +37,7 @@ answerNumber (Refused r) = numberOf r
 abbrev pub refusals : List Refusal
 refusals =
     BadLevel ∷ ShortBuffer ∷ NotNine ∷ NoGrid ∷ OddFace ∷ SignsMisfit ∷ ShortList
-    ∷ WrongLength ∷ TextForm ∷ TooFar ∷ BadScale ∷ NotFours ∷ CutShort ∷ BadKind ∷ BadPlace ∷ []
+    ∷ WrongLength ∷ TextForm ∷ TooFar ∷ BadScale ∷ BadBox ∷ ShortTable ∷ NotFours ∷ CutShort ∷ BadKind ∷ BadPlace ∷ []
 
 -- the refusal of a number
 abbrev pub refusalIn : List Refusal → ℕ → Refusal

@@ -28,7 +28,10 @@ use Rattle.masks.specs.Mask.{masks}
 use Rattle.masks.specs.Call.{done as pictured, masksRows, masksCall}
 use Rattle.signing.proofs.Only.{signs-grid, signs-marks}
 use Rattle.surfacing.proofs.Misfit.{signs-fit}
+use Rattle.totals.specs.Totals.{trued}
+use Rattle.feeding.specs.Lent.{lentTotals}
 use Rattle.feeding.specs.Feed.{Ready}
+use Rattle.feeding.proofs.Lent.{lent-long}
 use Rattle.feeding.proofs.Marked.{known}
 use Rattle.reporting.specs.Close.{Closed}
 
@@ -40,9 +43,9 @@ module _ (l : Level) (g : List ℕ) (long : pointsOf l ≤ length g) (grid : isG
   level-is = known l .1
 
   -- ---- patch is done
-  patch-done : (w : List ℕ) → pointsOf l ≤ length w → patchCall (numberOf l) g w ≡ patchDone (cellsOf l) g w
+  patch-done : (w : List ℕ) → pointsOf l ≤ length w → patchCall (numberOf l) g w lentTotals ≡ patchDone (cellsOf l) g w lentTotals
   unfolding patchRows patchCall
-  patch-done w room = rw (level-is, good, le-ltb (length g) (pointsOf l) long, le-ltb (length w) (pointsOf l) room, grid)
+  patch-done w room = rw (level-is, good, le-ltb (length g) (pointsOf l) long, le-ltb (length w) (pointsOf l) room, grid, lent-long l)
 
   -- ---- sign is done where no face is odd
   sign-done : evenFaces (cellsOf l) (marks (cellsOf l) g) ≡ true → signCall (numberOf l) g ≡ done (signBytes (cellsOf l) (marks (cellsOf l) g) ++ drop (pointsOf l) g)
@@ -80,7 +83,7 @@ module _ (n : ℕ) (g : List ℕ) where
   left-even = ap (evenFaces n) left-marks ∙ even-all n (patched n (marks n g)) inner-all .1 (patched-even n (marks n g) (marks-inner n g))
 
 -- the grid that a done patch leaves
-module _ (l : Level) (g w : List ℕ) {r f o t : ℕ} {h v : List ℕ} (e : counted r f o t h v ≡ patchDone (cellsOf l) g w) where
+module _ (l : Level) (g w : List ℕ) {r f o t : ℕ} {h v s : List ℕ} (e : counted r f o t h v s ≡ patchDone (cellsOf l) g w lentTotals) where
   is-left : h ≡ left (cellsOf l) g
   unfolding patchDone
   is-left = ap (λ (o : Patching). o .grid) e
@@ -102,7 +105,8 @@ module _ (n : ℕ) (h : List ℕ) (even : evenFaces n (marks n h) ≡ true) wher
       ∙ signs-fit n h even (drop (pointCount n) h)
 
 -- a grid that was patched, and then signed
-pub closing : (l : Level) (g w : List ℕ) {r f o t : ℕ} {h v s : List ℕ} → Ready l g → pointsOf l ≤ length w → counted r f o t h v ≡ patchDone (cellsOf l) g w
+pub closing : (l : Level) (g w : List ℕ) {r f o t : ℕ} {h v s : List ℕ} → Ready l g → pointsOf l ≤ length w
+    → counted r f o t h v (trued (cellsOf l) h lentTotals) ≡ patchDone (cellsOf l) g w lentTotals
     → pointsOf l ≤ length h → s ≡ signBytes (cellsOf l) (marks (cellsOf l) h) ++ drop (pointsOf l) h → pointsOf l ≤ length s → Closed l g w r f o t s v
 closing l g w {r} {f} {o} {t} {h} {v} {s} k room e h-long d s-long =
     let p = patch-left l g w e in

@@ -27,6 +27,8 @@ use Rattle.masks.specs.Mask.{masks}
 use Rattle.masks.specs.Call.{done as pictured, masksCall}
 use Rattle.picture.specs.Picture.{picture}
 use Rattle.reporting.specs.Report.{lentBytes, lentList, unless, closed, surfaced, layered, masked}
+use Rattle.totals.specs.Totals.{trued}
+use Rattle.feeding.specs.Lent.{lentTotals}
 use Rattle.reporting.specs.Close.{Closed}
 use Rattle.feeding.proofs.Marked.{known}
 use Rattle.reporting.proofs.Called.{surface-listed, masks-done}
@@ -51,7 +53,7 @@ module _ (l : Level) (g : List ℕ) {rims flips ones threes : ℕ} {h v : List �
   n = cellsOf l
 
   -- patch and sign are done, and what comes next is printed
-  pub closed-is : (next : Patching → Signing → List ℕ) → closed (levelNumber l) g next ≡ next (counted rims flips ones threes (k .patched) v) (done h)
+  pub closed-is : (next : Patching → Signing → List ℕ) → closed (levelNumber l) g next ≡ next (counted rims flips ones threes (k .patched) v (trued n (k .patched) lentTotals)) (done h)
   unfolding closed
   closed-is next = rw (sym (k .is-patch), sym (k .is-sign))
 

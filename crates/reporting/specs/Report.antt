@@ -10,6 +10,7 @@ use Rattle.refusals.specs.Columns.{levelAt}
 use Rattle.patching.specs.Call.{Outcome as Patching, patchCall}
 use Rattle.signing.specs.Call.{Outcome as Signing, signCall}
 use Rattle.surfacing.specs.Call.{Outcome as Surfacing, surfaceCall}
+use Rattle.feeding.specs.Lent.{lentTotals}
 use Rattle.text.specs.declared.listing.Repaired.{Repaired}
 use Rattle.text.specs.Listing.{refusedLine, facesLine, listing}
 use Rattle.masks.specs.Mask.{masks}
@@ -30,7 +31,7 @@ unless (suc k) next = refusedLine (suc k)
 -- patch, then sign, and then what comes next
 unfoldable pub closed : ℕ → List ℕ → (Patching → Signing → List ℕ) → List ℕ
 closed level g next =
-    let p = patchCall level g lentBytes in
+    let p = patchCall level g lentBytes lentTotals in
     let b = signCall level (p .grid) in
     unless (p .number) (unless (b .number) (next p b))
 

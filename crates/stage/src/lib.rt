@@ -1,11 +1,13 @@
 // The calls as C functions, for the slicer to link: an answer is its number, and counts go behind references. Each promise is
 // that of the call it hands on to, read the same way: number, counts and every buffer, for all inputs.
 use accepting::AcceptAnswer;
+use asking::AskAnswer;
 use job_reading::ReadAnswer as ReadJobAnswer;
 use job_writing::WriteAnswer as WriteJobAnswer;
 use marking::MarkAnswer;
 use masks::MasksAnswer;
 use patching::PatchAnswer;
+use rules::Point;
 use stl_reading::ReadAnswer;
 use stl_writing::WriteAnswer;
 use surfacing::SurfaceAnswer;
@@ -24,18 +26,19 @@ ghost use Rattle.job_reading.specs.Read.{Numbers as JobNumbers, numbersOf, read
 ghost use Rattle.job_writing.specs.Write.{Outcome as WriteJobOutcome, writeCall as writeJobCall};
 ghost use Rattle.accepting.specs.Call.{Outcome as AcceptOutcome, acceptCall};
 ghost use Rattle.masks.specs.Call.{Outcome as MasksOutcome, masksCall};
+ghost use Rattle.asking.specs.Call.{Outcome as AskOutcome, Counted, told as askTold, anyCall, trueCall, countCall};
 
-// Open (level, grid): the P bytes become 0.
+// Open (level, grid, totals): the P bytes become 0, and so does the total of each block.
 #[no_mangle]
-pub extern "C" fn omphirun_open(level: u32, grid: &mut [u8]) -> u32
-    ensures { λ r. ⌜ _≡_ {A = OpenOutcome} (record { number = r; grid = now (grid .exit) }) (openCall level (now (grid .entry))) ⌝ }
+pub extern "C" fn omphirun_open(level: u32, grid: &mut [u8], totals: &mut [u16]) -> u32
+    ensures { λ r. ⌜ _≡_ {A = OpenOutcome} (record { number = r; grid = now (grid .exit); totals = now (totals .exit) }) (openCall level (now (grid .entry)) (now (totals .entry))) ⌝ }
 {
-    marking::open(level, grid).number()
+    marking::open(level, grid, totals).number()
 }
 
 // Tells what mark answers: the number, and of the first bad coordinate the place and the axis, both 0 in other answers.
 fn tell_mark(r: MarkAnswer, place: &mut u32, axis: &mut u32) -> u32
-    ensures { λ n. ⌜ ((g : List ℕ) → _≡_ {A = MarkOutcome} (record { number = n; place = now (place .exit); axis = now (axis .exit); grid = g }) (told r g)) ⌝ }
+    ensures { λ n. ⌜ ((g t : List ℕ) → _≡_ {A = MarkOutcome} (record { number = n; place = now (place .exit); axis = now (axis .exit); grid = g; totals = t }) (told r g t)) ⌝ }
 {
     *place = 0;
     *axis = 0;
@@ -55,19 +58,20 @@ fn tell_mark(r: MarkAnswer, place: &mut u32, axis: &mut u32) -> u32
     }
 }
 
-// Mark (level, grid, triangle as nine i32): the marks of edges met are added; none is removed. Of the first bad coordinate the place,
-// 0 to 8, and the axis, 0 to 2, are returned; both are 0 in other answers.
+// Mark (level, grid, triangle as nine i32, totals): the marks of edges met are added; none is removed; every total is true afterwards. Of the first
+// bad coordinate the place, 0 to 8, and the axis, 0 to 2, are returned; both are 0 in other answers.
 #[no_mangle]
 pub extern "C" fn omphirun_mark(
     level: u32,
     grid: &mut [u8],
     triangle: &[i32],
+    totals: &mut [u16],
     place: &mut u32,
     axis: &mut u32,
 ) -> u32
-    ensures { λ r. ⌜ _≡_ {A = MarkOutcome} (record { number = r; place = now (place .exit); axis = now (axis .exit); grid = now (grid .exit) }) (markCall level (now (grid .entry)) (now (triangle .entry))) ⌝ }
+    ensures { λ r. ⌜ _≡_ {A = MarkOutcome} (record { number = r; place = now (place .exit); axis = now (axis .exit); grid = now (grid .exit); totals = now (totals .exit) }) (markCall level (now (grid .entry)) (now (triangle .entry)) (now (totals .entry))) ⌝ }
 {
-    tell_mark(marking::mark(level, grid, triangle), place, axis)
+    tell_mark(marking::mark(level, grid, triangle, totals), place, axis)
 }
 
 // The same by the descent through cubes, for triangles that reach through much of the grid: the promise is mark's own.
@@ -76,33 +80,39 @@ pub extern "C" fn omphirun_mark_tree(
     level: u32,
     grid: &mut [u8],
     triangle: &[i32],
+    totals: &mut [u16],
     place: &mut u32,
     axis: &mut u32,
 ) -> u32
-    ensures { λ r. ⌜ _≡_ {A = MarkOutcome} (record { number = r; place = now (place .exit); axis = now (axis .exit); grid = now (grid .exit) }) (markCall level (now (grid .entry)) (now (triangle .entry))) ⌝ }
+    ensures { λ r. ⌜ _≡_ {A = MarkOutcome} (record { number = r; place = now (place .exit); axis = now (axis .exit); grid = now (grid .exit); totals = now (totals .exit) }) (markCall level (now (grid .entry)) (now (triangle .entry)) (now (totals .entry))) ⌝ }
 {
-    tell_mark(marking::mark_tree(level, grid, triangle), place, axis)
+    tell_mark(
+        marking::mark_tree(level, grid, triangle, totals),
+        place,
+        axis,
+    )
 }
 
-// Patch (level, grid, work buffer): the grid is patched, and the number of rims, of flips, and of faces with one mark and with three in the
-// grid as it came is returned.
+// Patch (level, grid, work buffer, totals): the grid is patched, every total is true afterwards, and the number of rims, of flips, and of faces with
+// one mark and with three in the grid as it came is returned.
 #[no_mangle]
 pub extern "C" fn omphirun_patch(
     level: u32,
     grid: &mut [u8],
     work: &mut [u8],
+    totals: &mut [u16],
     rims: &mut u32,
     flips: &mut u32,
     ones: &mut u32,
     threes: &mut u32,
 ) -> u32
-    ensures { λ r. ⌜ _≡_ {A = PatchOutcome} (record { number = r; rims = now (rims .exit); flips = now (flips .exit); ones = now (ones .exit); threes = now (threes .exit); grid = now (grid .exit); work = now (work .exit) }) (patchCall level (now (grid .entry)) (now (work .entry))) ⌝ }
+    ensures { λ r. ⌜ _≡_ {A = PatchOutcome} (record { number = r; rims = now (rims .exit); flips = now (flips .exit); ones = now (ones .exit); threes = now (threes .exit); grid = now (grid .exit); work = now (work .exit); totals = now (totals .exit) }) (patchCall level (now (grid .entry)) (now (work .entry)) (now (totals .entry))) ⌝ }
 {
     *rims = 0;
     *flips = 0;
     *ones = 0;
     *threes = 0;
-    match patching::patch(level, grid, work) {
+    match patching::patch(level, grid, work, totals) {
         PatchAnswer::Done {
             rims: r,
             flips: f,
@@ -117,6 +127,72 @@ pub extern "C" fn omphirun_patch(
         }
         PatchAnswer::Refused(why) => why.number(),
     }
+}
+
+// Tells what a question about the table of totals answers: the number, and 1 for yes, 0 for no and in a refusal.
+fn tell_ask(r: AskAnswer, said: &mut u32) -> u32
+    ensures { λ n. ⌜ _≡_ {A = AskOutcome} (record { number = n; yes = now (said .exit) }) (askTold r) ⌝ }
+{
+    *said = 0;
+    match r {
+        AskAnswer::Yes => {
+            *said = 1;
+            0
+        }
+        AskAnswer::No => 0,
+        AskAnswer::Refused(why) => why.number(),
+    }
+}
+
+// Any mark (level, grid, totals, lowest and highest point of a box, both in it): whether the box has a mark, from the table for blocks wholly inside
+// it and from the bytes for blocks partly inside.
+#[no_mangle]
+pub extern "C" fn omphirun_any_mark(
+    level: u32,
+    grid: &[u8],
+    totals: &[u16],
+    low_i: u32,
+    low_j: u32,
+    low_k: u32,
+    high_i: u32,
+    high_j: u32,
+    high_k: u32,
+    any: &mut u32,
+) -> u32
+    ensures { λ r. ⌜ _≡_ {A = AskOutcome} (record { number = r; yes = now (any .exit) }) (anyCall level (now (grid .entry)) (now (totals .entry)) (record { i = «low_i»; j = «low_j»; k = «low_k» }) (record { i = «high_i»; j = «high_j»; k = «high_k» })) ⌝ }
+{
+    let low = Point {
+        i: low_i as usize,
+        j: low_j as usize,
+        k: low_k as usize,
+    };
+    let high = Point {
+        i: high_i as usize,
+        j: high_j as usize,
+        k: high_k as usize,
+    };
+    tell_ask(asking::any_mark(level, grid, totals, low, high), any)
+}
+
+// Totals true (level, grid, totals): whether every total is true.
+#[no_mangle]
+pub extern "C" fn omphirun_totals_true(
+    level: u32,
+    grid: &[u8],
+    totals: &[u16],
+    yes: &mut u32,
+) -> u32
+    ensures { λ r. ⌜ _≡_ {A = AskOutcome} (record { number = r; yes = now (yes .exit) }) (trueCall level (now (grid .entry)) (now (totals .entry))) ⌝ }
+{
+    tell_ask(asking::totals_true(level, grid, totals), yes)
+}
+
+// Count totals (level, grid, totals): makes every total true for the bytes as they are.
+#[no_mangle]
+pub extern "C" fn omphirun_count_totals(level: u32, grid: &[u8], totals: &mut [u16]) -> u32
+    ensures { λ r. ⌜ _≡_ {A = Counted} (record { number = r; totals = now (totals .exit) }) (countCall level (now (grid .entry)) (now (totals .entry))) ⌝ }
+{
+    asking::count_totals(level, grid, totals).number()
 }
 
 // Sign (level, grid): writes the signs of the P points and leaves the marks.

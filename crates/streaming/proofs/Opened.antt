@@ -12,6 +12,7 @@ use Rattle.lattice.specs.declared.level.LevelRead.the-variants.{Known, Unknown}
 use Rattle.lattice.specs.Levels.{levelOf, numberOf, cellsOf, pointsOf}
 use Rattle.grids.proofs.Ahead.{open-grid, open-unsigned}
 use Rattle.refusals.proofs.Levels.{read-unknown, read-known, good-number}
+use Rattle.totals.specs.Totals.{trued}
 use Rattle.marking.specs.Outcome.{done}
 use Rattle.marking.specs.Open.{opened, openRows, openCall}
 use Rattle.text.specs.Listing.{refusedLine}
@@ -24,6 +25,8 @@ use Rattle.reporting.proofs.Lent.{bytes-long}
 use Rattle.streaming.specs.Stream.{shown, printedTaken, printed}
 use Rattle.feeding.specs.Feed.{Ready}
 use Rattle.streaming.specs.Read.{Streamed}
+use Rattle.feeding.specs.Lent.{lentTotals}
+use Rattle.feeding.proofs.Lent.{lent-long}
 use Rattle.feeding.proofs.Marked.{known}
 use Rattle.feeding.proofs.Taken.{taken-end}
 
@@ -50,9 +53,9 @@ module _ (l : Level) where
       (ap (drop (pointsOf l)) split ∙ drop-at (replicate (pointsOf l) 0) (replicate (35937 - pointsOf l) 0) (pointsOf l) (length-replicate {A = ℕ} (pointsOf l) 0))
       ∙ sym split
 
-  pub open-done : openCall (numberOf l) lentBytes ≡ done lentBytes
+  pub open-done : openCall (numberOf l) lentBytes lentTotals ≡ done lentBytes (trued (cellsOf l) lentBytes lentTotals)
   unfolding openRows openCall
-  open-done = rw (known l .1, known l .0, le-ltb (length lentBytes) (pointsOf l) (bytes-long l), open-still)
+  open-done = rw (known l .1, known l .0, le-ltb (length lentBytes) (pointsOf l) (bytes-long l), lent-long l, open-still)
 
 module _ (w : Wanted) (l : Level) (h : List ℕ) where
   -- a stream that was taken whole prints what is wanted

@@ -4,6 +4,7 @@ use mathlib.Core.List.{List, [], _∷_}
 use Prim.Native.Nat.{ℕ}
 use Rattle.marking.specs.Open.{openCall}
 use Rattle.text.specs.Listing.{refusedLine}
+use Rattle.feeding.specs.Lent.{lentTotals}
 use Rattle.feeding.specs.Taken.{mostTriangles, Taken, marked, refusedBy, taken}
 use Rattle.reporting.specs.Report.{lentBytes, unless, closed, surfaced, layered, masked}
 use Rattle.streaming.specs.declared.Wanted.{Wanted}
@@ -23,5 +24,5 @@ printedTaken w level (refusedBy k) = refusedLine k
 unfoldable pub printed : Wanted → List ℕ → List ℕ
 printed w [] = refusedLine 1
 printed w (level ∷ s) =
-    let o = openCall level lentBytes in
+    let o = openCall level lentBytes lentTotals in
     unless (o .number) (printedTaken w level (taken level mostTriangles s 0 (o .grid)))

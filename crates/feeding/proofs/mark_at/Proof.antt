@@ -84,7 +84,7 @@ returns c =
     let v : Plain w32 (getD (n .result) (p .result) (pos 0)) = search needs in
     let o = out (s .args .l) (bytesAt s) (n .result) (p .result) (nine s) (n .ensures) (p .ensures) (c .before .before .before .if1 .taken) in
     let r = out-is (s .args .l) (bytesAt s) (n .result) (p .result) (nine s) (n .ensures) (p .ensures) in
-    let k = ap (λ (x : Outcome). x .number) (rw v at (c .before .out-of-range .ensures [])) in
+    let k = ap (λ (x : Outcome). x .number) (rw v at (c .before .out-of-range .ensures [] [])) in
     let m = sym (mark-out (s .args .l) _ (s .pre .1) _ (nine s) o) in
     record {
       number-is = c .number .ensures ∙ k ∙ r ∙ ap (λ (x : Outcome). x .number) m;

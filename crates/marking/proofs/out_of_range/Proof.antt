@@ -19,14 +19,14 @@ unfolding outNumber
 returns c =
     let v : Plain w32 (c .before .before .args .v) = search needs in
     let h : below (c .before .before .args .l) (c .before .before .args .v) ≡ true = cc in
-    λ g. simp h
+    λ g t. simp h
 
 returns-2 : tie.Need-returns-2
 unfolding outNumber
 returns-2 c =
     let v : Plain w32 (c .before .before .args .v) = search needs in
     let h : below (c .before .before .args .l) (c .before .before .args .v) ≡ false = cc in
-    λ g. simp h
+    λ g t. simp h
 
 pub out-of-range-spec : {M : Type 1} → statement M
 out-of-range-spec = tie.close (tie.spec cast-p is-below-requires returns returns-2)

@@ -1,6 +1,7 @@
 -- `close_grid` meets its contract. Assumes nothing.
 use borrow.Author.Needs.{needs}
 use Rattle.lattice.proofs.LevelFacts.{cells-some, cells-most}
+use Rattle.feeding.specs.Lent.{lentTotals}
 use Rattle.reporting.proofs.Called.{patch-left, closing}
 use Rattle.reporting.proofs.close_grid.Statement.{statement}
 use Rattle.reporting.proofs.close_grid.Tie as tie
@@ -17,7 +18,7 @@ sign-grid-requires : tie.Need-sign-grid-requires
 sign-grid-requires c κs =
     let s = c .before .before .before .before .before .before .before .before .before .before .before in
     let p = c .before .before .before .before .before .patch-grid in
-    let h = patch-left (s .args .l) _ _ (rw (c .before .before .before .before .before .before .before .before .cells .ensures) at (p .ensures)) in
+    let h = patch-left (s .args .l) _ _ (rw (c .before .before .before .before .before .before .before .before .cells .ensures) at (p .ensures lentTotals)) in
     rw (c .before .before .before .before .before .before .before .before .cells .ensures) ((cells-most (s .args .l), rw (p .kept .1 .0) (s .pre .0 .long)), (h .0, h .1))
 
 same-length : tie.Need-same-length
@@ -31,7 +32,7 @@ returns c =
     let s = c .before .before .before .before .before .before .before .before .before .before .before .before .before .before in
     let p = c .before .before .before .before .before .before .before .before .patch-grid in
     let e = c .before .before .before .before .before .before .before .before .before .before .before .cells .ensures in
-    closing (s .args .l) _ _ (s .pre .0) (s .pre .1) (rw e at (p .ensures)) (rw (p .kept .1 .0) (s .pre .0 .long)) (rw e at (c .before .before .sign-grid .ensures)) (rw (c .before .before .sign-grid .kept .1 .0, p .kept .1 .0) (s .pre .0 .long))
+    closing (s .args .l) _ _ (s .pre .0) (s .pre .1) (rw e at (p .ensures lentTotals)) (rw (p .kept .1 .0) (s .pre .0 .long)) (rw e at (c .before .before .sign-grid .ensures)) (rw (c .before .before .sign-grid .kept .1 .0, p .kept .1 .0) (s .pre .0 .long))
 
 pub close-grid-spec : {M : Type 1} → statement M
 close-grid-spec =

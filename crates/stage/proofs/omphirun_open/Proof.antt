@@ -1,3 +1,4 @@
+-- `omphirun_open` meets its contract. Assumes nothing.
 use borrow.Author.Needs.{needs}
 use Rattle.stage.proofs.omphirun_open.Statement.{statement}
 use Rattle.stage.proofs.omphirun_open.Tie as tie
@@ -11,8 +12,11 @@ number-requires c κs = search needs
 same-length : tie.Need-same-length
 same-length c = search needs
 
+same-length-2 : tie.Need-same-length-2
+same-length-2 c = search needs
+
 returns : tie.Need-returns
-returns c = rw (c .number .ensures) (c .before .before .before .«open» .ensures)
+returns c = rw (c .number .ensures) (c .before .before .before .before .before .«open» .ensures)
 
 pub omphirun-open-spec : {M : Type 1} → statement M
-omphirun-open-spec = tie.close (tie.spec open-requires number-requires same-length returns)
+omphirun-open-spec = tie.close (tie.spec open-requires number-requires same-length same-length-2 returns)

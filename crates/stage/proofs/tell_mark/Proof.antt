@@ -22,16 +22,16 @@ enum-known-r-3 : tie.Need-enum-known-r-3
 enum-known-r-3 c = search needs
 
 returns : tie.Need-returns
-returns c = λ g. sym (ap (λ (r : MarkAnswer). told r g) (c .enum-told .given .1))
+returns c = λ g t. sym (ap (λ (r : MarkAnswer). told r g t) (c .enum-told .given .1))
 
 returns-2 : tie.Need-returns-2
-returns-2 c = λ g. rw (c .number .ensures) (sym (ap (λ (r : MarkAnswer). told r g) (c .before .before .r .given .1)))
+returns-2 c = λ g t. rw (c .number .ensures) (sym (ap (λ (r : MarkAnswer). told r g t) (c .before .before .r .given .1)))
 
 returns-3 : tie.Need-returns-3
-returns-3 c = λ g. sym (ap (λ (r : MarkAnswer). told r g) (c .before .r2 .given .1))
+returns-3 c = λ g t. sym (ap (λ (r : MarkAnswer). told r g t) (c .before .r2 .given .1))
 
 returns-4 : tie.Need-returns-4
-returns-4 c = λ g. sym (ap (λ (r : MarkAnswer). told r g) (c .before .r3 .given .1))
+returns-4 c = λ g t. sym (ap (λ (r : MarkAnswer). told r g t) (c .before .r3 .given .1))
 
 pub tell-mark-spec : {M : Type 1} → statement M
 tell-mark-spec =
