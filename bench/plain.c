@@ -77,6 +77,40 @@ uint32_t plain_accept(uint32_t level, const uint16_t *list, size_t list_len, uin
     return 0;
 }
 
+/* The marks in each block, in one pass by rising number. */
+static void count_totals(const struct measures *m, const uint8_t *grid, uint16_t *totals)
+{
+    const int side = blocks_a_side(m);
+    memset(totals, 0, (size_t)blocks_of(m) * sizeof *totals);
+    for (int k = 0, p = 0; k <= m->n; k++)
+        for (int j = 0; j <= m->n; j++)
+            for (int i = 0; i <= m->n; i++, p++)
+                totals[i / 4 + side * (j / 4 + side * (k / 4))] += (uint16_t)(has(grid, X, p) + has(grid, Y, p) + has(grid, Z, p));
+}
+
+uint32_t plain_mark_all(uint32_t level, uint8_t *grid, size_t grid_len, const int32_t *triangles, size_t triangles_len, uint16_t *totals,
+                        size_t totals_len, size_t *place, uint32_t *axis)
+{
+    *place = *axis = 0;
+    if (!known_level(level))
+        return 1;
+    struct measures m = measures_of(level);
+    if (grid_len < (size_t)m.points || triangles_len % 9 != 0)
+        return grid_len < (size_t)m.points ? 2 : 3;
+    for (size_t c = 0; c < triangles_len; c++) {
+        uint32_t number = out_of_range(&m, triangles[c]);
+        if (number)
+            return *place = c, *axis = (uint32_t)(c % 3), number;
+    }
+    if (!is_grid(&m, grid) || totals_len < (size_t)blocks_of(&m))
+        return is_grid(&m, grid) ? 16 : 5;
+    clear_signs(&m, grid);
+    for (size_t t = 0; t < triangles_len; t += 9)
+        reference_add_marks(&m, grid, triangles + t);
+    count_totals(&m, grid, totals);
+    return 0;
+}
+
 uint32_t plain_any_mark(uint32_t level, const uint8_t *grid, const uint32_t low[3], const uint32_t high[3], uint32_t *any)
 {
     const uint32_t side = (1u << level) + 1;

@@ -1,8 +1,9 @@
-/* The repair stage for a slicer: five calls, mark in a second form, two that read and write binary STL, two that read and write job files, one
-   that checks a surface, one that writes masks, and three about the table of totals, on memory that the caller lends.
+/* The repair stage for a slicer: five calls, mark in a second form and for many triangles, two that read and write binary STL, two that read
+   and write job files, one that checks a surface, one that writes masks, and three about the table of totals, on memory that the caller lends.
 
-   Link with libstage.a, which `rt staticlib stage` writes to target/staticlib/ (x86-64). examples/slicer.c shows the calls in
-   their order: open, mark for each triangle, patch, sign, surface.
+   `./install PREFIX` puts this header and the library in place, for x86-64: `pkg-config --cflags --libs omphirun` tells a compiler the rest.
+   Without it, link with libstage.a, which `rt staticlib stage` writes to target/staticlib/. examples/plate.c shows the calls in their order:
+   read_stl, open, mark_all, patch, sign, write_stl, masks; examples/slicer.c marks triangle by triangle, and takes the surface as quads.
 
    Measures. At level L, 2 to 5, the grid has n = 2^L cells a side and P = (n+1)^3 points. Lattice coordinates run from 0 to
    2^20; a cell's side is S = 2^(20-L), and point (i,j,k) lies at (iS, jS, kS). Triangles are given in model coordinates, 0 to 524,287:
@@ -16,7 +17,7 @@
    blocks a side, point (i,j,k) lies in the block of number i/4 + w(j/4 + w(k/4)), quotients rounded down, and there are w^3 of them,
    OMPHIRUN_TOTALS. A table of totals is one u16 a block: the number of marks in it, at most 192. A mark is an edge's mark, so a byte has up to
    three of them; it has one at all when its remainder by 8 is not 0. The table is there for any_mark, which tells from it whether a box
-   of points has any mark. Open, mark and patch make every total true, whatever the table held, and nothing else does but count_totals; so it
+   of points has any mark. Open, mark in each form and patch make every total true, whatever it was, and nothing else does but count_totals; so it
    stays true as long as the caller's bytes change by these calls alone (sign changes no mark). A caller that never asks lends a table all the
    same: it is 1,458 bytes at level 5, and none of the calls goes over the grid once more to count.
 
@@ -28,16 +29,44 @@
        4        4,913     9,826 bytes      125    250 bytes       86,400 bytes
        5       35,937    71,874 bytes      729  1,458 bytes      738,048 bytes
 
+   Which call marks. Each of these leaves the same marks:
+
+     mark_all    for a list of triangles, as read_stl gives it. The grid is judged once for all of them, and each triangle goes by whichever
+                 way takes less time: the one to choose, unless triangles come one at a time and none is to be kept
+     mark        for one triangle, and a small one: up to some 2,000 cells in its box
+     mark_tree   for one triangle that is larger, or a needle
+     repair      the program: a stream of triangles in, the list of quads out, and no C at all (README.md)
+
+   What a call costs: how often it goes over the P bytes of a grid or of work, and through what else. It takes no memory but what is lent and
+   OMPHIRUN_STACK bytes of stack. Where it is refused it stops earlier.
+
+     open                       1                                   the table
+     mark                       1, and 1 where there are signs      the cells in the triangle's box, and the blocks that it reaches
+     mark_tree                  1, and 1 where there are signs      the cells near the triangle, and the blocks that its box reaches
+     mark_all                   2, and 1 where there are signs      the list twice, for each triangle the fewer of these cells
+     patch                      5                                   the cells in the box of each rim, some times
+     sign                       3
+     surface                    4                                   8 bytes a quad
+     write_stl                  4                                   100 bytes a quad
+     masks                      3                                   the bytes of the pictures
+     accept                     6                                   the list once
+     totals_true, count_totals  1                                   the table
+     any_mark                   0                                   the blocks that the box reaches, and the bytes of those it cuts
+     read_stl                   0                                   the file twice
+     read_job                   1                                   the table of contents; no other body
+     write_job                  2                                   the other bodies once
+
    Every call returns OMPHIRUN_DONE, 0, or else the lowest number of this table that applies; where a call names its numbers in another
    order, the first of them. Each number is given exactly when its line says, for any contents of the buffers. The names stand below.
 
      1  the level is not 2 to 5                                    all calls with a level, read_job
      2  a grid or work buffer is shorter than P                    all calls with a level but write_job
      3  the triangle is not nine numbers, fewer or more            mark, mark_tree
+        the list's length is not a multiple of nine                mark_all
      4  a coordinate lies outside S/2 to 524,287 - S/2, and the
-        first that does lies below it                              mark, mark_tree
+        first that does lies below it                              mark, mark_tree, mark_all
     24  a coordinate lies outside S/2 to 524,287 - S/2, and the
-        first that does lies above it                              mark, mark_tree
+        first that does lies above it                              mark, mark_tree, mark_all
      5  the buffer is no grid                                      all of these but open, accept
                                                                    and those about totals
         the grid body is no grid                                   read_job, write_job
@@ -56,8 +85,8 @@
     13  a coordinate is beyond 2^30 in size                        read_stl
     14  e is not -20 to 20                                         read_stl, write_stl
     15  the box is empty or leaves the grid                        any_mark
-    16  the table of totals is shorter than the blocks             open, mark, mark_tree, patch,
-                                                                   any_mark, totals_true,
+    16  the table of totals is shorter than the blocks             open, mark, mark_tree, mark_all,
+                                                                   patch, any_mark, totals_true,
                                                                    count_totals
     17  the list's length is not a multiple of four                accept
     18  the file is empty, its table of contents is cut short, or
@@ -91,7 +120,7 @@ extern "C" {
 
 /* The version: the first number rises when a caller has to change, the second when there is something new. It stands here alone. */
 #define OMPHIRUN_MAJOR 6
-#define OMPHIRUN_MINOR 0
+#define OMPHIRUN_MINOR 1
 #define OMPHIRUN_PATCH 0
 
 /* What a call returns. */
@@ -147,8 +176,8 @@ enum omphirun_number {
 #define OMPHIRUN_MASKS(level) \
     ((OMPHIRUN_CELLS(level) + 1) * ((OMPHIRUN_CELLS(level) < 9 ? 7 : 9) + (OMPHIRUN_CELLS(level) + 1) * ((OMPHIRUN_CELLS(level) + 8) / 8)))
 
-/* Bytes of stack that are enough for any call: patch was measured to take 6.4 kB, mark_tree 2.3 and mark 1.2 before these two held 1.5 kB
-   of totals besides, every other call less than 1 kB. */
+/* Bytes of stack that are enough for any call: patch was measured to take 6.5 kB, mark_tree 4.6, mark 3.3, mark_all 2.4, every other call less
+   than 1 kB. */
 #define OMPHIRUN_STACK 8192
 
 /* Open. The first P bytes of the grid become 0, whatever they held: a grid without marks and signs. All totals become 0.
@@ -176,6 +205,16 @@ uint32_t omphirun_mark(uint32_t level, uint8_t *grid, size_t grid_len, const int
    Refusals, in this order: 1, 2, 3, 4 or 24, 5, 16. */
 uint32_t omphirun_mark_tree(uint32_t level, uint8_t *grid, size_t grid_len, const int32_t *triangle, size_t triangle_len, uint16_t *totals,
                             size_t totals_len, uint32_t *place, uint32_t *axis);
+
+/* Mark many triangles: nine numbers each, one behind the other, any number of them. It leaves exactly what mark, called for each triangle in
+   turn, would leave when all are done: with none nothing changes, signs and totals included. Every coordinate is judged before the first
+   mark, so a refusal changes nothing. What read_stl gives can be handed on as it is, 9 * *triangles numbers of its list. The list is gone
+   through twice, and the grid is judged and the totals are counted once for all triangles, where mark does both for each.
+   When it is refused by 4 or 24, *place is the place in the list of the first coordinate that is out, and *axis its axis, 0 to 2: it is
+   coordinate *place % 9 of triangle *place / 9, both counted from 0. Both are 0 in every other case.
+   Refusals, in this order: 1, 2, 3, 4 or 24, 5, 16. */
+uint32_t omphirun_mark_all(uint32_t level, uint8_t *grid, size_t grid_len, const int32_t *triangles, size_t triangles_len, uint16_t *totals,
+                           size_t totals_len, size_t *place, uint32_t *axis);
 
 /* Patch. Marks are added and taken away until every face of every cell has an even number of marked edges, and all signs are cleared.
    The first P work bytes are 0 afterwards, whatever they held. *rims is the number of rims, which are the faces with an odd number of

@@ -10,6 +10,11 @@ die() {
     exit 2
 }
 
+# The version, which stands in the header alone.
+library_version() {
+    awk '/^#define OMPHIRUN_(MAJOR|MINOR|PATCH) / { v = v dot $3; dot = "." } END { print v }' "$root/include/omphirun.h"
+}
+
 # ---- what has to be there; nothing is installed
 
 missing() { die "$1 is missing: install it (Debian's package $2)"; }

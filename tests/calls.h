@@ -30,6 +30,8 @@ struct calls {
                          uint32_t low_j, uint32_t low_k, uint32_t high_i, uint32_t high_j, uint32_t high_k, uint32_t *any);
     uint32_t (*totals_true)(uint32_t level, const uint8_t *grid, size_t grid_len, const uint16_t *totals, size_t totals_len, uint32_t *yes);
     uint32_t (*count_totals)(uint32_t level, const uint8_t *grid, size_t grid_len, uint16_t *totals, size_t totals_len);
+    uint32_t (*mark_all)(uint32_t level, uint8_t *grid, size_t grid_len, const int32_t *triangles, size_t triangles_len, uint16_t *totals,
+                         size_t totals_len, size_t *place, uint32_t *axis);
 };
 
 extern const struct calls the_library, the_reference;

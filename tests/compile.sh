@@ -63,3 +63,11 @@ link() { # PROGRAM "NAME..." FILE...
 run_own() { # PROGRAM ARGUMENT...
     if [ -n "$whole" ]; then "$emulator" "$@"; else "$@"; fi
 }
+
+# Links the library's archive as a shared library that exports the calls and nothing else.
+link_shared() { # SONAME FILE
+    make_room
+    echo '{ global: omphirun_*; local: *; };' >"$room/exports"
+    $cc -shared -Wl,-soname,"$1" -Wl,--version-script,"$room/exports" -Wl,-z,defs -Wl,-z,noexecstack -o "$2" \
+        -Wl,--whole-archive "$library" -Wl,--no-whole-archive >"$room/said" 2>&1 || die "cannot link $1: $(head -n 1 "$room/said")"
+}

@@ -64,6 +64,14 @@ int main(void)
     hold(omphirun_mark(2, grid, sizeof grid, point, 9, NULL, 0, &one, &two), OMPHIRUN_SHORT_TABLE, "mark");
     hold(omphirun_mark_tree(2, grid, sizeof grid, point, 9, totals, blocks - 1, &one, &two), OMPHIRUN_SHORT_TABLE, "mark_tree");
     hold(omphirun_mark(2, grid, sizeof grid, point, 9, totals, blocks, &one, &two), OMPHIRUN_DONE, "mark");
+    hold(omphirun_mark_all(2, NULL, 0, NULL, 0, NULL, 0, &bytes, &two), OMPHIRUN_SHORT_BUFFER, "mark_all");
+    hold(omphirun_mark_all(2, grid, sizeof grid, point, 8, NULL, 0, &bytes, &two), OMPHIRUN_NOT_NINE, "mark_all");
+    hold(omphirun_mark_all(2, grid, sizeof grid, high, 9, NULL, 0, &bytes, &two), OMPHIRUN_ABOVE_RANGE, "mark_all");
+    hold_place((uint32_t)bytes, two, 5);
+    hold(omphirun_mark_all(2, grid, sizeof grid, NULL, 0, NULL, 0, &bytes, &two), OMPHIRUN_SHORT_TABLE, "mark_all");
+    hold_place((uint32_t)bytes, two, 0);
+    hold(omphirun_mark_all(2, grid, sizeof grid, NULL, 0, totals, blocks, &bytes, &two), OMPHIRUN_DONE, "mark_all without triangles");
+    hold(omphirun_mark_all(2, grid, sizeof grid, point, 9, totals, blocks, &bytes, &two), OMPHIRUN_DONE, "mark_all");
     one = two = three = four = 9;
     hold(omphirun_patch(2, NULL, 0, NULL, 0, NULL, 0, &one, &two, &three, &four), OMPHIRUN_SHORT_BUFFER, "patch");
     hold(one + two + three + four, OMPHIRUN_DONE, "patch's counts");

@@ -18,11 +18,13 @@ const struct kind kinds[BUFFERS] = {
     [JOB_TRIANGLES] = {"triangles", 1, BODY_ROOM, 0},
     [JOB_QUADS] = {"quads", 1, BODY_ROOM, 0},
     [TOTALS] = {"totals", sizeof(uint16_t), TOTALS_ROOM, 0},
+    [LISTED] = {"list of triangles", sizeof(int32_t), LISTED_ROOM, 0},
 };
 
 const struct call *const all_calls[] = {&call_open,    &call_mark,     &call_mark_tree, &call_patch,       &call_sign,
                                         &call_surface, &call_read_stl, &call_write_stl, &call_read_job,    &call_write_job,
-                                        &call_accept,  &call_masks,    &call_any_mark,  &call_totals_true, &call_count_totals};
+                                        &call_accept,  &call_masks,    &call_any_mark,  &call_totals_true, &call_count_totals,
+                                        &call_mark_all};
 const size_t call_count = sizeof all_calls / sizeof *all_calls;
 
 size_t place_of(const struct call *call)

@@ -11,11 +11,11 @@
 #include "random.h"
 #include "reference_grid.h"
 
-enum buffer { GRID, WORK, TRIANGLE, LIST, STL, NUMBERS, WRITTEN, JOB, JOB_TRIANGLES, JOB_QUADS, TOTALS, BUFFERS };
+enum buffer { GRID, WORK, TRIANGLE, LIST, STL, NUMBERS, WRITTEN, JOB, JOB_TRIANGLES, JOB_QUADS, TOTALS, LISTED, BUFFERS };
 enum { POINT_ROOM = 40000, TRIANGLE_ROOM = 24, LIST_ROOM = 4 * 3 * 31 * 31 * 32 + 1000, MOST_COUNTS = 7 };
 enum { MOST_STL = 40, STL_ROOM = 84 + 50 * (MOST_STL + 2), NUMBERS_ROOM = 9 * MOST_STL + 40, WRITTEN_ROOM = 84 + 100 * MOST_QUADS + 1000 };
 enum { MOST_JOB = 40, BODY_ROOM = 36 * (MOST_JOB + 1), JOB_ROOM = 29 + MOST_POINTS + 2 * BODY_ROOM };
-enum { TOTALS_ROOM = MOST_BLOCKS + 100, MOST_CALLS = 32, MOST_ANSWERS = 32 };
+enum { MOST_LISTED = 400, LISTED_ROOM = 9 * (MOST_LISTED + 1), TOTALS_ROOM = MOST_BLOCKS + 100, MOST_CALLS = 32, MOST_ANSWERS = 32 };
 
 /* What a lent buffer holds: its name, bytes an element, elements that there is room for, and whether it has one byte a point. */
 struct kind {
@@ -57,7 +57,7 @@ struct call {
 };
 
 extern const struct call call_open, call_mark, call_mark_tree, call_patch, call_sign, call_surface, call_read_stl, call_write_stl, call_read_job,
-    call_write_job, call_accept, call_masks, call_any_mark, call_totals_true, call_count_totals;
+    call_write_job, call_accept, call_masks, call_any_mark, call_totals_true, call_count_totals, call_mark_all;
 extern const struct call *const all_calls[];
 extern const size_t call_count;
 

@@ -48,6 +48,10 @@ uint32_t reference_mark_near(uint32_t level, uint8_t *grid, size_t grid_len, con
 uint32_t reference_mark_tree(uint32_t level, uint8_t *grid, size_t grid_len, const int32_t *triangle, size_t triangle_len, uint16_t *totals,
                              size_t totals_len, uint32_t *place, uint32_t *axis);
 
+/* Many triangles in one call: mark for each in turn. */
+uint32_t reference_mark_all(uint32_t level, uint8_t *grid, size_t grid_len, const int32_t *triangles, size_t triangles_len, uint16_t *totals,
+                            size_t totals_len, size_t *place, uint32_t *axis);
+
 /* The number of cells in the boxes of all rims of a grid, for the benchmark. */
 uint64_t reference_rim_cells(uint32_t level, const uint8_t *grid);
 

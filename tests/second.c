@@ -16,6 +16,7 @@
 #define reference_count_totals omphirun_count_totals
 #define reference_mark_near omphirun_mark
 #define reference_mark_tree omphirun_mark_tree
+#define reference_mark_all omphirun_mark_all
 #define reference_add_marks second_add_marks
 #define reference_add_marks_tree second_add_marks_tree
 #define reference_judge_signs second_judge_signs
@@ -25,6 +26,7 @@
 #include "reference.c"
 #include "reference_accept.c"
 #include "reference_mark.c"
+#include "reference_mark_all.c"
 #include "reference_patch.c"
 #include "reference_stl.c"
 #include "reference_write_stl.c"

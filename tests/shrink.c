@@ -156,6 +156,24 @@ static int drop_points(struct input *best)
     return taken > 0;
 }
 
+/* Takes runs of triangles out of a list, long runs first. */
+static int drop_triangles(struct input *best)
+{
+    int taken = 0;
+    for (size_t run = best->len[LISTED] / 9; run > 0; run /= 2)
+        for (size_t at = 0; at + run <= best->len[LISTED] / 9 && time(NULL) <= stop_at;) {
+            int32_t *list = (int32_t *)candidate.buffer[LISTED];
+            copy(&candidate, best);
+            memmove(list + 9 * at, list + 9 * (at + run), (best->len[LISTED] - 9 * (at + run)) * sizeof *list);
+            candidate.len[LISTED] -= 9 * run;
+            if (take(best))
+                taken++;
+            else
+                at += run;
+        }
+    return taken > 0;
+}
+
 /* Rounds coordinates, coarsely first; then moves a vertex onto another. */
 static int round_triangle(struct input *best)
 {
@@ -204,10 +222,11 @@ void shrink(struct input *best, uint32_t reference_answer)
     for (int smaller = 1; smaller;) {
         smaller = drop_points(best);
         smaller |= lower_level(best, 0) || lower_level(best, 1) || lower_level(best, 2);
+        smaller |= drop_triangles(best);
         for (int b = 0; b < BUFFERS; b++)
             smaller |= shorten(best, b);
         for (int b = 0; b < BUFFERS; b++)
-            smaller |= b != TRIANGLE && clear_bytes(best, b);
+            smaller |= b != TRIANGLE && b != LISTED && clear_bytes(best, b);
         smaller |= round_triangle(best);
         smaller |= narrow_box(best);
     }

@@ -37,20 +37,21 @@ pub record Bad (k : ℕ) (c : List ℤ) (o : Outcome) : Type 0 where
   pub axis-is : o .axis ≡ o .place % 3
   pub sides : Sides level (o .number) (getD c (o .place) (pos 0))
 
-other : (k : ℕ) → T (not (eqb k 4)) → T (not (eqb k 24)) → ForRange k → ⊥
+-- any other number
+pub other : (k : ℕ) → T (not (eqb k 4)) → T (not (eqb k 24)) → ForRange k → ⊥
 other k f h (inl e) = eqb-no f e
 other k f h (inr e) = eqb-no h e
 
--- mark's rows, over any tests
+-- mark's rows, over any tests and whatever is done where none applies
 module _ (l : Level) (c : List ℤ) (g t : List ℕ) (whole : Outcome) (none : ForRange (whole .number) → ⊥) where
-  abbrev pick : Bool → Bool → Bool → Bool → Bool → Bool → Bool → Bool → Outcome
+  abbrev pub pick : Bool → Bool → Bool → Bool → Bool → Bool → Bool → Bool → Outcome
   pick u s y z b a w v =
       answered
       (1 when u ∷ 2 when s ∷ 3 when not y ∷ 4 when (not z && b) ∷ 24 when (not z && a) ∷ 5 when not w ∷ 16 when v ∷ [])
       (refused l c g t)
       whole
 
-  picked : (u s y z b a w v : Bool) → (z ≡ false → b ≡ false → a ≡ true) → ForRange (pick u s y z b a w v .number) →
+  pub picked : (u s y z b a w v : Bool) → (z ≡ false → b ≡ false → a ≡ true) → ForRange (pick u s y z b a w v .number) →
       (u ≡ false) × (y ≡ true) × (z ≡ false) × (pick u s y z b a w v ≡ refusedAt (cond b 4 24) (firstOut l c) g t)
   picked true s y z b a w v q f = absurd (other 1 tt tt f)
   picked false true y z b a w v q f = absurd (other 2 tt tt f)
@@ -86,17 +87,15 @@ mark-bad k g c t f =
     })
 
 -- place and axis are 0 in all other answers
+pub nought : (l : Level) (c : List ℤ) (g t : List ℕ) (j : ℕ) → (ForRange j → ⊥) → (refused l c g t j .place ≡ 0) × (refused l c g t j .axis ≡ 0)
+nought l c g t j f =
+    let e : cond (eqb j 4 || eqb j 24) (firstOut l c) 0 ≡ 0 = rw (ne-eqb j 4 (λ e. f (inl e)), ne-eqb j 24 (λ e. f (inr e))) refl in
+    (e, ap (λ (p : ℕ). p % 3) e)
+
 pub mark-other : (k : ℕ) (g : List ℕ) (c : List ℤ) (t : List ℕ) → (ForRange (markCall k g c t .number) → ⊥) →
     (markCall k g c t .place ≡ 0) × (markCall k g c t .axis ≡ 0)
 unfolding markCall
 mark-other k g c t =
-    answered-both (λ o. (ForRange (o .number) → ⊥) → (o .place ≡ 0) × (o .axis ≡ 0)) (refused l c g t) (doneWith l (triangleOf c) g t) nought (λ _. (refl, refl))
-    (markRows k g c t)
-  where
-    l : Level
-    l = levelAt k
-
-    nought : (j : ℕ) → (ForRange j → ⊥) → (refused l c g t j .place ≡ 0) × (refused l c g t j .axis ≡ 0)
-    nought j f =
-        let e : cond (eqb j 4 || eqb j 24) (firstOut l c) 0 ≡ 0 = rw (ne-eqb j 4 (λ e. f (inl e)), ne-eqb j 24 (λ e. f (inr e))) refl in
-        (e, ap (λ (p : ℕ). p % 3) e)
+    let l = levelAt k in
+    answered-both (λ o. (ForRange (o .number) → ⊥) → (o .place ≡ 0) × (o .axis ≡ 0)) (refused l c g t) (doneWith l (triangleOf c) g t)
+    (nought l c g t) (λ _. (refl, refl)) (markRows k g c t)

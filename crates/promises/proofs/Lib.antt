@@ -16,3 +16,4 @@ pub mod Partner
 pub mod Masking
 pub mod Totals
 pub mod Asking
+pub mod Many

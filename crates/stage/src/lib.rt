@@ -4,6 +4,7 @@ use accepting::AcceptAnswer;
 use asking::AskAnswer;
 use job_reading::ReadAnswer as ReadJobAnswer;
 use job_writing::WriteAnswer as WriteJobAnswer;
+use list_marking::MarkAllAnswer;
 use marking::MarkAnswer;
 use masks::MasksAnswer;
 use patching::PatchAnswer;
@@ -17,6 +18,7 @@ ghost use Prim.Native.Nat.{ℕ};
 ghost use Rattle.marking.specs.Outcome.{Outcome as OpenOutcome};
 ghost use Rattle.marking.specs.Open.{openCall};
 ghost use Rattle.marking.specs.Mark.{Outcome as MarkOutcome, told, markCall};
+ghost use Rattle.list_marking.specs.Call.{markAllCall};
 ghost use Rattle.patching.specs.Call.{Outcome as PatchOutcome, patchCall};
 ghost use Rattle.signing.specs.Call.{Outcome as SignOutcome, signCall};
 ghost use Rattle.surfacing.specs.Call.{Outcome as SurfaceOutcome, surfaceCall};
@@ -91,6 +93,39 @@ pub extern "C" fn omphirun_mark_tree(
         place,
         axis,
     )
+}
+
+// Mark for each triangle of a list in turn (level, grid, triangles as nine i32 each, totals): any number of them, none too. Of the first bad
+// coordinate the place in the list and the axis, 0 to 2, are returned; both are 0 in other answers.
+#[no_mangle]
+pub extern "C" fn omphirun_mark_all(
+    level: u32,
+    grid: &mut [u8],
+    triangles: &[i32],
+    totals: &mut [u16],
+    place: &mut usize,
+    axis: &mut u32,
+) -> u32
+    ensures { λ r. ⌜ _≡_ {A = MarkOutcome}
+        (record { number = r; place = now (place .exit); axis = now (axis .exit); grid = now (grid .exit); totals = now (totals .exit) })
+        (markAllCall level (now (grid .entry)) (now (triangles .entry)) (now (totals .entry))) ⌝ }
+{
+    *place = 0;
+    *axis = 0;
+    match list_marking::mark_all(level, grid, triangles, totals) {
+        MarkAllAnswer::Done => 0,
+        MarkAllAnswer::Refused(why) => why.number(),
+        MarkAllAnswer::Below { place: p, axis: a } => {
+            *place = p;
+            *axis = a;
+            4
+        }
+        MarkAllAnswer::Above { place: p, axis: a } => {
+            *place = p;
+            *axis = a;
+            24
+        }
+    }
 }
 
 // Patch (level, grid, work buffer, totals): the grid is patched, every total is true afterwards, and the number of rims, of flips, and of faces with
