@@ -2,7 +2,7 @@
 # script. A script sets `me` (its name) and `root` (the repository's folder) before it reads this file. What is made goes to target/; what
 # is temporary goes to a folder that is removed at the end, after a signal too.
 
-work=$root/target/tests
+work=$root/target/tests${TESTS_LANE:+/lane_$TESTS_LANE} # tests/lanes gives each lane a number
 
 say() { printf '%s: %s\n' "$me" "$*" >&2; }
 die() {
@@ -111,7 +111,7 @@ run_rt() { # SHOW WORD...
 }
 
 # Keeps rt's lines in a file, and says which crate is proved.
-progress() { tee "$work/rt.log" | sed -u -n "s|^rt: \([a-z0-9_]* proved ([0-9]* s)\)\$|$me: \1|p" >&2; }
+progress() { tee "$root/target/tests/rt.log" | sed -u -n "s|^rt: \([a-z0-9_]* proved ([0-9]* s)\)\$|$me: \1|p" >&2; }
 
 # Whether a file that rt makes is missing, or older than the crates or the kit.
 stale() { # FILE
@@ -125,7 +125,7 @@ make_by_rt() { # FILE WORD...
     made=$1
     shift
     stale "$made" || return 0
-    mkdir -p "$work" 2>/dev/null || die "cannot write to $root/target"
+    mkdir -p "$root/target/tests" 2>/dev/null || die "cannot write to $root/target"
     lock
     if stale "$made"; then
         say "proving and building by rt $*, which takes three to ten minutes the first time"
