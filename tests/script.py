@@ -82,10 +82,16 @@ def reports():
 
 
 def gaps_and_membranes():
-    """A model that lacks faces is told from one with an extra wall, and both from one that is closed."""
+    """A model that lacks faces is told from one with an extra wall, and both from one that is closed; the picture shows where."""
     def told(model):
-        _, out, _ = run([os.path.join(ROOT, "models", f"{model}.bin")])
-        return [int(re.search(rf"^  {word} +(\d+)", out, re.M).group(1)) for word in ("missing", "walls")]
+        _, out, _ = run(["--picture", os.path.join(ROOT, "models", f"{model}.bin")])
+        counts = [int(re.search(rf"^  {word} +(\d+)", out, re.M).group(1)) for word in ("missing", "walls")]
+        rows = re.findall(r"^[-ox*]{33}$", out, re.M)
+        hold(len(rows) == 33 * 33, f"{model}: the second picture")
+        for letter, count in zip("ox", counts):  # three faces stand at a point
+            points = sum(row.count(letter) + row.count("*") for row in rows)
+            hold(points <= count <= 3 * points, f"{model}: {points} points for {count} faces")
+        return counts
 
     missing, walls = told("sphere_with_hole")
     hold(missing > walls, f"a sphere with a hole lacks faces: {missing} missing, {walls} walls")

@@ -25,8 +25,9 @@ use Rattle.surfacing.specs.Listing.{quadCount}
 use Rattle.text.specs.Listing.{refusedLine, facesLine, listing}
 use Rattle.masks.specs.Mask.{masks}
 use Rattle.masks.specs.Call.{done as pictured, masksCall}
-use Rattle.picture.specs.Picture.{picture}
-use Rattle.reporting.specs.Report.{lentBytes, lentList, unless, closed, surfaced, layered, masked}
+use Rattle.picture.specs.declared.Drawn.the-variants.{Inside, Faces}
+use Rattle.picture.specs.Picture.{drawn, picture}
+use Rattle.reporting.specs.Report.{lentBytes, lentList, unless, closed, surfaced, layered, masked, faced}
 use Rattle.totals.specs.Totals.{trued}
 use Rattle.feeding.specs.Lent.{lentTotals}
 use Rattle.reporting.specs.Close.{Closed}
@@ -58,7 +59,7 @@ module _ (l : Level) (g : List ℕ) {rims flips ones threes : ℕ} {h v : List �
   closed-is next = rw (sym (k .is-patch), sym (k .is-sign))
 
   -- the layers, and the faces
-  pub picture-is : picture n (inside n h) ++ facesLine ones threes ≡ closed (levelNumber l) g (layered (levelNumber l))
+  pub picture-is : picture n (drawn Inside n h) ++ facesLine ones threes ≡ closed (levelNumber l) g (layered (levelNumber l))
   unfolding layered
   picture-is = rw (closed-is (layered (levelNumber l)), known l .1)
 
@@ -87,3 +88,8 @@ module _ (l : Level) (g : List ℕ) {rims flips ones threes : ℕ} {h v : List �
         ≡ closed (levelNumber l) g (surfaced (levelNumber l) t)
     unfolding surfaced
     listing-is q i e f = rw (closed-is (surfaced (levelNumber l) t), sym (surface-is (Done q) e), known l .1, f)
+
+-- the faces as they came
+pub faces-are : (l : Level) (g : List ℕ) → picture (cellsOf l) (drawn Faces (cellsOf l) g) ≡ faced (levelNumber l) g
+unfolding faced
+faces-are l g = rw (known l .1)

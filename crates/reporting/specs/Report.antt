@@ -14,7 +14,8 @@ use Rattle.feeding.specs.Lent.{lentTotals}
 use Rattle.text.specs.declared.listing.Repaired.{Repaired}
 use Rattle.text.specs.Listing.{refusedLine, facesLine, listing}
 use Rattle.masks.specs.Mask.{masks}
-use Rattle.picture.specs.Picture.{picture}
+use Rattle.picture.specs.declared.Drawn.the-variants.{Inside, Faces}
+use Rattle.picture.specs.Picture.{drawn, picture}
 
 -- what is lent: bytes for the points of any level, and a list of 32,768 numbers
 unfoldable pub lentBytes : List ℕ
@@ -56,8 +57,12 @@ surfaced level t p b =
 
 -- the layers of points, and behind them the number of faces with one mark and with three
 unfoldable pub layered : ℕ → Patching → Signing → List ℕ
-layered level p b = let n = cellsOf (levelAt level) in picture n (inside n (b .grid)) ++ facesLine (p .ones) (p .threes)
+layered level p b = let n = cellsOf (levelAt level) in picture n (drawn Inside n (b .grid)) ++ facesLine (p .ones) (p .threes)
 
 -- the masks of the layers of points
 unfoldable pub masked : ℕ → Patching → Signing → List ℕ
 masked level p b = let n = cellsOf (levelAt level) in masks n (inside n (b .grid))
+
+-- the faces with one mark and with three, as the grid came in
+unfoldable pub faced : ℕ → List ℕ → List ℕ
+faced level g = let n = cellsOf (levelAt level) in picture n (drawn Faces n g)

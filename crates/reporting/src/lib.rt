@@ -1,8 +1,10 @@
-// What is done with the marks once all triangles are in: patch and sign, then surface and the listing, the layers of points, or their masks.
+// What is done with the marks once all triangles are in: patch and sign, then surface and the listing, the layers of points, or their masks; or
+// nothing, and the faces with one mark and with three are shown as they came.
 use lattice::level::Level;
 use masks::put_masks;
 use patching::Counts;
 use patching::patch_grid;
+use picture::Drawn;
 use picture::count_inside;
 use picture::put_picture;
 use quad_listing::list_quads;
@@ -18,7 +20,7 @@ ghost use lib.ListN.{length};
 ghost use Rattle.lattice.specs.Levels.{numberOf, pointsOf};
 ghost use Rattle.text.specs.Text.{Put};
 ghost use Rattle.feeding.specs.Feed.{Ready};
-ghost use Rattle.reporting.specs.Report.{lentBytes, lentList, closed, surfaced, layered, masked};
+ghost use Rattle.reporting.specs.Report.{lentBytes, lentList, closed, surfaced, layered, masked, faced};
 ghost use Rattle.reporting.specs.Close.{Closed};
 
 // Patches a grid and gives its points their signs.
@@ -69,7 +71,7 @@ pub fn show(l: Level, grid: &mut [u8], work: &mut [u8], out: &mut [u8]) -> usize
     ensures { λ r. ⌜ Put (now (out .entry)) 0 (closed (numberOf l) (now (grid .entry)) (layered (numberOf l))) (now (out .exit)) r × (r ≤ length (now (out .exit))) ⌝ }
 {
     let counts = close_grid(l, grid, work);
-    let next = put_picture(out, l.cells(), grid);
+    let next = put_picture(out, l.cells(), grid, Drawn::Inside);
     put_faces(out, next, counts.ones, counts.threes)
 }
 
@@ -80,4 +82,12 @@ pub fn show_masks(l: Level, grid: &mut [u8], work: &mut [u8], out: &mut [u8]) ->
 {
     close_grid(l, grid, work);
     put_masks(out, grid, l.cells() + 1)
+}
+
+// Puts the picture of the faces with one mark and with three, of a grid as it came in; answers its length.
+pub fn show_faces(l: Level, grid: &[u8], out: &mut [u8]) -> usize
+    requires { ⌜ Ready l (now grid) × (107811 ≤ length (now out)) ⌝ }
+    ensures { λ r. ⌜ Put (now (out .entry)) 0 (faced (numberOf l) (now (grid .entry))) (now (out .exit)) r × (r ≤ length (now (out .exit))) ⌝ }
+{
+    put_picture(out, l.cells(), grid, Drawn::Faces)
 }

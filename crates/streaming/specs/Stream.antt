@@ -6,15 +6,17 @@ use Rattle.marking.specs.Open.{openCall}
 use Rattle.text.specs.Listing.{refusedLine}
 use Rattle.feeding.specs.Lent.{lentTotals}
 use Rattle.feeding.specs.Taken.{mostTriangles, Taken, marked, refusedBy, taken}
-use Rattle.reporting.specs.Report.{lentBytes, unless, closed, surfaced, layered, masked}
+use Rattle.reporting.specs.Report.{lentBytes, unless, closed, surfaced, layered, masked, faced}
 use Rattle.streaming.specs.declared.Wanted.{Wanted}
-use Rattle.streaming.specs.declared.Wanted.the-variants.{Listing, Layers, Masks}
+use Rattle.streaming.specs.declared.Wanted.the-variants.{Listing, Layers, Masks, Faces}
 
--- the program prints the listing; its companions `layers` and `masking` print the layers of points and their masks
+-- the program prints the listing; its companions `layers`, `masking` and `gaps` print the layers of points, their masks, and where faces have
+-- one mark or three
 abbrev pub shown : Wanted → ℕ → ℕ → List ℕ → List ℕ
 shown Listing level t g = closed level g (surfaced level t)
 shown Layers level t g = closed level g (layered level)
 shown Masks level t g = closed level g (masked level)
+shown Faces level t g = faced level g
 
 abbrev pub printedTaken : Wanted → ℕ → Taken → List ℕ
 printedTaken w level (marked t g) = shown w level t g

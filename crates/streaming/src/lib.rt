@@ -8,6 +8,7 @@ use libc::STDOUT_FILENO;
 use octets::wide;
 use reporting::report;
 use reporting::show;
+use reporting::show_faces;
 use reporting::show_masks;
 use text::listing::put_refusal;
 ghost use mathlib.Core.Path.{_≡_};
@@ -17,11 +18,13 @@ ghost use Rattle.lattice.specs.Levels.{numberOf};
 ghost use Rattle.feeding.specs.Feed.{Ready};
 ghost use Rattle.streaming.specs.Read.{Streamed, PrintedAt, Printed};
 
-// What is printed for a stream that is not refused: the listing of its surface, its layers of points, or their masks.
+// What is printed for a stream that is not refused: the listing of its surface, its layers of points, their masks, or the faces with one mark
+// and with three.
 pub enum Wanted {
     Listing,
     Layers,
     Masks,
+    Faces,
 }
 
 // The bytes that are read at once: 113 triangles.
@@ -91,6 +94,7 @@ fn repair_at(wanted: Wanted, level: u32, l: Level, out: &mut [u8]) -> usize
                 }
                 Wanted::Layers => show(l, &mut grid, &mut work, out),
                 Wanted::Masks => show_masks(l, &mut grid, &mut work, out),
+                Wanted::Faces => show_faces(l, &grid, out),
             }
         }
         Fed::Refused { number } => put_refusal(out, number),

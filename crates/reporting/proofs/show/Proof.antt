@@ -26,14 +26,16 @@ cells-requires c κs = search needs
 put-picture-requires : tie.Need-put-picture-requires
 put-picture-requires c κs =
     let s = c .before .before .before .before .before .before .before .before .before .before .before .before .before in
-    rw (c .before .cells .ensures)
-    (cells-most (s .args .l), c .before .before .before .before .before .before .before .close-grid .ensures .long, omega (arith, points-most (s .args .l), s .pre .2))
+    let k = c .before .before .before .before .before .before .before .close-grid .ensures in
+    rw (c .before .cells .ensures) (cells-most (s .args .l), k .long, omega (arith, points-most (s .args .l), s .pre .2), k .grid)
 
 put-faces-requires : tie.Need-put-faces-requires
 put-faces-requires c κs =
+    let put-picture = c .before .before .before .put-picture in
+    let cells = c .before .before .before .before .before .cells in
     let s = c .before .before .before .before .before .before .before .before .before .before .before .before .before .before .before .before .before in
-    let p = rw (c .before .before .before .before .before .cells .ensures) at (c .before .before .before .put-picture .ensures .1) in
-    omega (arith, points-most (s .args .l), s .pre .2, p, c .before .before .before .put-picture .kept .0)
+    let p = rw (cells .ensures) at (put-picture .ensures .1) in
+    omega (arith, points-most (s .args .l), s .pre .2, p, put-picture .kept .0)
 
 same-length : tie.Need-same-length
 same-length c = search needs
@@ -46,11 +48,15 @@ same-length-3 c = search needs
 
 returns : tie.Need-returns
 returns c =
-    let s = c .before .before .before .before .before .before .before .before .before .before .before .before .before .before .before .before .before .before .before .before in
-    let p = rw (c .before .before .before .before .before .before .before .before .cells .ensures) at (c .before .before .before .before .before .before .put-picture .ensures) in
+    let put-picture = c .before .before .before .before .before .before .put-picture in
+    let cells = c .before .before .before .before .before .before .before .before .cells in
+    let close-grid = c .before .before .before .before .before .before .before .before .before .before .before .before .before .before .close-grid in
+    let back = c .before .before .before .before .before .before .before .before .before .before in
+    let s = back .before .before .before .before .before .before .before .before .before .before in
+    let p = rw (cells .ensures) at (put-picture .ensures) in
     let f = c .before .before .put-faces in (
-      rw (sym (picture-is (s .args .l) _ (rw (s .pre .1) at (c .before .before .before .before .before .before .before .before .before .before .before .before .before .before .close-grid .ensures)))) (put-both (p .0) (f .ensures .0)),
-      omega (arith, points-most (s .args .l), s .pre .2, p .1, f .ensures .1, c .before .before .before .before .before .before .put-picture .kept .0, f .kept .0),
+      rw (sym (picture-is (s .args .l) _ (rw (s .pre .1) at (close-grid .ensures)))) (put-both (p .0) (f .ensures .0)),
+      omega (arith, points-most (s .args .l), s .pre .2, p .1, f .ensures .1, put-picture .kept .0, f .kept .0),
     )
 
 pub show-spec : {M : Type 1} → statement M

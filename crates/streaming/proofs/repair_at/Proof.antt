@@ -1,7 +1,7 @@
 -- `repair_at` meets its contract. Assumes nothing.
 use mathlib.Core.Path.{_∙_}
 use native.Mathlib.Omega.{arith}
-use Rattle.streaming.specs.declared.Wanted.the-variants.{Listing, Layers, Masks}
+use Rattle.streaming.specs.declared.Wanted.the-variants.{Listing, Layers, Masks, Faces}
 use Rattle.reporting.proofs.Lent.{bytes-lent, list-lent}
 use Rattle.streaming.proofs.Opened.{lent-ready, printed-done, printed-refused}
 use borrow.Author.Needs.{needs}
@@ -66,6 +66,15 @@ slice-aggregate-show-masks-2 c = search needs
 show-masks-requires : tie.Need-show-masks-requires
 show-masks-requires c κs = (c .before .before .before .before .before .before .before .before .before .before .feed-all .ensures .ready, c .before .before .before .before .before .empty-grid2 .ensures ∙ bytes-lent, omega (arith, c .before .before .before .before .before .before .before .before .before .before .before .before .before .before .pre .1))
 
+enum-told-4 : tie.Need-enum-told-4
+enum-told-4 c = search needs
+
+slice-aggregate-show-faces : tie.Need-slice-aggregate-show-faces
+slice-aggregate-show-faces c = search needs
+
+show-faces-requires : tie.Need-show-faces-requires
+show-faces-requires c κs = (c .before .before .before .before .before .before .before .before .before .feed-all .ensures .ready, omega (arith, c .before .before .before .before .before .before .before .before .before .before .before .before .before .pre .1))
+
 enum-known-number : tie.Need-enum-known-number
 enum-known-number c = search needs
 
@@ -111,6 +120,16 @@ same-length-4 c = search needs
 
 returns-4 : tie.Need-returns-4
 returns-4 c =
+    let s = rw (c .before .before .before .before .before .before .before .before .before .triangles .given .1, c .before .before .before .before .before .before .before .before .before .before .before .before .before .before .empty-grid .ensures ∙ bytes-lent) at (c .before .before .before .before .before .before .before .before .before .before .before .before .feed-all .ensures) in
+    let p = c .before .before .show-faces .ensures in
+    rw (c .before .before .before .before .before .enum-told4 .given .1)
+    (record { bytes = s .bytes; fits = p .1; text = p .0 .holds ∙ printed-done Faces (c .before .before .before .before .before .before .before .before .before .before .before .before .before .before .before .before .args .l) _ (c .before .before .before .before .before .before .before .before .before .triangles .given .0 .0) s })
+
+same-length-5 : tie.Need-same-length-5
+same-length-5 c = search needs
+
+returns-5 : tie.Need-returns-5
+returns-5 c =
     let s = rw (c .before .before .before .before .before .number .given .1, c .before .before .before .before .before .before .before .before .before .before .empty-grid .ensures ∙ bytes-lent) at (c .before .before .before .before .before .before .before .before .feed-all .ensures) in
     let p = c .before .before .put-refusal .ensures in
     record {
@@ -142,6 +161,9 @@ repair-at-spec =
     slice-aggregate-show-masks
     slice-aggregate-show-masks-2
     show-masks-requires
+    enum-told-4
+    slice-aggregate-show-faces
+    show-faces-requires
     enum-known-number
     put-refusal-requires
     same-length
@@ -151,4 +173,6 @@ repair-at-spec =
     same-length-3
     returns-3
     same-length-4
-    returns-4)
+    returns-4
+    same-length-5
+    returns-5)
