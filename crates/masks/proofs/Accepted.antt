@@ -33,5 +33,6 @@ header-holds = refl
 
 -- every call gives the number that the rules have for it
 pub cases-hold : allOf right cases ≡ true
-unfolding cases single badLevel levelAt levelOf masksRows masksCall masks mask maskRow packed decimal digits isGrid bytes marks edgeFits pointFits signsFit signBytes
+unfolding cases single badLevel levelAt levelOf masksRows masksCall masks mask maskRow packed decimal digits isGrid bytes marks edgeFits pointFits
+    signsFit signBytes
 cases-hold = refl

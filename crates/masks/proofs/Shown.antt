@@ -43,7 +43,8 @@ module _ (n : ℕ) where
     -- behind the row's end there is none
     pub padding-zero : suc n ≤ x → pixel s (row n k j) x ≡ 0
     padding-zero h =
-        ap (λ (b : Bool). value b 1) (List·getD-eq-default (map s (row n k j)) false {n = x} (let e = length-map (row n k j) s in let m = row-long k j in omega arith))
+        ap (λ (b : Bool). value b 1) (List·getD-eq-default (map s (row n k j)) false {n = x}
+        (let e = length-map (row n k j) s in let m = row-long k j in omega arith))
 
 module _ (n : ℕ) (g : List ℕ) where
   abbrev s : Point → Bool

@@ -17,5 +17,6 @@ use Rattle.stl_writing.specs.Refused.{cases}
 
 -- every call gives the number that the rules have for it
 pub cases-hold : allOf right cases ≡ true
-unfolding cases single badLevel levelAt levelOf writeRows writeCall writeDone shortFile isGrid bytes marks edgeFits pointFits signsFit signBytes facings header fileOf word vertexBytes triangleBytes pairBytes
+unfolding cases single badLevel levelAt levelOf writeRows writeCall writeDone shortFile isGrid bytes marks edgeFits pointFits signsFit signBytes
+    facings header fileOf word vertexBytes triangleBytes pairBytes
 cases-hold = refl

@@ -55,5 +55,10 @@ unfolding writeRows writeCall writeDone
 write-done level g e out h =
     let v = levelAt level in
     let n = cellsOf v in
-    let r = answered-done (λ o. o .number) (refused out) (writeDone (sideOf v) e (facings n (marks n g) (inside n g)) out) (λ i. refl) refl (writeRows level g e out) refl h in
-    (v, good-number level (r .0 .0), subst (Written v g e out) (sym (r .1)) (done-written v g e out (r .0 .1 .1 .0) (not-false (signsFit n (marks n g) (inside n g)) (r .0 .1 .1 .1 .1 .0))))
+    let r = answered-done (λ o. o .number) (refused out) (writeDone (sideOf v) e (facings n (marks n g) (inside n g)) out) (λ i. refl) refl
+    (writeRows level g e out) refl h in (
+      v,
+      good-number level (r .0 .0),
+      subst (Written v g e out) (sym (r .1))
+          (done-written v g e out (r .0 .1 .1 .0) (not-false (signsFit n (marks n g) (inside n g)) (r .0 .1 .1 .1 .1 .0))),
+    )

@@ -18,7 +18,8 @@ module _ {l : Level} {g h : List ℕ} {t : ℕ} {s j : List ℕ} (came : Came l 
   came-more u f z =
       record {
         bytes = came .bytes ++ s;
-        goes-on = λ rest. ap (λ (x : List ℕ). taken (numberOf l) mostTriangles x 0 g) (append-assoc (came .bytes) s rest) ∙ came .goes-on (s ++ rest) ∙ f .goes-on rest (λ h. z);
+        goes-on = λ rest. ap (λ (x : List ℕ). taken (numberOf l) mostTriangles x 0 g) (append-assoc (came .bytes) s rest) ∙ came .goes-on (s ++ rest)
+            ∙ f .goes-on rest (λ h. z);
       }
 
   -- the stream ends with a block

@@ -90,7 +90,8 @@ module _ (l : Level) where
     unfolding listed surfaceDone
     number-is =
         ap (λ (o : Surfacing). o .number) (surface-listed l s (done .long) (done .grid) (done .fits) lentList)
-        ∙ answered-number (λ o. o .number) (refused lentList) (surfaceDone n (marks n s) (inside n s) lentList) (λ i. refl) refl (8 when shortList n (marks n s) lentList ∷ [])
+        ∙ answered-number (λ o. o .number) (refused lentList) (surfaceDone n (marks n s) (inside n s) lentList) (λ i. refl) refl
+        (8 when shortList n (marks n s) lentList ∷ [])
         ∙ ap (λ (E : Set). firstOf (8 when shortList n E lentList ∷ [])) (signs-marks n (marks n h) (marks-inner n h) (drop (pointsOf l) h) ∙ left-marks n g)
 
     says-closed : Says (closed (numberOf l) g (surfaced (numberOf l) t)) (firstOf (surfaceRows l g))
@@ -122,13 +123,23 @@ module _ (l : Level) where
         (rw (taken-refused (numberOf l) t g s some more _ (sym (mark-out l g r (numbers s) (numbers-nine s k) e)) some-number)
         (says-refusal (outNumber l (badOne l (numbers s))) some-number))
     in-range k true e =
-        rw (rows-some more s g not-none, le-ltb (length s) 36 k, e, taken-one (numberOf l) t g s some more _ (sym (mark-in l g r (numbers s) (numbers-nine s k) e)) refl)
+        rw (
+          rows-some more s g not-none,
+          le-ltb (length s) 36 k,
+          e,
+          taken-one (numberOf l) t g s some more _ (sym (mark-in l g r (numbers s) (numbers-nine s k) e)) refl,
+        )
         (rest (markedBy l (triangleOf (numbers s)) g) (ready-after l g (numbers s) r (numbers-nine s k) e))
 
     next : (b : Bool) → ltb (length s) 36 ≡ b → Told (suc more) s t g
     next true e =
         let short = numbers-short s (ltb-true (length s) 36 e) in
-        rw (rows-some more s g not-none, e, taken-refused (numberOf l) t g s some more _ (sym (mark-short l g r (numbers s) (λ z. omega arith))) (λ z. omega arith))
+        rw (
+          rows-some more s g not-none,
+          e,
+          taken-refused (numberOf l) t g s some more _ (sym (mark-short l g r (numbers s) (λ z. omega arith)))
+              (λ z. omega arith),
+        )
         (says-refusal 3 (λ z. omega arith))
     next false e = in-range (ltb-false (length s) 36 e) (allInRange l (numbers s)) refl
 

@@ -50,7 +50,8 @@ module _ (l : Level) where
   unfolding opened
   open-still =
       ap (λ (b : List ℕ). replicate (pointsOf l) 0 ++ b)
-      (ap (drop (pointsOf l)) split ∙ drop-at (replicate (pointsOf l) 0) (replicate (35937 - pointsOf l) 0) (pointsOf l) (length-replicate {A = ℕ} (pointsOf l) 0))
+      (ap (drop (pointsOf l)) split ∙ drop-at (replicate (pointsOf l) 0) (replicate (35937 - pointsOf l) 0) (pointsOf l)
+      (length-replicate {A = ℕ} (pointsOf l) 0))
       ∙ sym split
 
   pub open-done : openCall (numberOf l) lentBytes lentTotals ≡ done lentBytes (trued (cellsOf l) lentBytes lentTotals)

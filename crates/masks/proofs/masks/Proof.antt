@@ -61,53 +61,84 @@ returns-2 c =
     simp (level .0, level .1, lt-ltb _ _ (rw (c .before .points .ensures) at (c .if1 .taken)))
 
 is-grid-requires : tie.Need-is-grid-requires
-is-grid-requires c κs = rw (c .before .before .cells .ensures) (cells-most (c .before .before .before .before .l .given .0 .0), rw (c .before .points .ensures) at (c .if1 .left))
+is-grid-requires c κs =
+    let l-told = c .before .before .before .before .l in
+    rw (c .before .before .cells .ensures) (cells-most (l-told .given .0 .0), rw (c .before .points .ensures) at (c .if1 .left))
 
 returns-3 : tie.Need-returns-3
 unfolding masksRows masksCall
 returns-3 c =
-    let level = read-known _ _ (sym (c .before .before .before .before .before .before .before .before .read .ensures) ∙ c .before .before .before .before .before .before .l .given .1) in
-    let none = fails (rw (c .before .before .before .before .cells .ensures) at (c .before .is-grid .ensures)) (c .if2 .taken) in
+    let cells = c .before .before .before .before .cells in
+    let l-told = c .before .before .before .before .before .before .l in
+    let read = c .before .before .before .before .before .before .before .before .read in
+    let level = read-known _ _ (sym (read .ensures) ∙ l-told .given .1) in
+    let none = fails (rw (cells .ensures) at (c .before .is-grid .ensures)) (c .if2 .taken) in
     simp (level .0, level .1, le-ltb _ _ (rw (c .before .before .before .points .ensures) at (c .before .before .if1 .left)), none)
 
 signs-fit-requires : tie.Need-signs-fit-requires
 signs-fit-requires c κs =
-    let grid = holds (rw (c .before .before .before .before .cells .ensures) at (c .before .is-grid .ensures)) (c .if2 .left) in
-    rw (c .before .before .before .before .cells .ensures) (cells-most (c .before .before .before .before .before .before .l .given .0 .0), rw (c .before .before .before .points .ensures) at (c .before .before .if1 .left), grid)
+    let cells = c .before .before .before .before .cells in
+    let l-told = c .before .before .before .before .before .before .l in
+    let grid = holds (rw (cells .ensures) at (c .before .is-grid .ensures)) (c .if2 .left) in
+    rw (cells .ensures) (cells-most (l-told .given .0 .0), rw (c .before .before .before .points .ensures) at (c .before .before .if1 .left), grid)
 
 returns-4 : tie.Need-returns-4
 unfolding masksRows masksCall
 returns-4 c =
-    let level = read-known _ _ (sym (c .before .before .before .before .before .before .before .before .before .before .read .ensures) ∙ c .before .before .before .before .before .before .before .before .l .given .1) in
-    let grid = holds (rw (c .before .before .before .before .before .before .cells .ensures) at (c .before .before .before .is-grid .ensures)) (c .before .before .if2 .left) in
-    let out = fails (rw (c .before .before .before .before .before .before .cells .ensures) at (c .before .signs-fit .ensures)) (c .if3 .taken) in
-    simp (level .0, level .1, le-ltb _ _ (rw (c .before .before .before .before .before .points .ensures) at (c .before .before .before .before .if1 .left)), grid, out)
+    let if1 = c .before .before .before .before .if1 in
+    let points = c .before .before .before .before .before .points in
+    let cells = c .before .before .before .before .before .before .cells in
+    let l-told = c .before .before .before .before .before .before .before .before .l in
+    let read = c .before .before .before .before .before .before .before .before .before .before .read in
+    let level = read-known _ _ (sym (read .ensures) ∙ l-told .given .1) in
+    let grid = holds (rw (cells .ensures) at (c .before .before .before .is-grid .ensures)) (c .before .before .if2 .left) in
+    let out = fails (rw (cells .ensures) at (c .before .signs-fit .ensures)) (c .if3 .taken) in
+    simp (level .0, level .1, le-ltb _ _ (rw (points .ensures) at (if1 .left)), grid, out)
 
 add-w : tie.Need-add-w
 add-w c = search needs
 
 mask-size-requires : tie.Need-mask-size-requires
-mask-size-requires c κs = omega (arith, c .before .before .before .before .before .before .cells .ensures, cells-most (c .before .before .before .before .before .before .before .before .l .given .0 .0))
+mask-size-requires c κs =
+    let cells = c .before .before .before .before .before .before .cells in
+    let l-told = c .before .before .before .before .before .before .before .before .l in
+    omega (arith, cells .ensures, cells-most (l-told .given .0 .0))
 
 mul-if4 : tie.Need-mul-if4
 mul-if4 c =
-    let a : c .before .before .before .before .before .before .before .cells .result + 1 ≤ 33 = omega (arith, c .before .before .before .before .before .before .before .cells .ensures, cells-most (c .before .before .before .before .before .before .before .before .before .l .given .0 .0)) in
+    let cells = c .before .before .before .before .before .before .before .cells in
+    let l-told = c .before .before .before .before .before .before .before .before .before .l in
+    let a : cells .result + 1 ≤ 33 = omega (arith, cells .ensures, cells-most (l-told .given .0 .0)) in
     omega (arith, mul-le-mul a (c .mask-size .ensures .1))
 
 returns-5 : tie.Need-returns-5
 unfolding masksRows masksCall
 returns-5 c =
-    let level = read-known _ _ (sym (c .before .before .before .before .before .before .before .before .before .before .before .before .read .ensures) ∙ c .before .before .before .before .before .before .before .before .before .before .l .given .1) in
-    let grid = holds (rw (c .before .before .before .before .before .before .before .before .cells .ensures) at (c .before .before .before .before .before .is-grid .ensures)) (c .before .before .before .before .if2 .left) in
-    let fit = holds (rw (c .before .before .before .before .before .before .before .before .cells .ensures) at (c .before .before .before .signs-fit .ensures)) (c .before .before .if3 .left) in
-    let size = room (c .before .before .before .before .before .before .before .before .before .before .l .given .0 .0) (c .before .before .before .before .before .before .before .before .before .before .before .before .before .before .before .args .grid .now) _ _ (ap (λ (n : ℕ). n + 1) (c .before .before .before .before .before .before .before .before .cells .ensures)) (c .before .mask-size .ensures .0) in
-    simp (level .0, level .1, le-ltb _ _ (rw (c .before .before .before .before .before .before .before .points .ensures) at (c .before .before .before .before .before .before .if1 .left)), grid, fit, lt-ltb _ _ (rw (← size) at (c .if4 .taken)))
+    let if2 = c .before .before .before .before .if2 in
+    let is-grid = c .before .before .before .before .before .is-grid in
+    let if1 = c .before .before .before .before .before .before .if1 in
+    let points = c .before .before .before .before .before .before .before .points in
+    let cells = c .before .before .before .before .before .before .before .before .cells in
+    let l-told = c .before .before .before .before .before .before .before .before .before .before .l in
+    let read = c .before .before .before .before .before .before .before .before .before .before .before .before .read in
+    let start = c .before .before .before .before .before .before .before .before .before .before .before .before .before .before .before in
+    let level = read-known _ _ (sym (read .ensures) ∙ l-told .given .1) in
+    let grid = holds (rw (cells .ensures) at (is-grid .ensures)) (if2 .left) in
+    let fit = holds (rw (cells .ensures) at (c .before .before .before .signs-fit .ensures)) (c .before .before .if3 .left) in
+    let size = room (l-told .given .0 .0) (start .args .grid .now) _ _ (ap (λ (n : ℕ). n + 1) (cells .ensures)) (c .before .mask-size .ensures .0) in
+    simp (level .0, level .1, le-ltb _ _ (rw (points .ensures) at (if1 .left)), grid, fit, lt-ltb _ _ (rw (← size) at (c .if4 .taken)))
 
 put-masks-requires : tie.Need-put-masks-requires
 put-masks-requires c κs =
-    let w : c .before .before .before .before .before .before .before .before .before .cells .result + 1 ≡ suc (cellsOf (c .before .before .before .before .before .before .before .before .before .before .before .l .given .0 .0)) = rw (c .before .before .before .before .before .before .before .before .before .cells .ensures, add-one (cellsOf (c .before .before .before .before .before .before .before .before .before .before .before .l .given .0 .0))) in
-    let room : (c .before .before .before .before .before .before .before .before .before .cells .result + 1) * maskSize (c .before .before .before .before .before .before .before .before .before .cells .result + 1) ≤ length (c .before .before .before .before .before .before .before .before .before .before .before .before .before .before .before .before .args .out .now) = rw (← c .before .before .mask-size .ensures .0) (c .before .if4 .left) in
-    (omega (arith, c .before .before .before .before .before .before .before .before .before .cells .ensures, cells-most (c .before .before .before .before .before .before .before .before .before .before .before .l .given .0 .0)), rw w (rw (c .before .before .before .before .before .before .before .before .points .ensures) at (c .before .before .before .before .before .before .before .if1 .left)), room)
+    let if1 = c .before .before .before .before .before .before .before .if1 in
+    let points = c .before .before .before .before .before .before .before .before .points in
+    let cells = c .before .before .before .before .before .before .before .before .before .cells in
+    let l-told = c .before .before .before .before .before .before .before .before .before .before .before .l in
+    let start = c .before .before .before .before .before .before .before .before .before .before .before .before .before .before .before .before in
+    let w : cells .result + 1 ≡ suc (cellsOf (l-told .given .0 .0)) = rw (cells .ensures, add-one (cellsOf (l-told .given .0 .0))) in
+    let room : (cells .result + 1) * maskSize (cells .result + 1) ≤ length (start .args .out .now) = rw (← c .before .before .mask-size .ensures .0)
+    (c .before .if4 .left) in
+    (omega (arith, cells .ensures, cells-most (l-told .given .0 .0)), rw w (rw (points .ensures) at (if1 .left)), room)
 
 same-length : tie.Need-same-length
 same-length c = search needs
@@ -115,13 +146,26 @@ same-length c = search needs
 returns-6 : tie.Need-returns-6
 unfolding masksRows masksCall
 returns-6 c =
-    let level = read-known _ _ (sym (c .before .before .before .before .before .before .before .before .before .before .before .before .before .before .before .before .read .ensures) ∙ c .before .before .before .before .before .before .before .before .before .before .before .before .before .before .l .given .1) in
-    let grid = holds (rw (c .before .before .before .before .before .before .before .before .before .before .before .before .cells .ensures) at (c .before .before .before .before .before .before .before .before .before .is-grid .ensures)) (c .before .before .before .before .before .before .before .before .if2 .left) in
-    let fit = holds (rw (c .before .before .before .before .before .before .before .before .before .before .before .before .cells .ensures) at (c .before .before .before .before .before .before .before .signs-fit .ensures)) (c .before .before .before .before .before .before .if3 .left) in
-    let w = ap (λ (n : ℕ). n + 1) (c .before .before .before .before .before .before .before .before .before .before .before .before .cells .ensures) in
-    let size = room (c .before .before .before .before .before .before .before .before .before .before .before .before .before .before .l .given .0 .0) (c .before .before .before .before .before .before .before .before .before .before .before .before .before .before .before .before .before .before .before .args .grid .now) _ _ w (c .before .before .before .before .before .mask-size .ensures .0) in
-    simp (level .0, level .1, le-ltb _ _ (rw (c .before .before .before .before .before .before .before .before .before .before .before .points .ensures) at (c .before .before .before .before .before .before .before .before .before .before .if1 .left)), grid, fit, le-ltb _ _ (rw (← size) at (c .before .before .before .before .if4 .left)))
-    (whole (c .before .before .before .before .before .before .before .before .before .before .before .before .before .before .l .given .0 .0) (c .before .before .before .before .before .before .before .before .before .before .before .before .before .before .before .before .before .before .before .args .grid .now) _ _ _ _ w (c .before .before .put-masks .ensures))
+    let if4 = c .before .before .before .before .if4 in
+    let mask-size = c .before .before .before .before .before .mask-size in
+    let if3 = c .before .before .before .before .before .before .if3 in
+    let signs-fit = c .before .before .before .before .before .before .before .signs-fit in
+    let if2 = c .before .before .before .before .before .before .before .before .if2 in
+    let is-grid = c .before .before .before .before .before .before .before .before .before .is-grid in
+    let if1 = c .before .before .before .before .before .before .before .before .before .before .if1 in
+    let points = c .before .before .before .before .before .before .before .before .before .before .before .points in
+    let cells = c .before .before .before .before .before .before .before .before .before .before .before .before .cells in
+    let l-told = c .before .before .before .before .before .before .before .before .before .before .before .before .before .before .l in
+    let back = c .before .before .before .before .before .before .before .before .before .before in
+    let read = back .before .before .before .before .before .before .read in
+    let start = back .before .before .before .before .before .before .before .before .before in
+    let level = read-known _ _ (sym (read .ensures) ∙ l-told .given .1) in
+    let grid = holds (rw (cells .ensures) at (is-grid .ensures)) (if2 .left) in
+    let fit = holds (rw (cells .ensures) at (signs-fit .ensures)) (if3 .left) in
+    let w = ap (λ (n : ℕ). n + 1) (cells .ensures) in
+    let size = room (l-told .given .0 .0) (start .args .grid .now) _ _ w (mask-size .ensures .0) in
+    simp (level .0, level .1, le-ltb _ _ (rw (points .ensures) at (if1 .left)), grid, fit, le-ltb _ _ (rw (← size) at (if4 .left)))
+    (whole (l-told .given .0 .0) (start .args .grid .now) _ _ _ _ w (c .before .before .put-masks .ensures))
 
 pub masks-spec : {M : Type 1} → statement M
 masks-spec =

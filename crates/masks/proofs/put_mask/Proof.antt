@@ -29,20 +29,39 @@ slice-aggregate-put-text c = search needs
 
 put-text-requires : tie.Need-put-text-requires
 put-text-requires c κs =
+    let put-fields = c .before .before .before .before .put-fields in
+    let start = c .before .before .before .before .before .before .before .before .before .before in
     let w = c .before .before .before .before .before .before .before .before .before .before .args .w in
-    omega (arith, c .before .before .before .before .before .before .before .before .before .before .pre .2, fields-length (ascii "P4\n") w (ascii " ") w, c .before .before .before .before .put-fields .ensures .place, c .before .before .before .before .put-fields .kept .0)
+    omega (arith, start .pre .2, fields-length (ascii "P4\n") w (ascii " ") w, put-fields .ensures .place, put-fields .kept .0)
 
 put-rows-requires : tie.Need-put-rows-requires
 put-rows-requires c κs =
-    let w = c .before .before .before .before .before .before .before .before .before .before .before .before .before .before .args .w in
-    (c .before .before .before .before .before .before .before .before .before .before .before .before .before .before .pre .0, c .before .before .before .before .before .before .before .before .before .before .before .before .before .before .pre .1, omega (arith, c .before .before .before .before .before .before .before .before .before .before .before .before .before .before .pre .2, fields-length (ascii "P4\n") w (ascii " ") w, c .before .before .before .before .before .before .before .before .put-fields .ensures .place, c .before .before .before .before .before .before .before .before .put-fields .kept .0, c .before .before .before .put-text .ensures .place, c .before .before .before .put-text .kept .0))
+    let put-text = c .before .before .before .put-text in
+    let put-fields = c .before .before .before .before .before .before .before .before .put-fields in
+    let start = c .before .before .before .before .before .before .before .before .before .before .before .before .before .before in
+    let w = c .before .before .before .before .before .before .before .before .before .before .before .before .before .before .args .w in (
+      start .pre .0,
+      start .pre .1,
+      omega (
+        arith,
+        start .pre .2,
+        fields-length (ascii "P4\n") w (ascii " ") w,
+        put-fields .ensures .place,
+        put-fields .kept .0,
+        put-text .ensures .place,
+        put-text .kept .0,
+      ),
+    )
 
 same-length : tie.Need-same-length
 same-length c = search needs
 
 returns : tie.Need-returns
 unfolding maskAt
-returns c = put-both (put-both (c .before .before .before .before .before .before .before .before .before .before .before .put-fields .ensures) (c .before .before .before .before .before .before .put-text .ensures)) (c .before .before .put-rows .ensures)
+returns c =
+    let put-text = c .before .before .before .before .before .before .put-text in
+    let put-fields = c .before .before .before .before .before .before .before .before .before .before .before .put-fields in
+    put-both (put-both (put-fields .ensures) (put-text .ensures)) (c .before .before .put-rows .ensures)
 
 pub put-mask-spec : {M : Type 1} → statement M
 put-mask-spec =

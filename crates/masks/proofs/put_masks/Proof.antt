@@ -40,39 +40,71 @@ loop-holds c =
 
 sub-put-mask : tie.Need-sub-put-mask Inv-loop μ-loop
 sub-put-mask c =
+    let start = c .before .before .before .before in
     let w = c .before .before .before .before .args .w in
-    omega (arith, piece-room (maskSize w) (c .before .loop .k) w (c .loop-test .taken), mul-comm w (maskSize w), c .before .before .before .before .pre .2, c .before .loop .inv .2, c .before .loop .inv .3)
+    omega (
+      arith,
+      piece-room (maskSize w) (c .before .loop .k) w (c .loop-test .taken),
+      mul-comm w (maskSize w),
+      start .pre .2,
+      c .before .loop .inv .2,
+      c .before .loop .inv .3,
+    )
 
 part-put-mask-start : tie.Need-part-put-mask-start Inv-loop μ-loop
 part-put-mask-start c =
+    let start = c .before .before .before .before in
     let w = c .before .before .before .before .args .w in
-    omega (arith, piece-room (maskSize w) (c .before .loop .k) w (c .loop-test .taken), mul-comm w (maskSize w), c .before .before .before .before .pre .2, c .before .loop .inv .2, c .before .loop .inv .3)
+    omega (
+      arith,
+      piece-room (maskSize w) (c .before .loop .k) w (c .loop-test .taken),
+      mul-comm w (maskSize w),
+      start .pre .2,
+      c .before .loop .inv .2,
+      c .before .loop .inv .3,
+    )
 
 part-put-mask-end : tie.Need-part-put-mask-end Inv-loop μ-loop
 part-put-mask-end c = search needs
 
 put-mask-requires : tie.Need-put-mask-requires Inv-loop μ-loop
 put-mask-requires c κs =
+    let start = c .before .before .before .before .before in
     let w = c .before .before .before .before .before .args .w in
     let m = c .before .before .loop in
     let r = piece-room (maskSize w) (m .k) w (c .before .loop-test .taken) in
     let q = piece-room (w * w) (m .k) w (c .before .loop-test .taken) in (
-      c .before .before .before .before .before .pre .0,
-      omega (arith, q, c .before .before .before .before .before .pre .1, m .inv .1),
-      part-room (m .out) (m .at) (maskSize w) (omega (arith, r, mul-comm w (maskSize w), c .before .before .before .before .before .pre .2, m .inv .2, m .inv .3)),
+      start .pre .0,
+      omega (arith, q, start .pre .1, m .inv .1),
+      part-room (m .out) (m .at) (maskSize w) (omega (arith, r, mul-comm w (maskSize w), start .pre .2, m .inv .2, m .inv .3)),
     )
 
 add-at : tie.Need-add-at Inv-loop μ-loop
 add-at c =
+    let loop-test = c .before .before .before .before .loop-test in
+    let start = c .before .before .before .before .before .before .before .before in
+    let good = c .before .before .before .before .before .before .before .before .good in
     let w = c .before .before .before .before .before .before .before .before .args .w in
     let m = c .before .before .before .before .before .loop in
-    omega (arith, piece-room (maskSize w) (m .k) w (c .before .before .before .before .loop-test .taken), mul-comm w (maskSize w), c .before .before .before .before .before .before .before .before .pre .2, m .inv .2, c .before .before .put-mask .ensures .place, mask-length (c .before .before .before .before .before .before .before .before .args .grid .now) (m .p) w, c .before .before .before .before .before .before .before .before .good)
+    omega (
+      arith,
+      piece-room (maskSize w) (m .k) w (loop-test .taken),
+      mul-comm w (maskSize w),
+      start .pre .2,
+      m .inv .2,
+      c .before .before .put-mask .ensures .place,
+      mask-length (start .args .grid .now) (m .p) w,
+      good,
+    )
 
 add-p : tie.Need-add-p Inv-loop μ-loop
 add-p c =
+    let loop-test = c .before .before .before .before .loop-test in
+    let start = c .before .before .before .before .before .before .before .before in
+    let good = c .before .before .before .before .before .before .before .before .good in
     let w = c .before .before .before .before .before .before .before .before .args .w in
     let m = c .before .before .before .before .before .loop in
-    omega (arith, piece-room (w * w) (m .k) w (c .before .before .before .before .loop-test .taken), c .before .before .before .before .before .before .before .before .pre .1, m .inv .1, c .before .before .before .before .before .before .before .before .good)
+    omega (arith, piece-room (w * w) (m .k) w (loop-test .taken), start .pre .1, m .inv .1, good)
 
 add-k : tie.Need-add-k Inv-loop μ-loop
 add-k c = omega arith
@@ -82,18 +114,21 @@ loop-less c = omega arith
 
 loop-again : tie.Need-loop-again Inv-loop μ-loop
 loop-again c =
+    let loop-test = c .before .before .before .before .loop-test in
+    let start = c .before .before .before .before .before .before .before .before in
     let a = c .before .before .before .before .before .before .before .before .args in
     let m = c .before .before .before .before .before .loop in
     let q = c .before .before .put-mask in
     let w = a .w in
-    let r = piece-room (maskSize w) (m .k) w (c .before .before .before .before .loop-test .taken) in
-    let fits : m .at ≤ length (m .out) = omega (arith, r, mul-comm w (maskSize w), c .before .before .before .before .before .before .before .before .pre .2, m .inv .2, m .inv .3) in
+    let r = piece-room (maskSize w) (m .k) w (loop-test .taken) in
+    let fits : m .at ≤ length (m .out) = omega (arith, r, mul-comm w (maskSize w), start .pre .2, m .inv .2, m .inv .3) in
     let size = q .ensures .place ∙ zero-add _ ∙ mask-length (a .grid .now) (m .p) w in (
       omega arith,
       rw (piece-more (w * w) (m .k)) (ap (λ (x : ℕ). x + w * w) (m .inv .1)),
       rw (piece-more (maskSize w) (m .k)) (λ i. m .inv .2 i + size i),
       same-len-mid (m .at) (length (m .out) - m .at) (m .out) (q .last .0) (q .kept .0) ∙ m .inv .3,
-      rw (each-more _ (m .k)) (put-both (m .inv .4) (moved (a .grid .now) w (m .p) (w * w * m .k) (m .inv .1) (put-part {l = m .out} {at = m .at} fits (q .ensures)))),
+      rw (each-more _ (m .k)) (put-both (m .inv .4)
+          (moved (a .grid .now) w (m .p) (w * w * m .k) (m .inv .1) (put-part {l = m .out} {at = m .at} fits (q .ensures)))),
     )
 
 same-length : tie.Need-same-length Inv-loop μ-loop

@@ -37,10 +37,16 @@ packed-requires c κs =
     (s .pre .1, omega (arith, s .pre .0, c .before .loop .inv .0, c .loop-test .taken))
 
 add-out : tie.Need-add-out Inv-loop μ-loop
-add-out c = omega (arith, c .before .before .before .before .before .pre .2, c .before .before .loop .inv .0, c .before .loop-test .taken, c .before .before .before .before .before .good)
+add-out c =
+    let start = c .before .before .before .before .before in
+    let good = c .before .before .before .before .before .good in
+    omega (arith, start .pre .2, c .before .before .loop .inv .0, c .before .loop-test .taken, good)
 
 slice-write-out : tie.Need-slice-write-out Inv-loop μ-loop
-slice-write-out c = omega (arith, c .before .before .before .before .before .pre .2, c .before .before .loop .inv .0, c .before .before .loop .inv .2, c .before .loop-test .taken)
+slice-write-out c =
+    let loop-told = c .before .before .loop in
+    let start = c .before .before .before .before .before in
+    omega (arith, start .pre .2, loop-told .inv .0, loop-told .inv .2, c .before .loop-test .taken)
 
 add-b : tie.Need-add-b Inv-loop μ-loop
 add-b c = omega (arith, c .before .loop-test .taken)
@@ -63,7 +69,10 @@ loop-again c =
     )
 
 add-result : tie.Need-add-result Inv-loop μ-loop
-add-result c = omega (arith, c .before .before .before .before .pre .2, c .before .loop .inv .0, c .before .loop .inv .1, c .before .before .before .before .good)
+add-result c =
+    let start = c .before .before .before .before in
+    let good = c .before .before .before .before .good in
+    omega (arith, start .pre .2, c .before .loop .inv .0, c .before .loop .inv .1, good)
 
 same-length : tie.Need-same-length Inv-loop μ-loop
 same-length c = c .before .loop .inv .2
@@ -74,7 +83,8 @@ returns c =
     let m = c .before .loop in
     let a = c .before .before .before .before .args in
     let e : m .b ≡ rowBytes (a .w) = le-antisymm (m .inv .1) (c .loop-test .left) ∙ m .inv .0 in
-    subst (λ (k : ℕ). Put (a .out .now) (a .at) (map (λ d. packed (λ x. pixelAt (a .grid .now) (a .from) (a .w) (8 * d + x)) 8) (upto 0 k)) (m .out) (a .at + m .b)) e (m .inv .3)
+    subst (λ (k : ℕ). Put (a .out .now) (a .at) (map (λ d. packed (λ x. pixelAt (a .grid .now) (a .from) (a .w) (8 * d + x)) 8) (upto 0 k)) (m .out)
+    (a .at + m .b)) e (m .inv .3)
 
 pub put-row-spec : {M : Type 1} → statement M
 put-row-spec =

@@ -59,7 +59,8 @@ loop-again c =
     let row : Put (m .out) (m .next) (rowAt (a .grid .now) (a .from + a .w * m .j) (a .w)) (q .last .0) (q .result) = rw e at (q .ensures) in (
       omega arith,
       rw (piece-more (a .w) (m .j), e) (add-assoc (a .from) (a .w * m .j) (a .w)),
-      q .ensures .place ∙ (λ i. m .inv .2 i + row-length (a .grid .now) (m .p) (a .w) i) ∙ rw (piece-more (rowBytes (a .w)) (m .j)) (add-assoc (a .at) (rowBytes (a .w) * m .j) (rowBytes (a .w))),
+      q .ensures .place ∙ (λ i. m .inv .2 i + row-length (a .grid .now) (m .p) (a .w) i) ∙ rw (piece-more (rowBytes (a .w)) (m .j))
+          (add-assoc (a .at) (rowBytes (a .w) * m .j) (rowBytes (a .w))),
       q .kept .0 ∙ m .inv .3,
       rw (each-more _ (m .j)) (put-both (m .inv .4) row),
     )

@@ -14,7 +14,10 @@ same-length : tie.Need-same-length
 same-length c = search needs
 
 returns : tie.Need-returns
-returns c = header-put _ _ _ _ (c .before .before .before .before .before .before .before .before .before .pre) (c .before .before .before .before .before .before .clear .ensures) (c .before .before .put-word .ensures)
+returns c =
+    let clear = c .before .before .before .before .before .before .clear in
+    let start = c .before .before .before .before .before .before .before .before .before in
+    header-put _ _ _ _ (start .pre) (clear .ensures) (c .before .before .put-word .ensures)
 
 pub put-header-spec : {M : Type 1} → statement M
 put-header-spec = tie.close (tie.spec clear-requires put-word-requires same-length returns)

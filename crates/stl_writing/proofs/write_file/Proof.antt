@@ -43,12 +43,16 @@ same-length c = search needs
 
 returns-2 : tie.Need-returns-2
 returns-2 c =
+    let put-header = c .before .before .before .before .before .before .put-header in
+    let if1 = c .before .before .before .before .before .before .before .before .if1 in
+    let count-quads = c .before .before .before .before .before .before .before .before .before .count-quads in
     let s = c .before .before .before .before .before .before .before .before .before .before .before .before in
     let n = s .args .n in
     let g = s .args .grid .now in
     let l = facings n (marks n g) (inside n g) in
-    let many = c .before .before .before .before .before .before .before .before .before .count-quads .ensures .0 ∙ sym (facings-count n (marks n g) (inside n g)) in
-    file-written (s .args .side) (exponentOf (s .args .s)) l (s .args .out .now) _ many _ _ (c .before .before .before .before .before .before .before .before .if1 .left) (c .before .before .before .before .before .before .put-header .ensures) (c .before .before .put-quads .ensures)
+    let many = count-quads .ensures .0 ∙ sym (facings-count n (marks n g) (inside n g)) in
+    file-written (s .args .side) (exponentOf (s .args .s)) l (s .args .out .now) _ many _ _ (if1 .left) (put-header .ensures)
+    (c .before .before .put-quads .ensures)
 
 pub write-file-spec : {M : Type 1} → statement M
 write-file-spec =

@@ -54,39 +54,71 @@ enum-told-2 c = search needs
 returns-3 : tie.Need-returns-3
 unfolding writeRows writeCall
 returns-3 c =
-    let level = read-known _ _ (sym (c .before .before .before .before .before .before .before .before .before .read .ensures) ∙ c .before .before .before .before .before .before .before .l .given .1) in
-    let long = rw (c .before .before .before .before .points .ensures) at (c .before .before .before .if1 .left) in
-    let bad = scale-bad (c .before .before .before .before .before .before .before .before .before .before .before .before .args .e) (sym (c .enum-told2 .given .1) ∙ c .before .before .scale-of .ensures ∙ ap scaleOf (toZ-ofZ w32 _ (c .before .before .before .before .before .before .before .before .before .before .before .before .fits .e))) in
+    let points = c .before .before .before .before .points in
+    let l = c .before .before .before .before .before .before .before .l in
+    let read = c .before .before .before .before .before .before .before .before .before .read in
+    let start = c .before .before .before .before .before .before .before .before .before .before .before .before in
+    let fits = c .before .before .before .before .before .before .before .before .before .before .before .before .fits in
+    let level = read-known _ _ (sym (read .ensures) ∙ l .given .1) in
+    let long = rw (points .ensures) at (c .before .before .before .if1 .left) in
+    let bad = scale-bad (start .args .e) (sym (c .enum-told2 .given .1) ∙ c .before .before .scale-of .ensures ∙ ap scaleOf (toZ-ofZ w32 _ (fits .e))) in
     simp (level .0, level .1, le-ltb _ _ long, bad)
 
 is-grid-requires : tie.Need-is-grid-requires
 is-grid-requires c κs =
-    let long = rw (c .before .before .before .before .before .points .ensures) at (c .before .before .before .before .if1 .left) in
-    rw (c .before .before .before .before .before .before .cells .ensures) (cells-most (c .before .before .before .before .before .before .before .before .l .given .0 .0), long)
+    let if1 = c .before .before .before .before .if1 in
+    let points = c .before .before .before .before .before .points in
+    let cells = c .before .before .before .before .before .before .cells in
+    let l = c .before .before .before .before .before .before .before .before .l in
+    let long = rw (points .ensures) at (if1 .left) in
+    rw (cells .ensures) (cells-most (l .given .0 .0), long)
 
 returns-4 : tie.Need-returns-4
 unfolding writeRows writeCall
 returns-4 c =
-    let level = read-known _ _ (sym (c .before .before .before .before .before .before .before .before .before .before .before .before .read .ensures) ∙ c .before .before .before .before .before .before .before .before .before .before .l .given .1) in
-    let long = rw (c .before .before .before .before .before .before .before .points .ensures) at (c .before .before .before .before .before .before .if1 .left) in
-    let scale = scale-told (c .before .before .before .before .before .before .before .before .before .before .before .before .before .before .before .args .e) (c .before .before .before .s .given .0 .0) (sym (c .before .before .before .s .given .1) ∙ c .before .before .before .before .before .scale-of .ensures ∙ ap scaleOf (toZ-ofZ w32 _ (c .before .before .before .before .before .before .before .before .before .before .before .before .before .before .before .fits .e))) in
-    let none = fails (rw (c .before .before .before .before .before .before .before .before .cells .ensures) at (c .before .is-grid .ensures)) (c .if2 .taken) in
+    let s-told = c .before .before .before .s in
+    let scale-of = c .before .before .before .before .before .scale-of in
+    let if1 = c .before .before .before .before .before .before .if1 in
+    let points = c .before .before .before .before .before .before .before .points in
+    let cells = c .before .before .before .before .before .before .before .before .cells in
+    let l = c .before .before .before .before .before .before .before .before .before .before .l in
+    let read = c .before .before .before .before .before .before .before .before .before .before .before .before .read in
+    let start = c .before .before .before .before .before .before .before .before .before .before .before .before .before .before .before in
+    let fits = c .before .before .before .before .before .before .before .before .before .before .before .before .before .before .before .fits in
+    let level = read-known _ _ (sym (read .ensures) ∙ l .given .1) in
+    let long = rw (points .ensures) at (if1 .left) in
+    let scale = scale-told (start .args .e) (s-told .given .0 .0) (sym (s-told .given .1) ∙ scale-of .ensures ∙ ap scaleOf (toZ-ofZ w32 _ (fits .e))) in
+    let none = fails (rw (cells .ensures) at (c .before .is-grid .ensures)) (c .if2 .taken) in
     simp (level .0, level .1, le-ltb _ _ long, scale .good, none)
 
 signs-fit-requires : tie.Need-signs-fit-requires
 signs-fit-requires c κs =
-    let long = rw (c .before .before .before .before .before .before .before .points .ensures) at (c .before .before .before .before .before .before .if1 .left) in
-    let grid = holds (rw (c .before .before .before .before .before .before .before .before .cells .ensures) at (c .before .is-grid .ensures)) (c .if2 .left) in
-    rw (c .before .before .before .before .before .before .before .before .cells .ensures) (cells-most (c .before .before .before .before .before .before .before .before .before .before .l .given .0 .0), long, grid)
+    let if1 = c .before .before .before .before .before .before .if1 in
+    let points = c .before .before .before .before .before .before .before .points in
+    let cells = c .before .before .before .before .before .before .before .before .cells in
+    let l = c .before .before .before .before .before .before .before .before .before .before .l in
+    let long = rw (points .ensures) at (if1 .left) in
+    let grid = holds (rw (cells .ensures) at (c .before .is-grid .ensures)) (c .if2 .left) in
+    rw (cells .ensures) (cells-most (l .given .0 .0), long, grid)
 
 returns-5 : tie.Need-returns-5
 unfolding writeRows writeCall
 returns-5 c =
-    let level = read-known _ _ (sym (c .before .before .before .before .before .before .before .before .before .before .before .before .before .before .read .ensures) ∙ c .before .before .before .before .before .before .before .before .before .before .before .before .l .given .1) in
-    let long = rw (c .before .before .before .before .before .before .before .before .before .points .ensures) at (c .before .before .before .before .before .before .before .before .if1 .left) in
-    let scale = scale-told (c .before .before .before .before .before .before .before .before .before .before .before .before .before .before .before .before .before .args .e) (c .before .before .before .before .before .s .given .0 .0) (sym (c .before .before .before .before .before .s .given .1) ∙ c .before .before .before .before .before .before .before .scale-of .ensures ∙ ap scaleOf (toZ-ofZ w32 _ (c .before .before .before .before .before .before .before .before .before .before .before .before .before .before .before .before .before .fits .e))) in
-    let grid = holds (rw (c .before .before .before .before .before .before .before .before .before .before .cells .ensures) at (c .before .before .before .is-grid .ensures)) (c .before .before .if2 .left) in
-    let out = fails (rw (c .before .before .before .before .before .before .before .before .before .before .cells .ensures) at (c .before .signs-fit .ensures)) (c .if3 .taken) in
+    let s-told = c .before .before .before .before .before .s in
+    let scale-of = c .before .before .before .before .before .before .before .scale-of in
+    let if1 = c .before .before .before .before .before .before .before .before .if1 in
+    let points = c .before .before .before .before .before .before .before .before .before .points in
+    let cells = c .before .before .before .before .before .before .before .before .before .before .cells in
+    let l = c .before .before .before .before .before .before .before .before .before .before .before .before .l in
+    let read = c .before .before .before .before .before .before .before .before .before .before .before .before .before .before .read in
+    let back = c .before .before .before .before .before .before .before .before .before .before in
+    let start = back .before .before .before .before .before .before .before in
+    let fits = back .before .before .before .before .before .before .before .fits in
+    let level = read-known _ _ (sym (read .ensures) ∙ l .given .1) in
+    let long = rw (points .ensures) at (if1 .left) in
+    let scale = scale-told (start .args .e) (s-told .given .0 .0) (sym (s-told .given .1) ∙ scale-of .ensures ∙ ap scaleOf (toZ-ofZ w32 _ (fits .e))) in
+    let grid = holds (rw (cells .ensures) at (c .before .before .before .is-grid .ensures)) (c .before .before .if2 .left) in
+    let out = fails (rw (cells .ensures) at (c .before .signs-fit .ensures)) (c .if3 .taken) in
     simp (level .0, level .1, le-ltb _ _ long, scale .good, grid, out)
 
 side-requires : tie.Need-side-requires
@@ -94,10 +126,21 @@ side-requires c κs = search needs
 
 write-file-requires : tie.Need-write-file-requires
 write-file-requires c κs =
-    let long = rw (c .before .before .before .before .before .before .before .before .before .before .before .points .ensures) at (c .before .before .before .before .before .before .before .before .before .before .if1 .left) in
-    let scale = scale-told (c .before .before .before .before .before .before .before .before .before .before .before .before .before .before .before .before .before .before .before .args .e) (c .before .before .before .before .before .before .before .s .given .0 .0) (sym (c .before .before .before .before .before .before .before .s .given .1) ∙ c .before .before .before .before .before .before .before .before .before .scale-of .ensures ∙ ap scaleOf (toZ-ofZ w32 _ (c .before .before .before .before .before .before .before .before .before .before .before .before .before .before .before .before .before .before .before .fits .e))) in
-    let grid = holds (rw (c .before .before .before .before .before .before .before .before .before .before .before .before .cells .ensures) at (c .before .before .before .before .before .is-grid .ensures)) (c .before .before .before .before .if2 .left) in
-    rw (c .before .before .before .before .before .before .before .before .before .before .before .before .cells .ensures, c .before .side .ensures) (cells-most (c .before .before .before .before .before .before .before .before .before .before .before .before .before .before .l .given .0 .0), side-whole (c .before .before .before .before .before .before .before .before .before .before .before .before .before .before .l .given .0 .0), scale .small, long, grid)
+    let if2 = c .before .before .before .before .if2 in
+    let is-grid = c .before .before .before .before .before .is-grid in
+    let s-told = c .before .before .before .before .before .before .before .s in
+    let scale-of = c .before .before .before .before .before .before .before .before .before .scale-of in
+    let if1 = c .before .before .before .before .before .before .before .before .before .before .if1 in
+    let points = c .before .before .before .before .before .before .before .before .before .before .before .points in
+    let cells = c .before .before .before .before .before .before .before .before .before .before .before .before .cells in
+    let l = c .before .before .before .before .before .before .before .before .before .before .before .before .before .before .l in
+    let back = c .before .before .before .before .before .before .before .before .before .before in
+    let start = back .before .before .before .before .before .before .before .before .before in
+    let fits = back .before .before .before .before .before .before .before .before .before .fits in
+    let long = rw (points .ensures) at (if1 .left) in
+    let scale = scale-told (start .args .e) (s-told .given .0 .0) (sym (s-told .given .1) ∙ scale-of .ensures ∙ ap scaleOf (toZ-ofZ w32 _ (fits .e))) in
+    let grid = holds (rw (cells .ensures) at (is-grid .ensures)) (if2 .left) in
+    rw (cells .ensures, c .before .side .ensures) (cells-most (l .given .0 .0), side-whole (l .given .0 .0), scale .small, long, grid)
 
 same-length : tie.Need-same-length
 same-length c = search needs
@@ -105,16 +148,34 @@ same-length c = search needs
 returns-6 : tie.Need-returns-6
 unfolding written writeRows writeCall
 returns-6 c =
-    let level = read-known _ _ (sym (c .before .before .before .before .before .before .before .before .before .before .before .before .before .before .before .before .before .before .before .read .ensures) ∙ c .before .before .before .before .before .before .before .before .before .before .before .before .before .before .before .before .before .l .given .1) in
-    let long = rw (c .before .before .before .before .before .before .before .before .before .before .before .before .before .before .points .ensures) at (c .before .before .before .before .before .before .before .before .before .before .before .before .before .if1 .left) in
-    let scale = scale-told (c .before .before .before .before .before .before .before .before .before .before .before .before .before .before .before .before .before .before .before .before .before .before .args .e) (c .before .before .before .before .before .before .before .before .before .before .s .given .0 .0) (sym (c .before .before .before .before .before .before .before .before .before .before .s .given .1) ∙ c .before .before .before .before .before .before .before .before .before .before .before .before .scale-of .ensures ∙ ap scaleOf (toZ-ofZ w32 _ (c .before .before .before .before .before .before .before .before .before .before .before .before .before .before .before .before .before .before .before .before .before .before .fits .e))) in
-    let grid = holds (rw (c .before .before .before .before .before .before .before .before .before .before .before .before .before .before .before .cells .ensures) at (c .before .before .before .before .before .before .before .before .is-grid .ensures)) (c .before .before .before .before .before .before .before .if2 .left) in
-    let fit = holds (rw (c .before .before .before .before .before .before .before .before .before .before .before .before .before .before .before .cells .ensures) at (c .before .before .before .before .before .before .signs-fit .ensures)) (c .before .before .before .before .before .if3 .left) in
-    let g = c .before .before .before .before .before .before .before .before .before .before .before .before .before .before .before .before .before .before .before .before .before .before .args .grid .now in
-    let out = c .before .before .before .before .before .before .before .before .before .before .before .before .before .before .before .before .before .before .before .before .before .before .args .out .now in
+    let side = c .before .before .before .before .side in
+    let if3 = c .before .before .before .before .before .if3 in
+    let signs-fit = c .before .before .before .before .before .before .signs-fit in
+    let if2 = c .before .before .before .before .before .before .before .if2 in
+    let is-grid = c .before .before .before .before .before .before .before .before .is-grid in
+    let s-told = c .before .before .before .before .before .before .before .before .before .before .s in
+    let scale-of = c .before .before .before .before .before .before .before .before .before .before .before .before .scale-of in
+    let if1 = c .before .before .before .before .before .before .before .before .before .before .before .before .before .if1 in
+    let points = c .before .before .before .before .before .before .before .before .before .before .before .before .before .before .points in
+    let cells = c .before .before .before .before .before .before .before .before .before .before .before .before .before .before .before .cells in
+    let back = c .before .before .before .before .before .before .before .before .before .before in
+    let l = back .before .before .before .before .before .before .before .l in
+    let read = back .before .before .before .before .before .before .before .before .before .read in
+    let back2 = back .before .before .before .before .before .before .before .before .before .before in
+    let start = back2 .before .before in
+    let fits = back2 .before .before .fits in
+    let level = read-known _ _ (sym (read .ensures) ∙ l .given .1) in
+    let long = rw (points .ensures) at (if1 .left) in
+    let scale = scale-told (start .args .e) (s-told .given .0 .0) (sym (s-told .given .1) ∙ scale-of .ensures ∙ ap scaleOf (toZ-ofZ w32 _ (fits .e))) in
+    let grid = holds (rw (cells .ensures) at (is-grid .ensures)) (if2 .left) in
+    let fit = holds (rw (cells .ensures) at (signs-fit .ensures)) (if3 .left) in
+    let back = c .before .before .before .before .before .before .before .before .before .before in
+    let g = back .before .before .before .before .before .before .before .before .before .before .before .before .args .grid .now in
+    let back = c .before .before .before .before .before .before .before .before .before .before in
+    let out = back .before .before .before .before .before .before .before .before .before .before .before .before .args .out .now in
     let n = c .before .before .before .before .before .before .before .before .before .before .before .before .before .before .before .cells .ensures in
     simp (level .0, level .1, le-ltb _ _ long, scale .good, grid, fit)
-    (c .before .before .write-file .ensures ∙ (λ i. written (c .before .before .before .before .side .ensures i) (scale .exponent i) (facings (n i) (marks (n i) g) (inside (n i) g)) out))
+    (c .before .before .write-file .ensures ∙ (λ i. written (side .ensures i) (scale .exponent i) (facings (n i) (marks (n i) g) (inside (n i) g)) out))
 
 pub write-stl-spec : {M : Type 1} → statement M
 write-stl-spec =

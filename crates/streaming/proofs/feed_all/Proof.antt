@@ -50,16 +50,28 @@ enum-told : tie.Need-enum-told Inv-loop μ-loop
 enum-told c = search needs
 
 same-length : tie.Need-same-length Inv-loop μ-loop
-same-length c = c .before .before .before .before .feed .kept .1 .0 ∙ c .before .before .before .before .before .before .before .before .before .before .loop .inv .2
+same-length c =
+    let feed = c .before .before .before .before .feed in
+    let loop-told = c .before .before .before .before .before .before .before .before .before .before .loop in
+    feed .kept .1 .0 ∙ loop-told .inv .2
 
 returns : tie.Need-returns Inv-loop μ-loop
-returns c = came-end (c .before .before .before .before .before .before .before .before .before .before .loop .inv .4) (c .before .before .before .before .feed .ensures)
+returns c =
+    let feed = c .before .before .before .before .feed in
+    let loop-told = c .before .before .before .before .before .before .before .before .before .before .loop in
+    came-end (loop-told .inv .4) (feed .ensures)
 
 same-length-2 : tie.Need-same-length-2 Inv-loop μ-loop
-same-length-2 c = c .before .before .before .before .before .before .feed .kept .1 .0 ∙ c .before .before .before .before .before .before .before .before .before .before .before .before .loop .inv .2
+same-length-2 c =
+    let feed = c .before .before .before .before .before .before .feed in
+    let loop-told = c .before .before .before .before .before .before .before .before .before .before .before .before .loop in
+    feed .kept .1 .0 ∙ loop-told .inv .2
 
 returns-2 : tie.Need-returns-2 Inv-loop μ-loop
-returns-2 c = came-end (c .before .before .before .before .before .before .before .before .before .before .before .before .loop .inv .4) (rw (c .before .before .fed .given .1) at (c .before .before .before .before .before .before .feed .ensures))
+returns-2 c =
+    let feed = c .before .before .before .before .before .before .feed in
+    let loop-told = c .before .before .before .before .before .before .before .before .before .before .before .before .loop in
+    came-end (loop-told .inv .4) (rw (c .before .before .fed .given .1) at (feed .ensures))
 
 loop-less : tie.Need-loop-less Inv-loop μ-loop
 loop-less c =
@@ -70,14 +82,16 @@ loop-less c =
 
 loop-again : tie.Need-loop-again Inv-loop μ-loop
 loop-again c =
+    let fed = c .before .before .fed in
+    let feed = c .before .before .before .before .before .before .feed in
     let l = c .before .before .before .before .before .before .before .before .before .before .before .before .loop in
-    let f = rw (c .before .before .fed .given .1) at (c .before .before .before .before .before .before .feed .ensures) in
+    let f = rw (fed .given .1) at (feed .ensures) in
     let r = c .before .before .before .before .before .before .before .before .before .before .read-full in (
       f .counted .0,
       r .kept .1 .0 ∙ l .inv .1,
-      c .before .before .before .before .before .before .feed .kept .1 .0 ∙ l .inv .2,
+      feed .kept .1 .0 ∙ l .inv .2,
       f .ready,
-      came-more (l .inv .4) (c .before .before .fed .given .0 .0) f (omega (arith, r .ensures .0, r .ensures .1, c .if1 .left, r .kept .1 .0, l .inv .1)),
+      came-more (l .inv .4) (fed .given .0 .0) f (omega (arith, r .ensures .0, r .ensures .1, c .if1 .left, r .kept .1 .0, l .inv .1)),
     )
 
 pub feed-all-spec : {M : Type 1} → statement M

@@ -40,7 +40,11 @@ slice-aggregate-report-3 c = search needs
 
 report-requires : tie.Need-report-requires
 report-requires c κs =
-    (c .before .before .before .before .before .before .before .before .before .before .before .before .before .before .before .before .pre .0, c .before .before .before .before .before .before .before .before .before .before .before .before .feed-all .ensures .ready, c .before .before .before .before .before .before .before .empty-grid2 .ensures ∙ bytes-lent, c .before .before .before .before .empty-list .ensures ∙ list-lent, c .before .before .before .before .before .before .before .before .before .before .before .before .before .before .before .before .pre .1)
+    let empty-list = c .before .before .before .before .empty-list in
+    let empty-grid2 = c .before .before .before .before .before .before .before .empty-grid2 in
+    let feed-all = c .before .before .before .before .before .before .before .before .before .before .before .before .feed-all in
+    let start = c .before .before .before .before .before .before .before .before .before .before .before .before .before .before .before .before in
+    (start .pre .0, feed-all .ensures .ready, empty-grid2 .ensures ∙ bytes-lent, empty-list .ensures ∙ list-lent, start .pre .1)
 
 enum-told-2 : tie.Need-enum-told-2
 enum-told-2 c = search needs
@@ -52,7 +56,11 @@ slice-aggregate-show-2 : tie.Need-slice-aggregate-show-2
 slice-aggregate-show-2 c = search needs
 
 show-requires : tie.Need-show-requires
-show-requires c κs = (c .before .before .before .before .before .before .before .before .before .before .feed-all .ensures .ready, c .before .before .before .before .before .empty-grid2 .ensures ∙ bytes-lent, omega (arith, c .before .before .before .before .before .before .before .before .before .before .before .before .before .before .pre .1))
+show-requires c κs =
+    let empty-grid2 = c .before .before .before .before .before .empty-grid2 in
+    let feed-all = c .before .before .before .before .before .before .before .before .before .before .feed-all in
+    let start = c .before .before .before .before .before .before .before .before .before .before .before .before .before .before in
+    (feed-all .ensures .ready, empty-grid2 .ensures ∙ bytes-lent, omega (arith, start .pre .1))
 
 enum-told-3 : tie.Need-enum-told-3
 enum-told-3 c = search needs
@@ -64,7 +72,11 @@ slice-aggregate-show-masks-2 : tie.Need-slice-aggregate-show-masks-2
 slice-aggregate-show-masks-2 c = search needs
 
 show-masks-requires : tie.Need-show-masks-requires
-show-masks-requires c κs = (c .before .before .before .before .before .before .before .before .before .before .feed-all .ensures .ready, c .before .before .before .before .before .empty-grid2 .ensures ∙ bytes-lent, omega (arith, c .before .before .before .before .before .before .before .before .before .before .before .before .before .before .pre .1))
+show-masks-requires c κs =
+    let empty-grid2 = c .before .before .before .before .before .empty-grid2 in
+    let feed-all = c .before .before .before .before .before .before .before .before .before .before .feed-all in
+    let start = c .before .before .before .before .before .before .before .before .before .before .before .before .before .before in
+    (feed-all .ensures .ready, empty-grid2 .ensures ∙ bytes-lent, omega (arith, start .pre .1))
 
 enum-told-4 : tie.Need-enum-told-4
 enum-told-4 c = search needs
@@ -73,7 +85,10 @@ slice-aggregate-show-faces : tie.Need-slice-aggregate-show-faces
 slice-aggregate-show-faces c = search needs
 
 show-faces-requires : tie.Need-show-faces-requires
-show-faces-requires c κs = (c .before .before .before .before .before .before .before .before .before .feed-all .ensures .ready, omega (arith, c .before .before .before .before .before .before .before .before .before .before .before .before .before .pre .1))
+show-faces-requires c κs =
+    let feed-all = c .before .before .before .before .before .before .before .before .before .feed-all in
+    let start = c .before .before .before .before .before .before .before .before .before .before .before .before .before in
+    (feed-all .ensures .ready, omega (arith, start .pre .1))
 
 enum-known-number : tie.Need-enum-known-number
 enum-known-number c = search needs
@@ -86,13 +101,20 @@ same-length c = search needs
 
 returns : tie.Need-returns
 returns c =
-    let s = rw (c .before .before .before .before .before .before .before .before .before .before .before .before .before .before .before .triangles .given .1, c .before .before .before .before .before .before .before .before .before .before .before .before .before .before .before .before .before .before .before .before .empty-grid .ensures ∙ bytes-lent) at (c .before .before .before .before .before .before .before .before .before .before .before .before .before .before .before .before .before .before .feed-all .ensures) in
+    let enum-told-told = c .before .before .before .before .before .before .before .before .before .before .before .enum-told in
+    let back = c .before .before .before .before .before .before .before .before .before .before in
+    let triangles = back .before .before .before .before .before .triangles in
+    let feed-all = back .before .before .before .before .before .before .before .before .feed-all in
+    let empty-grid = back .before .before .before .before .before .before .before .before .before .before .empty-grid in
+    let back2 = back .before .before .before .before .before .before .before .before .before .before in
+    let start = back2 .before .before in
+    let s = rw (triangles .given .1, empty-grid .ensures ∙ bytes-lent) at (feed-all .ensures) in
     let p = c .before .before .before .before .before .report .ensures in
-    rw (c .before .before .before .before .before .before .before .before .before .before .before .enum-told .given .1)
+    rw (enum-told-told .given .1)
     (record {
       bytes = s .bytes;
       fits = p .1;
-      text = p .0 .holds ∙ rw (c .before .before .before .before .before .before .before .before .before .before .before .before .before .before .before .before .before .before .before .before .before .before .pre .0) (printed-done Listing (c .before .before .before .before .before .before .before .before .before .before .before .before .before .before .before .before .before .before .before .before .before .before .args .l) _ (c .before .before .before .before .before .before .before .before .before .before .before .before .before .before .before .triangles .given .0 .0) s);
+      text = p .0 .holds ∙ rw (start .pre .0) (printed-done Listing (start .args .l) _ (triangles .given .0 .0) s);
     })
 
 same-length-2 : tie.Need-same-length-2
@@ -100,42 +122,63 @@ same-length-2 c = search needs
 
 returns-2 : tie.Need-returns-2
 returns-2 c =
-    let s = rw (c .before .before .before .before .before .before .before .before .before .before .before .before .triangles .given .1, c .before .before .before .before .before .before .before .before .before .before .before .before .before .before .before .before .before .empty-grid .ensures ∙ bytes-lent) at (c .before .before .before .before .before .before .before .before .before .before .before .before .before .before .before .feed-all .ensures) in
+    let enum-told2 = c .before .before .before .before .before .before .before .before .enum-told2 in
+    let triangles = c .before .before .before .before .before .before .before .before .before .before .before .before .triangles in
+    let back = c .before .before .before .before .before .before .before .before .before .before in
+    let feed-all = back .before .before .before .before .before .feed-all in
+    let empty-grid = back .before .before .before .before .before .before .before .empty-grid in
+    let start = back .before .before .before .before .before .before .before .before .before in
+    let s = rw (triangles .given .1, empty-grid .ensures ∙ bytes-lent) at (feed-all .ensures) in
     let p = c .before .before .before .before .show .ensures in
-    let t = c .before .before .before .before .before .before .before .before .before .before .before .before .triangles .given .0 .0 in
-    rw (c .before .before .before .before .before .before .before .before .enum-told2 .given .1) (record { bytes = s .bytes; fits = p .1; text = p .0 .holds ∙ printed-done Layers (c .before .before .before .before .before .before .before .before .before .before .before .before .before .before .before .before .before .before .before .args .l) _ t s })
+    let t = triangles .given .0 .0 in
+    rw (enum-told2 .given .1) (record { bytes = s .bytes; fits = p .1; text = p .0 .holds ∙ printed-done Layers (start .args .l) _ t s })
 
 same-length-3 : tie.Need-same-length-3
 same-length-3 c = search needs
 
 returns-3 : tie.Need-returns-3
 returns-3 c =
-    let s = rw (c .before .before .before .before .before .before .before .before .before .before .before .before .triangles .given .1, c .before .before .before .before .before .before .before .before .before .before .before .before .before .before .before .before .before .empty-grid .ensures ∙ bytes-lent) at (c .before .before .before .before .before .before .before .before .before .before .before .before .before .before .before .feed-all .ensures) in
+    let enum-told3 = c .before .before .before .before .before .before .before .before .enum-told3 in
+    let triangles = c .before .before .before .before .before .before .before .before .before .before .before .before .triangles in
+    let back = c .before .before .before .before .before .before .before .before .before .before in
+    let feed-all = back .before .before .before .before .before .feed-all in
+    let empty-grid = back .before .before .before .before .before .before .before .empty-grid in
+    let start = back .before .before .before .before .before .before .before .before .before in
+    let s = rw (triangles .given .1, empty-grid .ensures ∙ bytes-lent) at (feed-all .ensures) in
     let p = c .before .before .before .before .show-masks .ensures in
-    rw (c .before .before .before .before .before .before .before .before .enum-told3 .given .1)
-    (record { bytes = s .bytes; fits = p .1; text = p .0 .holds ∙ printed-done Masks (c .before .before .before .before .before .before .before .before .before .before .before .before .before .before .before .before .before .before .before .args .l) _ (c .before .before .before .before .before .before .before .before .before .before .before .before .triangles .given .0 .0) s })
+    rw (enum-told3 .given .1)
+    (record { bytes = s .bytes; fits = p .1; text = p .0 .holds ∙ printed-done Masks (start .args .l) _ (triangles .given .0 .0) s })
 
 same-length-4 : tie.Need-same-length-4
 same-length-4 c = search needs
 
 returns-4 : tie.Need-returns-4
 returns-4 c =
-    let s = rw (c .before .before .before .before .before .before .before .before .before .triangles .given .1, c .before .before .before .before .before .before .before .before .before .before .before .before .before .before .empty-grid .ensures ∙ bytes-lent) at (c .before .before .before .before .before .before .before .before .before .before .before .before .feed-all .ensures) in
+    let enum-told4 = c .before .before .before .before .before .enum-told4 in
+    let triangles = c .before .before .before .before .before .before .before .before .before .triangles in
+    let feed-all = c .before .before .before .before .before .before .before .before .before .before .before .before .feed-all in
+    let empty-grid = c .before .before .before .before .before .before .before .before .before .before .before .before .before .before .empty-grid in
+    let start = c .before .before .before .before .before .before .before .before .before .before .before .before .before .before .before .before in
+    let s = rw (triangles .given .1, empty-grid .ensures ∙ bytes-lent) at (feed-all .ensures) in
     let p = c .before .before .show-faces .ensures in
-    rw (c .before .before .before .before .before .enum-told4 .given .1)
-    (record { bytes = s .bytes; fits = p .1; text = p .0 .holds ∙ printed-done Faces (c .before .before .before .before .before .before .before .before .before .before .before .before .before .before .before .before .args .l) _ (c .before .before .before .before .before .before .before .before .before .triangles .given .0 .0) s })
+    rw (enum-told4 .given .1)
+    (record { bytes = s .bytes; fits = p .1; text = p .0 .holds ∙ printed-done Faces (start .args .l) _ (triangles .given .0 .0) s })
 
 same-length-5 : tie.Need-same-length-5
 same-length-5 c = search needs
 
 returns-5 : tie.Need-returns-5
 returns-5 c =
-    let s = rw (c .before .before .before .before .before .number .given .1, c .before .before .before .before .before .before .before .before .before .before .empty-grid .ensures ∙ bytes-lent) at (c .before .before .before .before .before .before .before .before .feed-all .ensures) in
+    let number = c .before .before .before .before .before .number in
+    let feed-all = c .before .before .before .before .before .before .before .before .feed-all in
+    let empty-grid = c .before .before .before .before .before .before .before .before .before .before .empty-grid in
+    let start = c .before .before .before .before .before .before .before .before .before .before .before .before in
+    let s = rw (number .given .1, empty-grid .ensures ∙ bytes-lent) at (feed-all .ensures) in
     let p = c .before .before .put-refusal .ensures in
     record {
       bytes = s .bytes;
       fits = p .1;
-      text = p .0 .holds ∙ printed-refused (c .before .before .before .before .before .before .before .before .before .before .before .before .args .wanted) (c .before .before .before .before .before .before .before .before .before .before .before .before .args .l) _ (c .before .before .before .before .before .number .given .0 .0) s;
+      text = p .0 .holds ∙ printed-refused (start .args .wanted) (start .args .l) _ (number .given .0 .0) s;
     }
 
 pub repair-at-spec : {M : Type 1} → statement M

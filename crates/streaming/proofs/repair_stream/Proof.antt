@@ -21,8 +21,9 @@ same-length c = search needs
 
 returns : tie.Need-returns
 returns c =
+    let start = c .before .before .before .before .before .before .before .before .before in
     let p = c .before .before .put-refusal .ensures in
-    record { bytes = []; fits = p .1; text = p .0 .holds ∙ printed-none (c .before .before .before .before .before .before .before .before .before .args .wanted) }
+    record { bytes = []; fits = p .1; text = p .0 .holds ∙ printed-none (start .args .wanted) }
 
 array-read-wide : tie.Need-array-read-wide
 array-read-wide c = search needs
@@ -47,28 +48,36 @@ same-length-2 c = search needs
 
 returns-2 : tie.Need-returns-2
 returns-2 c =
+    let enum-told-told = c .before .before .before .before .enum-told in
+    let read = c .before .before .before .before .before .before .read in
+    let start = c .before .before .before .before .before .before .before .before .before .before .before .before .before in
     let p = c .before .before .put-refusal2 .ensures in
     let w = c .before .before .before .before .before .before .before .wide .result in
     record {
       bytes = w ∷ [];
       fits = p .1;
-      text = p .0 .holds ∙ printed-bad (c .before .before .before .before .before .before .before .before .before .before .before .before .before .args .wanted) [] w (sym (c .before .before .before .before .before .before .read .ensures) ∙ c .before .before .before .before .enum-told .given .1);
+      text = p .0 .holds ∙ printed-bad (start .args .wanted) [] w (sym (read .ensures) ∙ enum-told-told .given .1);
     }
 
 repair-at-requires : tie.Need-repair-at-requires
-repair-at-requires c κs = (read-number _ _ (sym (c .before .before .before .before .read .ensures) ∙ c .before .before .l .given .1), c .before .before .before .before .before .before .before .before .before .before .before .pre)
+repair-at-requires c κs =
+    let read = c .before .before .before .before .read in
+    let start = c .before .before .before .before .before .before .before .before .before .before .before in
+    (read-number _ _ (sym (read .ensures) ∙ c .before .before .l .given .1), start .pre)
 
 same-length-3 : tie.Need-same-length-3
 same-length-3 c = search needs
 
 returns-3 : tie.Need-returns-3
 returns-3 c =
+    let l-told = c .before .before .before .before .before .l in
+    let start = c .before .before .before .before .before .before .before .before .before .before .before .before .before .before in
     let p = c .before .before .repair-at .ensures in
-    let l = c .before .before .before .before .before .l .given .0 .0 in
+    let l = l-told .given .0 .0 in
     record {
       bytes = numberOf l ∷ p .bytes;
       fits = p .fits;
-      text = p .text ∙ printed-level (c .before .before .before .before .before .before .before .before .before .before .before .before .before .before .args .wanted) (p .bytes) l;
+      text = p .text ∙ printed-level (start .args .wanted) (p .bytes) l;
     }
 
 pub repair-stream-spec : {M : Type 1} → statement M

@@ -24,7 +24,12 @@ low-requires c κs = search needs
 returns : tie.Need-returns
 returns c =
     let s = c .before .before .before in
-    simp (edges-none (s .args .side) (exponentOf (s .args .s)) (s .args .b) (s .args .upward) (s .args .q) (sym (c .before .low .ensures .0) ∙ c .if1 .taken), add-zero, puts-none) (refl, refl)
+    simp (
+      edges-none (s .args .side) (exponentOf (s .args .s)) (s .args .b) (s .args .upward) (s .args .q)
+          (sym (c .before .low .ensures .0) ∙ c .if1 .taken),
+      add-zero,
+      puts-none,
+    ) (refl, refl)
 
 -- a hundred bytes for each mark, and so for all of them
 long : (s : tie.Start) (a : Axis) →
@@ -58,9 +63,11 @@ same-length c = search needs
 returns-2 : tie.Need-returns-2
 unfolding byteEdges puts
 returns-2 c =
+    let put-edge2 = c .before .before .before .before .before .before .put-edge2 in
+    let put-edge = c .before .before .before .before .before .before .before .before .before .before .put-edge in
     let s = c .before .before .before .before .before .before .before .before .before .before .before .before .before .before .before in
     let f : Axis → List ℕ = λ a. byteEdge (s .args .side) (exponentOf (s .args .s)) (s .args .b) (s .args .upward) a (s .args .q) in
-    three-written (s .args .out .now) (s .args .at) (f X) (f Y) (f Z) (c .before .before .before .before .before .before .before .before .before .before .put-edge .ensures) (c .before .before .before .before .before .before .put-edge2 .ensures) (c .before .before .put-edge3 .ensures)
+    three-written (s .args .out .now) (s .args .at) (f X) (f Y) (f Z) (put-edge .ensures) (put-edge2 .ensures) (c .before .before .put-edge3 .ensures)
 
 pub put-edges-spec : {M : Type 1} → statement M
 put-edges-spec =

@@ -17,72 +17,151 @@ next-requires-2 : tie.Need-next-requires-2
 next-requires-2 c κs = search needs
 
 down-requires : tie.Need-down-requires
-down-requires c κs = on-last (c .before .before .before .args .a) (c .before .next .result) (c .next2 .result) (c .before .before .before .args .q) _ (c .before .next .ensures) (c .next2 .ensures) refl (c .before .before .before .args .side) (c .before .before .before .pre .2)
+down-requires c κs =
+    let start = c .before .before .before in
+    on-last (start .args .a) (c .before .next .result) (c .next2 .result) (start .args .q) _ (c .before .next .ensures) (c .next2 .ensures) refl
+    (start .args .side) (start .pre .2)
 
 down-requires-2 : tie.Need-down-requires-2
-down-requires-2 c κs = let s = c .before .before .before .before in on-first (s .args .a) (c .before .before .next .result) (c .before .next2 .result) (s .args .q) (c .down .result) (c .before .before .next .ensures) (c .before .next2 .ensures) (c .down .ensures) (s .args .side) (s .pre .2)
+down-requires-2 c κs =
+    let next = c .before .before .next in
+    let s = c .before .before .before .before in on-first (s .args .a) (next .result) (c .before .next2 .result) (s .args .q) (c .down .result)
+    (next .ensures) (c .before .next2 .ensures) (c .down .ensures) (s .args .side) (s .pre .2)
 
 corner-requires : tie.Need-corner-requires
 corner-requires c κs =
-    let s = c .before .before .before .before .before in
-    (s .pre .0, s .pre .1, subst (Placed (s .args .side)) (sym (c .down2 .ensures)) (down-placed (s .args .side) (c .before .before .before .next .result) (c .before .down .result) (below-placed (s .args .a) (c .before .before .before .next .result) (c .before .before .next2 .result) (s .args .q) (c .before .down .result) (c .before .before .before .next .ensures) (c .before .before .next2 .ensures) (c .before .down .ensures) (s .args .side) (s .pre .2))))
+    let next2 = c .before .before .next2 in
+    let next = c .before .before .before .next in
+    let s = c .before .before .before .before .before in (
+      s .pre .0,
+      s .pre .1,
+      subst (Placed (s .args .side)) (sym (c .down2 .ensures))
+          (down-placed (s .args .side) (next .result) (c .before .down .result)
+          (below-placed (s .args .a) (next .result) (next2 .result) (s .args .q) (c .before .down .result) (next .ensures) (next2 .ensures)
+          (c .before .down .ensures) (s .args .side) (s .pre .2))),
+    )
 
 corner-requires-2 : tie.Need-corner-requires-2
-corner-requires-2 c κs = let s = c .before .before .before .before .before .before in (s .pre .0, s .pre .1, below-placed (s .args .a) (c .before .before .before .before .next .result) (c .before .before .before .next2 .result) (s .args .q) (c .before .before .down .result) (c .before .before .before .before .next .ensures) (c .before .before .before .next2 .ensures) (c .before .before .down .ensures) (s .args .side) (s .pre .2))
+corner-requires-2 c κs =
+    let down-told = c .before .before .down in
+    let next2 = c .before .before .before .next2 in
+    let next = c .before .before .before .before .next in
+    let s = c .before .before .before .before .before .before in (
+      s .pre .0,
+      s .pre .1,
+      below-placed (s .args .a) (next .result) (next2 .result) (s .args .q) (down-told .result) (next .ensures)
+          (next2 .ensures) (down-told .ensures) (s .args .side) (s .pre .2),
+    )
 
 corner-requires-3 : tie.Need-corner-requires-3
-corner-requires-3 c κs = (c .before .before .before .before .before .before .before .pre .0, c .before .before .before .before .before .before .before .pre .1, c .before .before .before .before .before .before .before .pre .2 .cell)
+corner-requires-3 c κs =
+    let start = c .before .before .before .before .before .before .before in
+    (start .pre .0, start .pre .1, start .pre .2 .cell)
 
 down-requires-3 : tie.Need-down-requires-3
-down-requires-3 c κs = let s = c .before .before .before .before .before .before .before .before in on-next (s .args .a) (c .before .before .before .before .before .before .next .result) (c .before .before .before .before .before .next2 .result) (s .args .q) (c .before .before .before .before .down .result) (c .before .before .before .before .before .before .next .ensures) (c .before .before .before .before .before .next2 .ensures) (c .before .before .before .before .down .ensures) (s .args .side) (s .pre .2)
+down-requires-3 c κs =
+    let down-told = c .before .before .before .before .down in
+    let next2 = c .before .before .before .before .before .next2 in
+    let next = c .before .before .before .before .before .before .next in
+    let s = c .before .before .before .before .before .before .before .before in on-next (s .args .a) (next .result) (next2 .result) (s .args .q)
+    (down-told .result) (next .ensures) (next2 .ensures) (down-told .ensures) (s .args .side) (s .pre .2)
 
 corner-requires-4 : tie.Need-corner-requires-4
 corner-requires-4 c κs =
+    let next = c .before .before .before .before .before .before .before .next in
     let s = c .before .before .before .before .before .before .before .before .before in
-    (s .pre .0, s .pre .1, subst (Placed (s .args .side)) (sym (c .down3 .ensures)) (down-placed (s .args .side) (c .before .before .before .before .before .before .before .next .result) (s .args .q) (s .pre .2 .cell)))
+    (s .pre .0, s .pre .1, subst (Placed (s .args .side)) (sym (c .down3 .ensures)) (down-placed (s .args .side) (next .result) (s .args .q) (s .pre .2 .cell)))
 
 normal-requires : tie.Need-normal-requires
 normal-requires c κs = search needs
 
 put-pair-requires : tie.Need-put-pair-requires
-put-pair-requires c κs = (c .before .before .before .before .before .before .before .before .before .before .before .before .before .pre .3, c .before .before .normal .ensures .1, c .before .before .before .before .before .before .before .corner .ensures .1, c .before .before .before .before .before .before .corner2 .ensures .1, c .before .before .before .before .before .corner3 .ensures .1, c .before .before .before .corner4 .ensures .1)
+put-pair-requires c κs =
+    let corner3 = c .before .before .before .before .before .corner3 in
+    let corner2 = c .before .before .before .before .before .before .corner2 in
+    let corner = c .before .before .before .before .before .before .before .corner in
+    let start = c .before .before .before .before .before .before .before .before .before .before .before .before .before in (
+      start .pre .3,
+      c .before .before .normal .ensures .1,
+      corner .ensures .1,
+      corner2 .ensures .1,
+      corner3 .ensures .1,
+      c .before .before .before .corner4 .ensures .1,
+    )
 
 same-length : tie.Need-same-length
 same-length c = search needs
 
 returns : tie.Need-returns
 returns c =
+    let if1 = c .before .before .before .before .if1 in
+    let normal = c .before .before .before .before .before .normal in
+    let corner4 = c .before .before .before .before .before .before .corner4 in
+    let down3 = c .before .before .before .before .before .before .before .down3 in
+    let corner3 = c .before .before .before .before .before .before .before .before .corner3 in
+    let corner2 = c .before .before .before .before .before .before .before .before .before .corner2 in
+    let corner = c .before .before .before .before .before .before .before .before .before .before .corner in
+    let down2 = c .before .before .before .before .before .before .before .before .before .before .before .down2 in
+    let down-told = c .before .before .before .before .before .before .before .before .before .before .before .before .down in
+    let next2 = c .before .before .before .before .before .before .before .before .before .before .before .before .before .next2 in
+    let next = c .before .before .before .before .before .before .before .before .before .before .before .before .before .before .next in
     let s = c .before .before .before .before .before .before .before .before .before .before .before .before .before .before .before .before in
     let e = exponentOf (s .args .s) in
     let at = cornerOf (s .args .side) e in
     let next-is = c .before .before .before .before .before .before .before .before .before .before .before .before .before .before .next .ensures in
     c .before .before .put-pair .ensures
-    ∙ ap (puts (s .args .out .now) (s .args .at)) (quad-upward (s .args .side) e (s .args .a) (s .args .q) (s .args .upward) _ _ _ _ _ (c .before .before .before .before .before .normal .ensures .0)
-    (c .before .before .before .before .before .before .before .before .before .before .corner .ensures .0 ∙ ap at (first-is (s .args .a) (c .before .before .before .before .before .before .before .before .before .before .before .before .before .before .next .result) (c .before .before .before .before .before .before .before .before .before .before .before .before .before .next2 .result) (s .args .q) (c .before .before .before .before .before .before .before .before .before .before .before .before .down .result) (c .before .before .before .before .before .before .before .before .before .before .before .before .before .before .next .ensures) (c .before .before .before .before .before .before .before .before .before .before .before .before .before .next2 .ensures) (c .before .before .before .before .before .before .before .before .before .before .before .before .down .ensures) _ (c .before .before .before .before .before .before .before .before .before .before .before .down2 .ensures)))
-    (c .before .before .before .before .before .before .before .before .before .corner2 .ensures .0 ∙ ap at (second-is (s .args .a) (c .before .before .before .before .before .before .before .before .before .before .before .before .before .before .next .result) (c .before .before .before .before .before .before .before .before .before .before .before .before .before .next2 .result) (s .args .q) (c .before .before .before .before .before .before .before .before .before .before .before .before .down .result) (c .before .before .before .before .before .before .before .before .before .before .before .before .before .before .next .ensures) (c .before .before .before .before .before .before .before .before .before .before .before .before .before .next2 .ensures) (c .before .before .before .before .before .before .before .before .before .before .before .before .down .ensures)))
-    (c .before .before .before .before .before .before .before .before .corner3 .ensures .0)
-    (c .before .before .before .before .before .before .corner4 .ensures .0 ∙ ap at (c .before .before .before .before .before .before .before .down3 .ensures ∙ ap (λ (x : Axis). down x (s .args .q)) next-is))
-    (c .before .before .before .before .if1 .taken))
+    ∙ ap (puts (s .args .out .now) (s .args .at)) (quad-upward (s .args .side) e (s .args .a) (s .args .q) (s .args .upward) _ _ _ _ _ (normal .ensures .0)
+    (corner .ensures .0 ∙ ap at (first-is (s .args .a) (next .result) (next2 .result) (s .args .q) (down-told .result) (next .ensures)
+    (next2 .ensures) (down-told .ensures) _ (down2 .ensures)))
+    (corner2 .ensures .0 ∙ ap at (second-is (s .args .a) (next .result) (next2 .result) (s .args .q) (down-told .result) (next .ensures)
+    (next2 .ensures) (down-told .ensures)))
+    (corner3 .ensures .0)
+    (corner4 .ensures .0 ∙ ap at (down3 .ensures ∙ ap (λ (x : Axis). down x (s .args .q)) next-is))
+    (if1 .taken))
 
 put-pair-requires-2 : tie.Need-put-pair-requires-2
-put-pair-requires-2 c κs = (c .before .before .before .before .before .before .before .before .before .before .before .before .before .pre .3, c .before .before .normal .ensures .1, c .before .before .before .before .before .before .before .corner .ensures .1, c .before .before .before .corner4 .ensures .1, c .before .before .before .before .before .corner3 .ensures .1, c .before .before .before .before .before .before .corner2 .ensures .1)
+put-pair-requires-2 c κs =
+    let corner3 = c .before .before .before .before .before .corner3 in
+    let corner2 = c .before .before .before .before .before .before .corner2 in
+    let corner = c .before .before .before .before .before .before .before .corner in
+    let start = c .before .before .before .before .before .before .before .before .before .before .before .before .before in (
+      start .pre .3,
+      c .before .before .normal .ensures .1,
+      corner .ensures .1,
+      c .before .before .before .corner4 .ensures .1,
+      corner3 .ensures .1,
+      corner2 .ensures .1,
+    )
 
 same-length-2 : tie.Need-same-length-2
 same-length-2 c = search needs
 
 returns-2 : tie.Need-returns-2
 returns-2 c =
+    let if1 = c .before .before .before .before .if1 in
+    let normal = c .before .before .before .before .before .normal in
+    let corner4 = c .before .before .before .before .before .before .corner4 in
+    let down3 = c .before .before .before .before .before .before .before .down3 in
+    let corner3 = c .before .before .before .before .before .before .before .before .corner3 in
+    let corner2 = c .before .before .before .before .before .before .before .before .before .corner2 in
+    let corner = c .before .before .before .before .before .before .before .before .before .before .corner in
+    let down2 = c .before .before .before .before .before .before .before .before .before .before .before .down2 in
+    let down-told = c .before .before .before .before .before .before .before .before .before .before .before .before .down in
+    let next2 = c .before .before .before .before .before .before .before .before .before .before .before .before .before .next2 in
+    let next = c .before .before .before .before .before .before .before .before .before .before .before .before .before .before .next in
     let s = c .before .before .before .before .before .before .before .before .before .before .before .before .before .before .before .before in
     let e = exponentOf (s .args .s) in
     let at = cornerOf (s .args .side) e in
     let next-is = c .before .before .before .before .before .before .before .before .before .before .before .before .before .before .next .ensures in
     c .before .before .put-pair2 .ensures
-    ∙ ap (puts (s .args .out .now) (s .args .at)) (quad-downward (s .args .side) e (s .args .a) (s .args .q) (s .args .upward) _ _ _ _ _ (c .before .before .before .before .before .normal .ensures .0)
-    (c .before .before .before .before .before .before .before .before .before .before .corner .ensures .0 ∙ ap at (first-is (s .args .a) (c .before .before .before .before .before .before .before .before .before .before .before .before .before .before .next .result) (c .before .before .before .before .before .before .before .before .before .before .before .before .before .next2 .result) (s .args .q) (c .before .before .before .before .before .before .before .before .before .before .before .before .down .result) (c .before .before .before .before .before .before .before .before .before .before .before .before .before .before .next .ensures) (c .before .before .before .before .before .before .before .before .before .before .before .before .before .next2 .ensures) (c .before .before .before .before .before .before .before .before .before .before .before .before .down .ensures) _ (c .before .before .before .before .before .before .before .before .before .before .before .down2 .ensures)))
-    (c .before .before .before .before .before .before .before .before .before .corner2 .ensures .0 ∙ ap at (second-is (s .args .a) (c .before .before .before .before .before .before .before .before .before .before .before .before .before .before .next .result) (c .before .before .before .before .before .before .before .before .before .before .before .before .before .next2 .result) (s .args .q) (c .before .before .before .before .before .before .before .before .before .before .before .before .down .result) (c .before .before .before .before .before .before .before .before .before .before .before .before .before .before .next .ensures) (c .before .before .before .before .before .before .before .before .before .before .before .before .before .next2 .ensures) (c .before .before .before .before .before .before .before .before .before .before .before .before .down .ensures)))
-    (c .before .before .before .before .before .before .before .before .corner3 .ensures .0)
-    (c .before .before .before .before .before .before .corner4 .ensures .0 ∙ ap at (c .before .before .before .before .before .before .before .down3 .ensures ∙ ap (λ (x : Axis). down x (s .args .q)) next-is))
-    (c .before .before .before .before .if1 .left))
+    ∙ ap (puts (s .args .out .now) (s .args .at)) (quad-downward (s .args .side) e (s .args .a) (s .args .q) (s .args .upward) _ _ _ _ _ (normal .ensures .0)
+    (corner .ensures .0 ∙ ap at (first-is (s .args .a) (next .result) (next2 .result) (s .args .q) (down-told .result) (next .ensures)
+    (next2 .ensures) (down-told .ensures) _ (down2 .ensures)))
+    (corner2 .ensures .0 ∙ ap at (second-is (s .args .a) (next .result) (next2 .result) (s .args .q) (down-told .result) (next .ensures)
+    (next2 .ensures) (down-told .ensures)))
+    (corner3 .ensures .0)
+    (corner4 .ensures .0 ∙ ap at (down3 .ensures ∙ ap (λ (x : Axis). down x (s .args .q)) next-is))
+    (if1 .left))
 
 pub put-quad-spec : {M : Type 1} → statement M
 put-quad-spec =

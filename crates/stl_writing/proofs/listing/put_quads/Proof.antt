@@ -63,28 +63,34 @@ is-inside-requires c κs = tt
 
 put-edges-requires : tie.Need-put-edges-requires Inv-loop μ-loop
 put-edges-requires c κs =
+    let loop-test = c .before .before .before .before .loop-test in
     let start = c .before .before .before .before .before .before .before .before .before in
     let l = c .before .before .before .before .before .loop in
     let n = start .args .n in
     let side = start .args .side in
     let g = start .args .grid .now in
     let pre = start .pre .0 in
-    let h : l .p < pointCount n = omega (arith, l .inv .0, c .before .before .before .before .loop-test .taken) in (
+    let h : l .p < pointCount n = omega (arith, l .inv .0, loop-test .taken) in (
       side-wide n side (pre .0) (pre .1),
       pre .2,
       marks-surrounded n side g (l .p) (l .q) (pre .1) (pre .3) (pre .4) (l .inv .2) h,
-      bytes-room side (exponentOf (start .args .s)) n g (l .p) (l .q) _ (l .at) (l .out) (pre .3) (pre .4) (l .inv .2) h (c .before .is-inside .ensures) (l .inv .4),
+      bytes-room side (exponentOf (start .args .s)) n g (l .p) (l .q) _ (l .at) (l .out) (pre .3) (pre .4) (l .inv .2) h
+          (c .before .is-inside .ensures) (l .inv .4),
     )
 
 next-point-requires : tie.Need-next-point-requires Inv-loop μ-loop
 next-point-requires c κs =
+    let loop-test = c .before .before .before .before .before .before .before .loop-test in
     let start = c .before .before .before .before .before .before .before .before .before .before .before .before in
     let l = c .before .before .before .before .before .before .before .before .loop in
-    let h : l .p < pointCount (start .args .n) = omega (arith, l .inv .0, c .before .before .before .before .before .before .before .loop-test .taken) in
+    let h : l .p < pointCount (start .args .n) = omega (arith, l .inv .0, loop-test .taken) in
     (start .pre .0 .0, at-grid _ (l .p) (l .q) (l .inv .2) h)
 
 add-p : tie.Need-add-p Inv-loop μ-loop
-add-p c = omega (arith, c .before .before .before .before .before .before .before .before .loop-test .taken, c .before .before .before .before .before .before .before .before .before .before .point-count .ensures .1)
+add-p c =
+    let loop-test = c .before .before .before .before .before .before .before .before .loop-test in
+    let point-count = c .before .before .before .before .before .before .before .before .before .before .point-count in
+    omega (arith, loop-test .taken, point-count .ensures .1)
 
 loop-less : tie.Need-loop-less Inv-loop μ-loop
 loop-less c = omega (arith, c .before .before .before .before .before .before .before .before .loop-test .taken)
@@ -92,6 +98,8 @@ loop-less c = omega (arith, c .before .before .before .before .before .before .b
 loop-again : tie.Need-loop-again Inv-loop μ-loop
 unfolding puts
 loop-again c =
+    let is-inside = c .before .before .before .before .before .is-inside in
+    let loop-test = c .before .before .before .before .before .before .before .before .loop-test in
     let start = c .before .before .before .before .before .before .before .before .before .before .before .before .before in
     let l = c .before .before .before .before .before .before .before .before .before .loop in
     let n = start .args .n in
@@ -99,10 +107,17 @@ loop-again c =
     let e = exponentOf (start .args .s) in
     let g = start .args .grid .now in
     let pre = start .pre .0 in
-    let h : l .p < pointCount n = omega (arith, l .inv .0, c .before .before .before .before .before .before .before .before .loop-test .taken) in
-    let put = rw (bytes-byte side e n g (l .p) (l .q) _ (pre .3) (pre .4) (l .inv .2) h (c .before .before .before .before .before .is-inside .ensures)) at (c .before .before .before .put-edges .ensures) in
-    let w = given-written n (marks n g) (bytesOf side e (inside n g)) (l .p) (l .q) (l .inv .2) h (l .at) _ (l .out) _ put (l .inv .4) in
-    (l .inv .0, omega arith, rw (add-one, c .next-point .ensures) (at-next n (l .p) (l .q) (l .inv .2) h), w .0 ∙ l .inv .3, rw add-one (w .1), rw add-one (w .2 ∙ l .inv .5))
+    let h : l .p < pointCount n = omega (arith, l .inv .0, loop-test .taken) in
+    let put = rw (bytes-byte side e n g (l .p) (l .q) _ (pre .3) (pre .4) (l .inv .2) h (is-inside .ensures)) at
+    (c .before .before .before .put-edges .ensures) in
+    let w = given-written n (marks n g) (bytesOf side e (inside n g)) (l .p) (l .q) (l .inv .2) h (l .at) _ (l .out) _ put (l .inv .4) in (
+      l .inv .0,
+      omega arith,
+      rw (add-one, c .next-point .ensures) (at-next n (l .p) (l .q) (l .inv .2) h),
+      w .0 ∙ l .inv .3,
+      rw add-one (w .1),
+      rw add-one (w .2 ∙ l .inv .5),
+    )
 
 same-length : tie.Need-same-length Inv-loop μ-loop
 same-length c = c .before .loop .inv .3
@@ -113,7 +128,8 @@ returns c =
     let l = c .before .loop in
     let n = start .args .n in
     let g = start .args .grid .now in
-    let none = given-end n (marks n g) (bytesOf (start .args .side) (exponentOf (start .args .s)) (inside n g)) (l .p) (omega (arith, l .inv .0, c .loop-test .left)) in
+    let none = given-end n (marks n g) (bytesOf (start .args .side) (exponentOf (start .args .s)) (inside n g)) (l .p)
+    (omega (arith, l .inv .0, c .loop-test .left)) in
     sym (ap (puts (l .out) (l .at)) none ∙ puts-none (l .out) (l .at)) ∙ l .inv .5
 
 pub put-quads-spec : {M : Type 1} → statement M
