@@ -82,8 +82,8 @@ module _ (n : ℕ) where
     pub leaves : o .well ≡ true → Holds n (λ a p. E a p ⊕ setOf (edgesOf n l) a p) (λ p. I p || someSays n l p) (o .work)
 
   -- the same of a list whose first quad was read
-  abbrev Whole : List Four → Set → (Point → Bool) → Reading → Placed → Type 0
-  Whole l E I r o =
+  abbrev ComesFirst : List Four → Set → (Point → Bool) → Reading → Placed → Type 0
+  ComesFirst l E I r o =
       let x = cond (o .well) (placing n l (o .work)) (placed false (o .work)) in
       (x .well ≡ (isSome r && allOf (λ q. isSome (read n q)) l) && (allOf (free E) (placeOf r ++ edgesOf n l) && apart (placeOf r ++ edgesOf n l)))
       × (x .well ≡ true → Holds n (λ a p. E a p ⊕ setOf (placeOf r ++ edgesOf n l) a p) (λ p. I p || (says r p || someSays n l p)) (x .work))
@@ -91,7 +91,7 @@ module _ (n : ℕ) where
   module _ (l : List Four) (rest : (E : Set) (I : Point → Bool) (w : List ℕ) → Holds n E I w → Comes l E I (placing n l w))
       (E : Set) (I : Point → Bool) (w : List ℕ) (h : Holds n E I w) where
     edge-placed : (t : Bool) (a : Axis) (p : Point) → inner n a p ≡ true → (c : Bool) → E a p ≡ c →
-        Whole l E I (Of t a p) (cond c (placed false w) (placed true (sayAt (pointNumber n (insideEnd t a p)) (turnAt (pointNumber n p) a w))))
+        ComesFirst l E I (Of t a p) (cond c (placed false w) (placed true (sayAt (pointNumber n (insideEnd t a p)) (turnAt (pointNumber n p) a w))))
     unfolding isSome placeOf says
     edge-placed t a p i true g = (
       sym (ap (λ (b : Bool). allOf (λ q. isSome (read n q)) l &&
@@ -117,12 +117,12 @@ module _ (n : ℕ) where
               (λ x. or-assoc (I x) (samePoint (insideEnd t a p) x) (someSays n l x)) (k .leaves e),
         )
 
-    first-placed : (r : Reading) → Fits n r → Whole l E I r (putOne n r w)
+    first-placed : (r : Reading) → Fits n r → ComesFirst l E I r (putOne n r w)
     unfolding Fits putOne placeOne isSome
     first-placed Nothing f = (refl, λ e. absurd (true≢false (sym e)))
     first-placed (Of t a p) f =
         let b = h .marked a p (inner-grid n a p f .0) in
-        subst (λ (c : Bool). Whole l E I (Of t a p)
+        subst (λ (c : Bool). ComesFirst l E I (Of t a p)
         (cond c (placed false w) (placed true (sayAt (pointNumber n (insideEnd t a p)) (turnAt (pointNumber n p) a w))))) (sym b)
         (edge-placed t a p f (E a p) refl)
 

@@ -1,7 +1,7 @@
 -- What is written reads back. Assumes nothing.
 use mathlib.Core.Path.{_≡_, refl, sym, ap, _∙_, subst}
 use mathlib.Core.Bool.{Bool, true, false, cond}
-use Prim.Native.Nat.{ℕ, zero, suc, _+_, _-_, _*_, _/_, _^_, _≤_, _<_}
+use Prim.Native.Nat.{ℕ, zero, suc, _-_, _*_, _/_, _^_, _≤_, _<_}
 use native.Mathlib.Nat.{mul-assoc, mul-comm, mul-left-comm, mul-pos, one-mul}
 use native.Mathlib.Omega.{arith}
 use borrow.Author.Tests.{ltb-false, le-leb}
@@ -68,7 +68,9 @@ pub record ReadBack (e : ℤ) (c b : ℕ) : Type 0 where
 -- with the same e: (c - 1) / 2 lies half way below c / 2 where c is even, and halves go away from zero
 pub read-back : (c s : ℕ) → 0 < c → c ≤ 1048576 → s ≤ 40 → ReadBack (exponentOf s) c (toBits binary32 (coordOf c (exponentOf s)))
 unfolding isNear roundTimes
-read-back c s p h l = record { number = number-is; near = le-leb (sizeTimes e b) 1073741824 (under (sizeTimes e b) (size-of (isNegative b) (sizeTimes e b) (c / 2) number-is)) }
+read-back c s p h l =
+    let size-is = size-of (isNegative b) (sizeTimes e b) (c / 2) number-is in
+    record { number = number-is; near = le-leb (sizeTimes e b) 1073741824 (under (sizeTimes e b) size-is) }
   where
     e : ℤ
     e = exponentOf s

@@ -30,7 +30,9 @@ coord-scaled c s =
     (over (c - 1) (2 ^ 19) (up e) (2 ^ s) (down e) (mul-assoc (up e) 2 (2 ^ 19) ∙ power-of s))
   where
     over : (n t u r d : ℕ) → u * 2 * t ≡ r * d → n * t * (2 * u) ≡ n * d * (1 * r)
-    over n t u r d k = ap (λ (z : ℕ). n * t * z) (mul-comm 2 u) ∙ simp (one-mul, mul-assoc, mul-comm, mul-left-comm) (simp (mul-assoc, mul-comm, mul-left-comm) at (ap (λ (z : ℕ). n * z) k))
+    over n t u r d k =
+        ap (λ (z : ℕ). n * t * z) (mul-comm 2 u)
+        ∙ simp (one-mul, mul-assoc, mul-comm, mul-left-comm) (simp (mul-assoc, mul-comm, mul-left-comm) at (ap (λ (z : ℕ). n * z) k))
 
 -- a whole number below 2 ^ 20 times 2 ^ 19 / 2 ^ s is a float
 scaled-exact : (c s : ℕ) → 0 < c → c ≤ 1048576 → s ≤ 40 → HasValue (scaled c s) false ((c - 1) * 2 ^ 19) (1 * 2 ^ s)

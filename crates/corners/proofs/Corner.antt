@@ -53,20 +53,25 @@ module _ (l : Level) where
   place-up a p = place-numbers (up a p) ∙ ap (times (sideOf l)) (numbers-up a p)
 
   -- an axis kept separates an edge exactly when the axis does
-  pub parts-separates : (t : Triangle) (n : Vector) (a : Axis) (p : Point) → parts (keptOf (sideOf l) n t) (numbersOf p) (indexOf a) ≡ separates n t (endsOf l a p)
+  pub parts-separates : (t : Triangle) (n : Vector) (a : Axis) (p : Point) →
+      parts (keptOf (sideOf l) n t) (numbersOf p) (indexOf a) ≡ separates n t (endsOf l a p)
   unfolding endsOf
   parts-separates t n a p =
       parts-is (sideOf l) n (numbersOf p) (indexOf a) t
       ∙ ap (separates n t) (λ i. record { from = sym (place-numbers p) i; to = sym (place-up a p) i })
 
   -- its dot products fit at every cell
-  pub kept-fits : (t : Triangle) → Inside t → (k : ℕ) (p : Point) → Cell (cellsOf l) p → Fits (keptOf (sideOf l) (getD (laterAxes t) k nought) t) (numbersOf p)
+  pub kept-fits : (t : Triangle) → Inside t → (k : ℕ) (p : Point) → Cell (cellsOf l) p →
+      Fits (keptOf (sideOf l) (getD (laterAxes t) k nought) t) (numbersOf p)
   unfolding keptOf
   kept-fits t h k p c =
       let n = getD (laterAxes t) k nought in
+      let lower = subst OnLattice (place-numbers p) (place-inside l p (corner-grid (cellsOf l) p X c .0)) in
+      let upper : (e : Axis) → OnLattice (times (sideOf l) (further (indexOf e) (numbersOf p)))
+      = λ e. subst OnLattice (place-up e p) (place-inside l (up e p) (corner-grid (cellsOf l) p e c .1)) in
       record {
-        here = kept-terms (sideOf l) n (numbersOf p) (later-size k h) (subst OnLattice (place-numbers p) (place-inside l p (corner-grid (cellsOf l) p X c .0)));
-        next = λ e. further-size (sideOf l) n (numbersOf p) (indexOf e) (later-size k h) (subst OnLattice (place-up e p) (place-inside l (up e p) (corner-grid (cellsOf l) p e c .1)));
+        here = kept-terms (sideOf l) n (numbersOf p) (later-size k h) lower;
+        next = λ e. further-size (sideOf l) n (numbersOf p) (indexOf e) (later-size k h) (upper e);
         in-order = span-in-order n t;
       }
 
@@ -90,7 +95,8 @@ module _ {A : Type 0} (d : A) where
 -- ---- the axes kept
 -- five stores keep an axis
 pub five-stores : (w : List ℤ) (k : ℕ) (a : Kept) →
-    set (set (set (set (set w (5 * k) (a .axis .x)) (5 * k + 1) (a .axis .y)) (5 * k + 2) (a .axis .z)) (5 * k + 3) (a .span .low)) (5 * k + 4) (a .span .high) ≡ keptWith w k a
+    set (set (set (set (set w (5 * k) (a .axis .x)) (5 * k + 1) (a .axis .y)) (5 * k + 2) (a .axis .z)) (5 * k + 3) (a .span .low)) (5 * k + 4) (a .span .high)
+    ≡ keptWith w k a
 unfolding keptWith
 five-stores w k a =
     let e1 : 5 * k + 1 ≡ suc (5 * k) = omega arith in
@@ -104,8 +110,9 @@ module _ (w : List ℤ) (k : ℕ) (a : Kept) (h : 5 * k + 5 ≤ length w) where
   kept-same : keptAt (keptWith w k a) k ≡ a
   unfolding keptAt keptWith
   kept-same =
+      let first = ap (λ (m : ℕ). getD (sets w (5 * k) (fiveOf a)) m (pos 0)) (sym (add-zero (5 * k))) ∙ at 0 (lit< tt) in
       λ i. record {
-        axis = vector ((ap (λ (m : ℕ). getD (sets w (5 * k) (fiveOf a)) m (pos 0)) (sym (add-zero (5 * k))) ∙ at 0 (lit< tt)) i) (at 1 (lit< tt) i) (at 2 (lit< tt) i);
+        axis = vector (first i) (at 1 (lit< tt) i) (at 2 (lit< tt) i);
         span = record { low = at 3 (lit< tt) i; high = at 4 (lit< tt) i };
       }
     where
@@ -126,7 +133,8 @@ module _ (w : List ℤ) (k : ℕ) (a : Kept) (h : 5 * k + 5 ≤ length w) where
 
 module _ (l : Level) (t : Triangle) where
   -- one more axis is kept
-  pub keeps-more : (w : List ℤ) (k : ℕ) (a : Kept) → k < 10 → Keeps l t k w → a ≡ keptOf (sideOf l) (getD (laterAxes t) k nought) t → Keeps l t (suc k) (keptWith w k a)
+  pub keeps-more : (w : List ℤ) (k : ℕ) (a : Kept) → k < 10 → Keeps l t k w → a ≡ keptOf (sideOf l) (getD (laterAxes t) k nought) t →
+      Keeps l t (suc k) (keptWith w k a)
   unfolding keptWith
   keeps-more w k a h s f = record { long = length-sets w (5 * k) (fiveOf a) ∙ s .long; axis = λ j b. at j b (ℕ-discrete j k) }
     where
@@ -142,7 +150,8 @@ module _ (l : Level) (t : Triangle) where
   kept-and-rest w (suc m) h s p a =
       let e = endsOf l a p in
       let n = getD (laterAxes t) m nought in
-      let f : parts (keptAt w m) (numbersOf p) (indexOf a) ≡ separates n t e = ap (λ (b : Kept). parts b (numbersOf p) (indexOf a)) (s .axis m (omega arith)) ∙ parts-separates l t n a p in
+      let f : parts (keptAt w m) (numbersOf p) (indexOf a) ≡ separates n t e
+      = ap (λ (b : Kept). parts b (numbersOf p) (indexOf a)) (s .axis m (omega arith)) ∙ parts-separates l t n a p in
       &&-assoc (noneParts w m (numbersOf p) a) (not (parts (keptAt w m) (numbersOf p) (indexOf a))) (noneSeparates (drop (suc m) (laterAxes t)) t e)
       ∙ ap (λ (b : Bool). noneParts w m (numbersOf p) a && (not b && noneSeparates (drop (suc m) (laterAxes t)) t e)) f
       ∙ ap (λ (b : Bool). noneParts w m (numbersOf p) a && b) (sym (none-next t e (laterAxes t) m (ten t (omega arith))))

@@ -16,7 +16,7 @@ use Rattle.rules.specs.declared.Point.{Point}
 use Rattle.rules.specs.declared.Box.{Box}
 use Rattle.rules.specs.Lattice.{coord, up, inBox}
 use Rattle.rules.proofs.Bits.{and-left, eqb-yes, eqb-no}
-use Rattle.rules.proofs.Boxes.{inBox→}
+use Rattle.rules.proofs.Boxes.{InBox, inBox→}
 use Rattle.lattice.specs.declared.level.Level.{Level}
 use Rattle.lattice.specs.Levels.{sideOf}
 use Rattle.lattice.specs.Cells.{indexOf}
@@ -37,6 +37,11 @@ use Rattle.meeting.specs.Covered.{Covers}
 use Rattle.meeting.proofs.Positive.{pos-le}
 use Rattle.meeting.proofs.Within.{index-small, spanOn}
 use Rattle.meeting.proofs.Outside.{place-along, met-edge, met-covered}
+
+neither : (x y : Bool) → cond x false (cond y false true) ≡ not x && not y
+neither true y = refl
+neither false true = refl
+neither false false = refl
 
 -- spans on one line: a span beside the numbers i S and j S
 module _ (s : Span) (p q : ℤ) where
@@ -59,8 +64,8 @@ module _ (l : Level) (t : Triangle) (lo c : Point) (r : Reaches l t lo c) where
   lengthwise a e =
       let h = r a in
       let f : suc (coord a lo) ≤ coord a (up a c) = let g = h .from in omega arith in
-      on-unit a a
-      ∙ not-apart (spanOn a t) (pos (coord a c * sideOf l)) (pos (coord a (up a c) * sideOf l)) (≤ℤ-trans (h .plane) (pos-le (mul-le-mul-right (sideOf l) f))) (h .upto)
+      let past = ≤ℤ-trans (h .plane) (pos-le (mul-le-mul-right (sideOf l) f)) in
+      on-unit a a ∙ not-apart (spanOn a t) (pos (coord a c * sideOf l)) (pos (coord a (up a c) * sideOf l)) past (h .upto)
 
   -- crosswise it is, in the first layer alone
   crosswise : (a b : Axis) → coord b (up a c) ≡ coord b c → separates (getD units (indexOf b) nought) t (endsOf l a c) ≡ eqb (coord b c) (coord b lo)
@@ -82,38 +87,23 @@ module _ (l : Level) (t : Triangle) (lo c : Point) (r : Reaches l t lo c) where
   -- so the three unit vectors together
   pub units-clear : (a : Axis) → noneSeparates units t (endsOf l a c) ≡ beyond lo c a
   unfolding noneSeparates units
-  units-clear X = rw (lengthwise X refl, crosswise X Y refl, crosswise X Z refl) (go (eqb (c .j) (lo .j)) (eqb (c .k) (lo .k)))
-    where
-      go : (x y : Bool) → cond x false (cond y false true) ≡ not x && not y
-      go true y = refl
-      go false true = refl
-      go false false = refl
-  units-clear Y = rw (crosswise Y X refl, lengthwise Y refl, crosswise Y Z refl) (go (eqb (c .i) (lo .i)) (eqb (c .k) (lo .k)))
-    where
-      go : (x y : Bool) → cond x false (cond y false true) ≡ not x && not y
-      go true y = refl
-      go false true = refl
-      go false false = refl
-  units-clear Z = rw (crosswise Z X refl, crosswise Z Y refl, lengthwise Z refl) (go (eqb (c .i) (lo .i)) (eqb (c .j) (lo .j)))
-    where
-      go : (x y : Bool) → cond x false (cond y false true) ≡ not x && not y
-      go true y = refl
-      go false true = refl
-      go false false = refl
+  units-clear X = rw (lengthwise X refl, crosswise X Y refl, crosswise X Z refl) (neither (eqb (c .j) (lo .j)) (eqb (c .k) (lo .k)))
+  units-clear Y = rw (crosswise Y X refl, lengthwise Y refl, crosswise Y Z refl) (neither (eqb (c .i) (lo .i)) (eqb (c .k) (lo .k)))
+  units-clear Z = rw (crosswise Z X refl, crosswise Z Y refl, lengthwise Z refl) (neither (eqb (c .i) (lo .i)) (eqb (c .j) (lo .j)))
 
 -- ---- the cells of a box
 module _ (l : Level) (t : Triangle) (b : Box) (v : Covers l t b) where
   pub covers-reaches : (p : Point) → inBox b false false false p ≡ true → Reaches l t (b .lo) p
-  covers-reaches p e = at
+  covers-reaches p e = at (inBox→ b false false false p e)
     where
-      at : Reaches l t (b .lo) p
-      at X = let h = inBox→ b false false false p e in record { from = h .0 .low; below = v X .begins; plane = v X .plane; upto = v X .last (p .i) (h .0 .high) }
-      at Y = let h = inBox→ b false false false p e in record { from = h .1 .low; below = v Y .begins; plane = v Y .plane; upto = v Y .last (p .j) (h .1 .high) }
-      at Z = let h = inBox→ b false false false p e in record { from = h .2 .low; below = v Z .begins; plane = v Z .plane; upto = v Z .last (p .k) (h .2 .high) }
+      at : InBox b false false false p → Reaches l t (b .lo) p
+      at h X = record { from = h .0 .low; below = v X .begins; plane = v X .plane; upto = v X .last (p .i) (h .0 .high) }
+      at h Y = record { from = h .1 .low; below = v Y .begins; plane = v Y .plane; upto = v Y .last (p .j) (h .1 .high) }
+      at h Z = record { from = h .2 .low; below = v Z .begins; plane = v Z .plane; upto = v Z .last (p .k) (h .2 .high) }
 
   -- an edge that is met lies past the first layer on both its crosswise axes
   pub met-beyond : (a : Axis) (p : Point) → met l t a p ≡ true → beyond (b .lo) p a ≡ true
   met-beyond a p e =
       let r = covers-reaches p (met-covered l t a p b v e) in
-      sym (units-clear l t (b .lo) p r a)
-      ∙ and-left (noneSeparates units t (endsOf l a p)) (noneSeparates (laterAxes t) t (endsOf l a p)) (sym (met-later t (endsOf l a p)) ∙ met-edge l t a p e)
+      let none = sym (met-later t (endsOf l a p)) ∙ met-edge l t a p e in
+      sym (units-clear l t (b .lo) p r a) ∙ and-left (noneSeparates units t (endsOf l a p)) (noneSeparates (laterAxes t) t (endsOf l a p)) none

@@ -14,7 +14,7 @@ use Rattle.marking.specs.Mark.{Outcome, markCall}
 use Rattle.text.specs.Words.{numbers}
 use Rattle.text.proofs.Numbers.{numbers-ahead, numbers-short}
 use Rattle.feeding.specs.Taken.{marked, refusedBy, taken, mostTriangles}
-use Rattle.feeding.specs.Feed.{Ready, Whole}
+use Rattle.feeding.specs.Feed.{Ready, Uncut}
 use Rattle.feeding.specs.Lent.{lentTotals}
 use Rattle.feeding.proofs.Marked.{mark-short}
 
@@ -74,13 +74,13 @@ module _ (l : Level) (t : ℕ) (g block rest : List ℕ) (at : ℕ) (h : at < le
     one-less = omega arith
 
     -- 3: the last block ends within a triangle, which has not nine numbers
-    pub block-short : Ready l g → Whole block rest → at % 36 ≡ 0 → length block - at < 36 → taken (numberOf l) more (left ++ rest) t g ≡ refusedBy 3
+    pub block-short : Ready l g → Uncut block rest → at % 36 ≡ 0 → length block - at < 36 → taken (numberOf l) more (left ++ rest) t g ≡ refusedBy 3
     block-short r w z short = go rest w
       where
         fewer-numbers : length (numbers left) ≡ 9 → ⊥
         fewer-numbers e = omega (arith, numbers-short left (omega (arith, left-long)))
 
-        go : (s : List ℕ) → Whole block s → taken (numberOf l) more (left ++ s) t g ≡ refusedBy 3
+        go : (s : List ℕ) → Uncut block s → taken (numberOf l) more (left ++ s) t g ≡ refusedBy 3
         go [] w =
             rw (one-less, append-nil)
             (taken-refused (numberOf l) t g left (omega (arith, left-long)) then _ (sym (mark-short l g r (numbers left) fewer-numbers)) (λ e. omega arith))

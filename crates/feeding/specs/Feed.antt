@@ -27,8 +27,8 @@ pub record Marking (l : Level) (s : List ℕ) (number : ℕ) (g g′ : List ℕ)
   pub ready : Ready l g′
 
 -- a block has whole triangles, unless it is the stream's last
-abbrev pub Whole : List ℕ → List ℕ → Type 0
-Whole s rest = 0 < length rest → length s % 36 ≡ 0
+abbrev pub Uncut : List ℕ → List ℕ → Type 0
+Uncut s rest = 0 < length rest → length s % 36 ≡ 0
 
 -- what follows an answer
 abbrev pub after : Level → Fed → List ℕ → List ℕ → Taken
@@ -44,4 +44,4 @@ Counted (Refused k) t s = Unit {0}
 pub record Feeding (l : Level) (t : ℕ) (s g : List ℕ) (r : Fed) (g′ : List ℕ) : Type 0 where
   pub ready : Ready l g′
   pub counted : Counted r t s
-  pub goes-on : (rest : List ℕ) → Whole s rest → taken (numberOf l) (mostTriangles - t) (s ++ rest) t g ≡ after l r rest g′
+  pub goes-on : (rest : List ℕ) → Uncut s rest → taken (numberOf l) (mostTriangles - t) (s ++ rest) t g ≡ after l r rest g′

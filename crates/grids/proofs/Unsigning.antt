@@ -1,14 +1,14 @@
 -- A grid without its signs, and the points inside counted one after the other. Assumes nothing.
-use mathlib.Core.Path.{_≡_, refl, sym, ap, subst, _∙_}
+use mathlib.Core.Path.{_≡_, refl, sym, ap, _∙_}
 use mathlib.Core.Bool.{Bool, true, false, cond}
 use mathlib.Core.List.{List, [], _∷_, map, map-map, _++_}
-use Prim.Native.Nat.{ℕ, zero, suc, _+_, _%_, _≤_, _<_}
+use Prim.Native.Nat.{ℕ, suc, _+_, _%_, _≤_, _<_}
 use native.Mathlib.Omega.{arith}
 use lib.ListN.{length, getD, drop, length-append, length-drop, take-append-drop}
 use lib.Seq.{drop-at}
 use Rattle.rules.specs.declared.Point.{Point}
 use Rattle.rules.specs.Lists.{upto, count, All}
-use Rattle.rules.specs.Lattice.{Set, OfGrid, points, pointNumber, pointCount, pointOf}
+use Rattle.rules.specs.Lattice.{Set, points, pointNumber, pointCount, pointOf}
 use Rattle.rules.specs.Grid.{value, byteAt, bytes, marks, inside, Unsigned, isGrid}
 use Rattle.rules.proofs.Numbers.{rising, take-upto, bytes-length, marks-inner}
 use Rattle.rules.proofs.PointOf.{number-pointOf, pointOf-grid, over-points, all-points, at-point}

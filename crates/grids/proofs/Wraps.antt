@@ -1,6 +1,6 @@
 -- The points one step on from a number, also where the row or the layer ends and the step leads to the beginning of the next. Assumes nothing.
 use mathlib.Core.Path.{_≡_, refl, sym, ap, _∙_, subst}
-use mathlib.Core.Bool.{Bool, true, false, true≢false}
+use mathlib.Core.Bool.{true, false, true≢false}
 use Prim.Native.Nat.{ℕ, suc, _+_, _*_, _/_, _%_, _≤_, _<_}
 use native.Mathlib.Nat.{mul-add, mul-suc, mul-le-mul-left, mod-lt}
 use native.Mathlib.Omega.{arith}
@@ -8,7 +8,7 @@ use Rattle.rules.specs.declared.Axis.{Axis}
 use Rattle.rules.specs.declared.Axis.the-variants.{X, Y, Z}
 use Rattle.rules.specs.declared.Point.{Point}
 use Rattle.rules.specs.declared.Place.{Place}
-use Rattle.rules.specs.Lattice.{coord, earlier, later, up, origin, sameAxis, edgeIn, whole, OfGrid, pointNumber, pointCount, pointOf}
+use Rattle.rules.specs.Lattice.{coord, earlier, later, up, origin, sameAxis, edgeIn, whole, OfGrid, pointCount, pointOf}
 use Rattle.rules.proofs.Bits.{Bounds}
 use Rattle.rules.proofs.Boxes.{inBox→}
 use Rattle.rules.proofs.PointOf.{number-pointOf, low-digit, high-digit}

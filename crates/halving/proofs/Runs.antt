@@ -17,11 +17,11 @@ use Rattle.rules.specs.Patch.{path}
 use Rattle.rules.proofs.Oddness.{up-earlier, up-later}
 use Rattle.rules.specs.Lattice.{OfGrid}
 use Rattle.lattice.specs.Cells.{turns, works, facesOf}
-use Rattle.halving.specs.Halving.{Edged, Run, ahead, along, Placed}
+use Rattle.halving.specs.Halving.{Edged, EdgeRun, ahead, along, Placed}
 use Rattle.halving.proofs.Turns.{turns-append, works-append, turns-length}
 
 -- ---- a run of edges
-pub run-edge : (n : ℕ) (b : Axis) (k : ℕ) (e : Place) → Run n b k e → 1 ≤ k → Edged n e
+pub run-edge : (n : ℕ) (b : Axis) (k : ℕ) (e : Place) → EdgeRun n b k e → 1 ≤ k → Edged n e
 run-edge n X k e h l = record { in-grid = omega arith; one = h .one; two = h .two }
 run-edge n Y k e h l = record { in-grid = omega arith; one = h .one; two = h .two }
 run-edge n Z k e h l = record { in-grid = omega arith; one = h .one; two = h .two }
@@ -37,7 +37,7 @@ more Z X p h = h
 more Z Y p h = h
 more Z Z p h = omega arith
 
-pub run-next : (n : ℕ) (b : Axis) (k : ℕ) (e : Place) → Run n b k e → 1 ≤ k → Run n b (k - 1) (ahead b e)
+pub run-next : (n : ℕ) (b : Axis) (k : ℕ) (e : Place) → EdgeRun n b k e → 1 ≤ k → EdgeRun n b (k - 1) (ahead b e)
 run-next n X k e h l = record {
   fits = omega arith;
   next = h .next;
@@ -68,7 +68,7 @@ along-step b k e h = let q : k ≡ suc (k - 1) = omega arith in ap (λ (j : ℕ)
 
 -- the state of a run: what is left to do from here comes to the whole
 pub record Running (n : ℕ) (b : Axis) (count : ℕ) (e : Place) (g₀ w₀ : List ℕ) (k : ℕ) (at : Place) (g w : List ℕ) : Type 0 where
-  pub run : Run n b k at
+  pub run : EdgeRun n b k at
   pub grid : turns n (along b k at) g ≡ turns n (along b count e) g₀
   pub work : works n (along b k at) w ≡ works n (along b count e) w₀
   pub g-long : length g ≡ length g₀
@@ -77,7 +77,7 @@ pub record Running (n : ℕ) (b : Axis) (count : ℕ) (e : Place) (g₀ w₀ : L
 pub running-on : (n : ℕ) (b : Axis) (count : ℕ) (e : Place) (g₀ w₀ : List ℕ) (k : ℕ) (at : Place) (g w : List ℕ) → Running n b count e g₀ w₀ k at g w → 1 ≤ k →
     (at′ : Place) (g′ w′ : List ℕ) → at′ ≡ ahead b at → g′ ≡ turns n (at ∷ []) g → w′ ≡ works n (at ∷ []) w → Running n b count e g₀ w₀ (k - 1) at′ g′ w′
 running-on n b count e g₀ w₀ k at g w h l at′ g′ w′ ea eg ew = record {
-  run = subst (Run n b (k - 1)) (sym ea) (run-next n b k at (h .run) l);
+  run = subst (EdgeRun n b (k - 1)) (sym ea) (run-next n b k at (h .run) l);
   grid = ap₂ (λ (x : Place) (s : List ℕ). turns n (along b (k - 1) x) s) ea eg ∙ sym (turns-append n (at ∷ []) (along b (k - 1) (ahead b at)) g) ∙ ap
       (λ (m : List Place). turns n m g) (sym (along-step b k at l)) ∙ h .grid;
   work = ap₂ (λ (x : Place) (s : List ℕ). works n (along b (k - 1) x) s) ea ew ∙ sym (works-append n (at ∷ []) (along b (k - 1) (ahead b at)) w) ∙ ap
@@ -86,7 +86,7 @@ running-on n b count e g₀ w₀ k at g w h l at′ g′ w′ ea eg ew = record 
   w-long = ap length ew ∙ turns-length n (each facesOf (at ∷ [])) w ∙ h .w-long;
 }
 
-pub run-low : (n : ℕ) (b : Axis) (k : ℕ) (e : Place) → Run n b k e → 1 ≤ k → coord b (e .at) ≤ n
+pub run-low : (n : ℕ) (b : Axis) (k : ℕ) (e : Place) → EdgeRun n b k e → 1 ≤ k → coord b (e .at) ≤ n
 run-low n b k e h l = let f = h .fits in omega arith
 
 -- ---- the path as two runs
@@ -119,29 +119,31 @@ path-runs a m p q =
     (sym (add-one (min (p .v) (q .v)))))
 
 module _ (n : ℕ) (a : Axis) (m : ℕ) (l₁ : 1 ≤ m) (l₂ : m ≤ n) (p q : Spot) (hp : Placed n p) (hq : Placed n q) where
-  pub run-1 : Run n (earlier a) (max (p .u) (q .u) - min (p .u) (q .u)) (record { axis = later a; at = pointAt a m (min (p .u) (q .u) + 1) (p .v) })
+  pub run-1 : EdgeRun n (earlier a) (max (p .u) (q .u) - min (p .u) (q .u)) (record { axis = later a; at = pointAt a m (min (p .u) (q .u) + 1) (p .v) })
   run-1 = go a
     where
-      go : (c : Axis) → Run n (earlier c) (max (p .u) (q .u) - min (p .u) (q .u)) (record { axis = later c; at = pointAt c m (min (p .u) (q .u) + 1) (p .v) })
+      go : (c : Axis) → EdgeRun n (earlier c) (max (p .u) (q .u) - min (p .u) (q .u))
+          (record { axis = later c; at = pointAt c m (min (p .u) (q .u) + 1) (p .v) })
       go X = omega arith
       go Y = omega arith
       go Z = omega arith
 
-  pub run-2 : Run n (later a) (max (p .v) (q .v) - min (p .v) (q .v)) (record { axis = earlier a; at = pointAt a m (q .u) (min (p .v) (q .v) + 1) })
+  pub run-2 : EdgeRun n (later a) (max (p .v) (q .v) - min (p .v) (q .v)) (record { axis = earlier a; at = pointAt a m (q .u) (min (p .v) (q .v) + 1) })
   run-2 = go a
     where
-      go : (c : Axis) → Run n (later c) (max (p .v) (q .v) - min (p .v) (q .v)) (record { axis = earlier c; at = pointAt c m (q .u) (min (p .v) (q .v) + 1) })
+      go : (c : Axis) → EdgeRun n (later c) (max (p .v) (q .v) - min (p .v) (q .v))
+          (record { axis = earlier c; at = pointAt c m (q .u) (min (p .v) (q .v) + 1) })
       go X = omega arith
       go Y = omega arith
       go Z = omega arith
 
-  along-edged : (b : Axis) (k : ℕ) (e : Place) → Run n b k e → All (Edged n) (along b k e)
+  along-edged : (b : Axis) (k : ℕ) (e : Place) → EdgeRun n b k e → All (Edged n) (along b k e)
   along-edged b zero e h = tt
   along-edged b (suc k) e h =
       let o : suc k - 1 ≡ k = omega arith in (
         run-edge n b (suc k) e h (omega arith),
         along-edged b k (ahead b e)
-            (subst (λ (j : ℕ). Run n b j (ahead b e)) o (run-next n b (suc k) e h (omega arith))),
+            (subst (λ (j : ℕ). EdgeRun n b j (ahead b e)) o (run-next n b (suc k) e h (omega arith))),
       )
 
   pub path-edged : All (Edged n) (path a m p q)
@@ -157,12 +159,12 @@ placed-low n Z m q l h = omega arith
 module _ (n : ℕ) (a : Axis) (m : ℕ) (p q : Spot) (b c : Axis) (eb : b ≡ earlier a) (ec : c ≡ later a) where
   pub join-run : (b′ c′ : Axis) → b′ ≡ earlier a → c′ ≡ later a → 1 ≤ m → m ≤ n → Placed n p → Placed n q → (i j : ℕ) (s : Point) → i ≡ min (p .u)
       (q .u) → j ≡ max (p .u) (q .u) → s ≡ pointAt a m (i + 1) (p .v) →
-      Run n b′ (j - i) (record { axis = c′; at = s })
+      EdgeRun n b′ (j - i) (record { axis = c′; at = s })
   join-run b′ c′ xb xc l₁ l₂ hp hq i j s ei ej es = rw (xb, xc, es, ei, ej) (run-1 n a m l₁ l₂ p q hp hq)
 
   pub join-run₂ : (b′ c′ : Axis) → b′ ≡ earlier a → c′ ≡ later a → 1 ≤ m → m ≤ n → Placed n p → Placed n q → (i j : ℕ) (s : Point) → i ≡ min (p .v)
       (q .v) → j ≡ max (p .v) (q .v) → s ≡ pointAt a m (q .u) (i + 1) →
-      Run n c′ (j - i) (record { axis = b′; at = s })
+      EdgeRun n c′ (j - i) (record { axis = b′; at = s })
   join-run₂ b′ c′ xb xc l₁ l₂ hp hq i j s ei ej es = rw (xb, xc, es, ei, ej) (run-2 n a m l₁ l₂ p q hp hq)
 
   pub join-is : (i j k l : ℕ) (s t : Point) → i ≡ min (p .u) (q .u) → j ≡ max (p .u) (q .u) → s ≡ pointAt a m (i + 1) (p .v) → k ≡ min (p .v) (q .v) →

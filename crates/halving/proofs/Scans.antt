@@ -2,9 +2,8 @@
 use mathlib.Core.Path.{_≡_, refl, sym, ap, ap₂, _∙_, subst}
 use mathlib.Core.Bool.{Bool, true, false, _&&_, cond, false≢true}
 use mathlib.Core.List.{List, [], _∷_, _++_}
-use Prim.Native.Nat.{ℕ, zero, suc, _+_, _-_, _≤_, _<_}
+use Prim.Native.Nat.{ℕ, zero, suc, _+_, _≤_}
 use native.Mathlib.Omega.{arith}
-use native.Mathlib.Numerals.{add-one}
 use lib.Dec.{eqb}
 use lib.ListN.{length}
 use Rattle.rules.specs.Lists.{_⊕_, each, keep, upto, All}
@@ -22,7 +21,7 @@ use Rattle.rules.proofs.Cuts.{InRect, plane-in}
 use Rattle.rules.specs.Lattice.{OfGrid}
 use Rattle.rules.specs.Grid.{stored}
 use Rattle.lattice.specs.Cells.{turns, works, facesOf}
-use Rattle.halving.specs.Halving.{Scan, idle, waits, pairOf, scanAll, Placed, Fits, rowOf}
+use Rattle.halving.specs.Halving.{Flipped, Scan, scanOf, idle, waits, pairOf, scanAll, Placed, Fits, rowOf}
 use Rattle.halving.specs.declared.Unpaired.{Unpaired}
 use Rattle.halving.proofs.Turns.{turns-append, works-append, turns-length, stored-works}
 use Rattle.halving.proofs.Runs.{path-edged, placed-low}
@@ -38,7 +37,7 @@ unfolding pairOf
 pair-pass n a m q s e = rw e
 
 pair-wait : (n : ℕ) (a : Axis) (m : ℕ) (q : Spot) (s : Scan) → stored n (s .work) a (pointAt a m (q .u) (q .v)) ≡ true → s .unpaired .any ≡ false →
-    pairOf n a m q s ≡ record { unpaired = waits q; grid = s .grid; work = s .work }
+    pairOf n a m q s ≡ scanOf (waits q) (s .grid) (s .work)
 unfolding pairOf
 pair-wait n a m q s e f = rw (e, f)
 
@@ -108,8 +107,8 @@ module _ (n : ℕ) (a : Axis) (m : ℕ) (l₁ : 1 ≤ m) (l₂ : m ≤ n) (W : S
           (cond (s .unpaired .any) (p ∷ cond x (q ∷ keep W l) (keep W l)) (cond x (q ∷ keep W l) (keep W l)))
       go false e y f ih = subst (λ (t : Scan). Goal t (pending (s .unpaired) (keep W l))) (sym (pair-pass n a m q s e)) (ih s (hl .1) (ha .1) (hr .1) tail k)
       go true e false f ih = subst (λ (t : Scan). Goal t (cond (s .unpaired .any) (p ∷ (q ∷ keep W l)) (q ∷ keep W l))) (sym (pair-wait n a m q s e f))
-          (subst (λ (b : Bool). Goal (record { unpaired = waits q; grid = s .grid; work = s .work }) (cond b (p ∷ (q ∷ keep W l)) (q ∷ keep W l))) (sym f)
-          (ih (record { unpaired = waits q; grid = s .grid; work = s .work }) (hl .1) (ha .1) (hr .1) (λ u. (hl .0, ha .0)) k))
+          (subst (λ (b : Bool). Goal (scanOf (waits q) (s .grid) (s .work)) (cond b (p ∷ (q ∷ keep W l)) (q ∷ keep W l))) (sym f)
+          (ih (scanOf (waits q) (s .grid) (s .work)) (hl .1) (ha .1) (hr .1) (λ u. (hl .0, ha .0)) k))
       go true e true f ih =
           let hp = hh f .0 in
           let w′ = works n (path a m p q) (s .work) in
@@ -157,138 +156,32 @@ plane-placed n b a h =
     let y = fits-coord n b (later a) h in
     all-weaken (InRect b a) (Placed n) (λ q k. record { u = let z = k .0 in omega arith; v = let z = k .1 in omega arith }) (plane b a) (plane-in b a)
 
-module _ (n : ℕ) (b : Box) (a : Axis) (m : ℕ) (l₁ : 1 ≤ m) (l₂ : m ≤ n) (h : Fits n b) (w : List ℕ) (k : pointCount n ≤ length w) (q₀ : Spot) (g : List ℕ) where
+module _ (n : ℕ) (b : Box) (a : Axis) (m : ℕ) (l₁ : 1 ≤ m) (l₂ : m ≤ n) (h : Fits n b) (w : List ℕ) (k : pointCount n ≤ length w)
+    (q₀ : Spot) (g : List ℕ) where
   same-reads : (l : List Spot) → Reads n a m l₁ l₂ (inPlane (stored n w) a m) w l
   same-reads [] = tt
   same-reads (q ∷ l) = (refl, same-reads l)
 
-  pub cut-is : (scanAll n a m (plane b a) (record { unpaired = idle q₀; grid = g; work = w }) .grid ≡ turns n (cut b (stored n w) a m) g) ×
-      (scanAll n a m (plane b a) (record { unpaired = idle q₀; grid = g; work = w }) .work ≡ works n (cut b (stored n w) a m) w)
-  cut-is = scan-is n a m l₁ l₂ (inPlane (stored n w) a m) (plane b a) (record { unpaired = idle q₀; grid = g; work = w }) (plane-placed n b a h)
+  pub cut-is :
+      let s = scanAll n a m (plane b a) (scanOf (idle q₀) g w) in
+      Flipped n (cut b (stored n w) a m) g w (s .grid) (s .work)
+  cut-is = scan-is n a m l₁ l₂ (inPlane (stored n w) a m) (plane b a) (scanOf (idle q₀) g w) (plane-placed n b a h)
       (apart-rows (coord (earlier a) (b .lo)) (side b (earlier a)) (coord (later a) (b .lo)) (side b (later a))) (same-reads (plane b a))
       (λ e. absurd (false≢true e)) k
-
--- ---- rows and planes, spot after spot
--- the rest of a row, of a plane
-pub row-step : (u k v : ℕ) → 1 ≤ k → rowOf u k v ≡ record { u = u; v = v } ∷ rowOf (u + 1) (k - 1) v
-row-step u k v h =
-    let q : k ≡ suc (k - 1) = omega arith in
-    ap (λ (j : ℕ). rowOf u j v) q ∙ ap (λ (i : ℕ). record { u = u; v = v } ∷ rowOf i (k - 1) v) (sym (add-one u))
-
-scan-append : (n : ℕ) (a : Axis) (m : ℕ) (l k : List Spot) (s : Scan) → scanAll n a m (l ++ k) s ≡ scanAll n a m k (scanAll n a m l s)
-scan-append n a m [] k s = refl
-scan-append n a m (q ∷ l) k s = scan-append n a m l k (pairOf n a m q s)
-
-abbrev pub rowsOf : ℕ → ℕ → ℕ → ℕ → List Spot
-rowsOf u k v j = each (λ i. rowOf u k i) (upto v j)
-
-pub rows-step : (n : ℕ) (a : Axis) (m : ℕ) (u k v j : ℕ) (s : Scan) → 1 ≤ j → scanAll n a m (rowsOf u k v j) s ≡ scanAll n a m
-    (rowsOf u k (v + 1) (j - 1)) (scanAll n a m (rowOf u k v) s)
-rows-step n a m u k v j s h =
-    let q : j ≡ suc (j - 1) = omega arith in
-    ap (λ (i : ℕ). scanAll n a m (rowsOf u k v i) s) q ∙ scan-append n a m (rowOf u k v) (rowsOf u k (suc v) (j - 1)) s ∙ ap
-    (λ (i : ℕ). scanAll n a m (rowsOf u k i (j - 1)) (scanAll n a m (rowOf u k v) s)) (sym (add-one v))
-
--- lengths that a step keeps
-pair-long : (n : ℕ) (a : Axis) (m : ℕ) (q : Spot) (s : Scan) → (length (pairOf n a m q s .grid) ≡ length (s .grid)) ×
-    (length (pairOf n a m q s .work) ≡ length (s .work))
-unfolding pairOf
-pair-long n a m q s = go (stored n (s .work) a (pointAt a m (q .u) (q .v))) (s .unpaired .any)
-  where
-    J : Scan
-    J = record { unpaired = idle q; grid = turns n (path a m (s .unpaired .spot) q) (s .grid); work = works n (path a m (s .unpaired .spot) q) (s .work) }
-
-    H : Scan
-    H = record { unpaired = waits q; grid = s .grid; work = s .work }
-
-    go : (x y : Bool) → (length (cond x (cond y J H) s .grid) ≡ length (s .grid)) × (length (cond x (cond y J H) s .work) ≡ length (s .work))
-    go true true = (turns-length n (path a m (s .unpaired .spot) q) (s .grid), turns-length n (each facesOf (path a m (s .unpaired .spot) q)) (s .work))
-    go true false = (refl, refl)
-    go false y = (refl, refl)
-
-pub record Rowing (n : ℕ) (a : Axis) (m to v : ℕ) (s₀ : Scan) (from u : ℕ) (h : Unpaired) (g w : List ℕ) : Type 0 where
-  pub scan : scanAll n a m (rowOf u (to - u) v) (record { unpaired = h; grid = g; work = w }) ≡ scanAll n a m (rowOf from (to - from) v) s₀
-  pub unpaired : Placed n (h .spot)
-  pub g-long : length g ≡ length (s₀ .grid)
-  pub w-long : length w ≡ length (s₀ .work)
-
-pub rowing-on : (n : ℕ) (a : Axis) (m to v : ℕ) (s₀ : Scan) (from u : ℕ) (h : Unpaired) (g w : List ℕ) → Rowing n a m to v s₀ from u h g w → u < to →
-    (h′ : Unpaired) (g′ w′ : List ℕ) → _≡_ {A = Scan} (record { unpaired = h′; grid = g′; work = w′ })
-    (pairOf n a m (record { u = u; v = v }) (record { unpaired = h; grid = g; work = w })) → Placed n (h′ .spot) →
-    Rowing n a m to v s₀ from (u + 1) h′ g′ w′
-rowing-on n a m to v s₀ from u h g w r l h′ g′ w′ e p = record {
-  scan = let q : to - (u + 1) ≡ to - u - 1 = omega arith in
-      ap₂ (λ (k : ℕ) (s : Scan). scanAll n a m (rowOf (u + 1) k v) s) q e ∙ ap
-      (λ (l : List Spot). scanAll n a m l (record { unpaired = h; grid = g; work = w })) (sym (row-step u (to - u) v (omega arith))) ∙ r .scan;
-  unpaired = p;
-  g-long = ap (λ (s : Scan). length (s .grid)) e ∙ pair-long n a m (record { u = u; v = v }) (record { unpaired = h; grid = g; work = w }) .0 ∙ r .g-long;
-  w-long = ap (λ (s : Scan). length (s .work)) e ∙ pair-long n a m (record { u = u; v = v }) (record { unpaired = h; grid = g; work = w }) .1 ∙ r .w-long;
-}
-
-pub rowing-end : (n : ℕ) (a : Axis) (m to v : ℕ) (s₀ : Scan) (from u : ℕ) (h : Unpaired) (g w : List ℕ) → Rowing n a m to v s₀ from u h g w → to ≤ u →
-    _≡_ {A = Scan} (record { unpaired = h; grid = g; work = w }) (scanAll n a m (rowOf from (to - from) v) s₀)
-rowing-end n a m to v s₀ from u h g w r l = let q : 0 ≡ to - u = omega arith in ap
-    (λ (k : ℕ). scanAll n a m (rowOf u k v) (record { unpaired = h; grid = g; work = w })) q ∙ r .scan
-
-scan-long : (n : ℕ) (a : Axis) (m : ℕ) (l : List Spot) (s : Scan) → (length (scanAll n a m l s .grid) ≡ length (s .grid)) ×
-    (length (scanAll n a m l s .work) ≡ length (s .work))
-scan-long n a m [] s = (refl, refl)
-scan-long n a m (q ∷ l) s =
-    let r = scan-long n a m l (pairOf n a m q s) in
-    let p = pair-long n a m q s in
-    (r .0 ∙ p .0, r .1 ∙ p .1)
-
-pub record Planing (n : ℕ) (a : Axis) (m from to end : ℕ) (s₀ : Scan) (v₀ v : ℕ) (h : Unpaired) (g w : List ℕ) : Type 0 where
-  pub scan : scanAll n a m (rowsOf from (to - from) v (end - v)) (record { unpaired = h; grid = g; work = w }) ≡ scanAll n a m
-      (rowsOf from (to - from) v₀ (end - v₀)) s₀
-  pub unpaired : Placed n (h .spot)
-  pub g-long : length g ≡ length (s₀ .grid)
-  pub w-long : length w ≡ length (s₀ .work)
-
-pub planing-on : (n : ℕ) (a : Axis) (m from to end : ℕ) (s₀ : Scan) (v₀ v : ℕ) (h : Unpaired) (g w : List ℕ) → Planing n a m from to end s₀ v₀ v h g w
-    → v < end →
-    (h′ : Unpaired) (g′ w′ : List ℕ) → _≡_ {A = Scan} (record { unpaired = h′; grid = g′; work = w′ })
-    (scanAll n a m (rowOf from (to - from) v) (record { unpaired = h; grid = g; work = w })) → Placed n (h′ .spot) →
-    Planing n a m from to end s₀ v₀ (v + 1) h′ g′ w′
-planing-on n a m from to end s₀ v₀ v h g w r l h′ g′ w′ e p = record {
-  scan = let q : end - (v + 1) ≡ end - v - 1 = omega arith in
-      ap₂ (λ (k : ℕ) (s : Scan). scanAll n a m (rowsOf from (to - from) (v + 1) k) s) q e ∙ sym
-      (rows-step n a m from (to - from) v (end - v) (record { unpaired = h; grid = g; work = w }) (omega arith)) ∙ r .scan;
-  unpaired = p;
-  g-long = ap (λ (s : Scan). length (s .grid)) e ∙ scan-long n a m (rowOf from (to - from) v) (record { unpaired = h; grid = g; work = w }) .0 ∙ r .g-long;
-  w-long = ap (λ (s : Scan). length (s .work)) e ∙ scan-long n a m (rowOf from (to - from) v) (record { unpaired = h; grid = g; work = w }) .1 ∙ r .w-long;
-}
-
--- the scan of the plane at its end
-pub planing-end : (n : ℕ) (b : Box) (a : Axis) (m : ℕ) → Fits n b → coord a (b .lo) < m → m < coord a (b .hi) → (g₀ w₀ : List ℕ) → pointCount n ≤
-    length w₀ → (from to end v₀ v : ℕ) (h : Unpaired) (g w : List ℕ) (q₀ : Spot) →
-    Planing n a m from to end (record { unpaired = idle q₀; grid = g₀; work = w₀ }) v₀ v h g w → end ≤ v →
-    from ≡ coord (earlier a) (b .lo) → to ≡ coord (earlier a) (b .hi) → end ≡ coord (later a) (b .hi) → v₀ ≡ coord (later a) (b .lo) →
-    (g ≡ turns n (cut b (stored n w₀) a m) g₀) × (w ≡ works n (cut b (stored n w₀) a m) w₀)
-planing-end n b a m f lo hi g₀ w₀ k from to end v₀ v h g w q₀ r l ef et ee ev =
-    let z : 0 ≡ end - v = omega arith in
-    let c = cut-is n b a m (omega arith) (let y = fits-coord n b a f in omega arith) f w₀ k q₀ g₀ in
-    let s : _≡_ {A = Scan} (record { unpaired = h; grid = g; work = w }) (scanAll n a m (plane b a) (record { unpaired = idle q₀; grid = g₀; work = w₀ })) =
-    ap (λ (j : ℕ). scanAll n a m (rowsOf from (to - from) v j) (record { unpaired = h; grid = g; work = w })) z ∙ r .scan
-    ∙ ap₂ (λ (i j : ℕ). scanAll n a m (rowsOf i (j - i) v₀ (end - v₀)) (record { unpaired = idle q₀; grid = g₀; work = w₀ })) ef et
-    ∙ ap₂ (λ (i j : ℕ). scanAll n a m (rowsOf (coord (earlier a) (b .lo)) (coord (earlier a) (b .hi) - coord (earlier a) (b .lo)) i (j - i))
-    (record { unpaired = idle q₀; grid = g₀; work = w₀ })) ev ee in
-    (ap (λ (x : Scan). x .grid) s ∙ c .0, ap (λ (x : Scan). x .work) s ∙ c .1)
 
 -- ---- one spot as code takes it
 module _ (n : ℕ) (a : Axis) (m : ℕ) (q : Spot) (h : Unpaired) (g w : List ℕ) (s : Point) (t : Bool) (es : s ≡ pointAt a m (q .u) (q .v))
     (et : t ≡ stored n w a s) where
-  pub pass-is : t ≡ false → _≡_ {A = Scan} (record { unpaired = h; grid = g; work = w }) (pairOf n a m q (record { unpaired = h; grid = g; work = w }))
+  pub pass-is : t ≡ false → scanOf h g w ≡ pairOf n a m q (scanOf h g w)
   pass-is f = sym (pair-pass n a m q _ (ap (stored n w a) (sym es) ∙ sym et ∙ f))
 
-  pub wait-is : t ≡ true → h .any ≡ false → _≡_ {A = Scan} (record { unpaired = waits q; grid = g; work = w })
-      (pairOf n a m q (record { unpaired = h; grid = g; work = w }))
+  pub wait-is : t ≡ true → h .any ≡ false → scanOf (waits q) g w ≡ pairOf n a m q (scanOf h g w)
   wait-is f e = sym (pair-wait n a m q _ (ap (stored n w a) (sym es) ∙ sym et ∙ f) e)
 
-  pub meet-is : t ≡ true → h .any ≡ true → (g′ w′ : List ℕ) → g′ ≡ turns n (path a m (h .spot) q) g → w′ ≡ works n (path a m (h .spot) q) w → _≡_
-      {A = Scan} (record { unpaired = idle q; grid = g′; work = w′ }) (pairOf n a m q (record { unpaired = h; grid = g; work = w }))
-  meet-is f e g′ w′ eg ew = ap₂ (λ (x y : List ℕ). record { unpaired = idle q; grid = x; work = y }) eg ew ∙ sym
-      (pair-join n a m q _ (ap (stored n w a) (sym es) ∙ sym et ∙ f) e)
+  pub meet-is : t ≡ true → h .any ≡ true → (g′ w′ : List ℕ) → Flipped n (path a m (h .spot) q) g w g′ w′ →
+      scanOf (idle q) g′ w′ ≡ pairOf n a m q (scanOf h g w)
+  meet-is f e g′ w′ x =
+      ap₂ (λ (x y : List ℕ). scanOf (idle q) x y) (x .0) (x .1) ∙ sym (pair-join n a m q _ (ap (stored n w a) (sym es) ∙ sym et ∙ f) e)
 
   pub place-low : m ≤ n → Placed n q → OfGrid n s
   place-low l k = subst (OfGrid n) (sym es) (placed-low n a m q l k)

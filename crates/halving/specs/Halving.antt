@@ -1,19 +1,28 @@
 -- The scan of a cut plane, and what the code asks of boxes and edges. Assumes nothing.
+use mathlib.Core.Path.{_≡_}
 use mathlib.Core.Bool.{true, false, cond}
 use mathlib.Core.List.{List, [], _∷_, map}
 use Prim.Native.Nat.{ℕ, zero, suc, _+_, _*_, _≤_, _<_}
+use lib.ListN.{length}
 use Rattle.rules.specs.Lists.{upto}
 use Rattle.rules.specs.declared.Axis.{Axis}
 use Rattle.rules.specs.declared.Axis.the-variants.{X, Y, Z}
 use Rattle.rules.specs.declared.Place.{Place}
 use Rattle.rules.specs.declared.Box.{Box}
 use Rattle.rules.specs.declared.Spot.{Spot}
-use Rattle.rules.specs.Lattice.{earlier, later, coord, up, pointAt}
+use Rattle.rules.specs.Lattice.{earlier, later, coord, up, pointAt, pointCount, OfGrid}
 use Rattle.rules.specs.Patch.{path, side}
-use Rattle.rules.specs.Lattice.{OfGrid}
 use Rattle.rules.specs.Grid.{stored}
 use Rattle.lattice.specs.Cells.{turns, works}
 use Rattle.halving.specs.declared.Unpaired.{Unpaired}
+
+-- what the cut of a box asks of the grid and of the working set: a byte for each point
+abbrev pub Sized : ℕ → List ℕ → List ℕ → Type 0
+Sized n g w = (n ≤ 32) × (pointCount n ≤ length g) × (pointCount n ≤ length w)
+
+-- what it leaves in them: the edges of a list are flipped, their marks in the grid and their faces in the working set
+abbrev pub Flipped : ℕ → List Place → List ℕ → List ℕ → List ℕ → List ℕ → Type 0
+Flipped n l g w g' w' = (g' ≡ turns n l g) × (w' ≡ works n l w)
 
 -- an inner edge
 pub record Edged (n : ℕ) (e : Place) : Type 0 where
@@ -22,7 +31,7 @@ pub record Edged (n : ℕ) (e : Place) : Type 0 where
   pub two : 1 ≤ coord (later (e .axis)) (e .at)
 
 -- k inner edges in a row along b
-pub record Run (n : ℕ) (b : Axis) (k : ℕ) (e : Place) : Type 0 where
+pub record EdgeRun (n : ℕ) (b : Axis) (k : ℕ) (e : Place) : Type 0 where
   pub fits : coord b (e .at) + k ≤ n + 1
   pub next : coord (earlier b) (e .at) ≤ n
   pub last : coord (later b) (e .at) ≤ n
@@ -42,6 +51,9 @@ pub record Scan : Type 0 where
   pub grid : List ℕ
   pub work : List ℕ
 
+abbrev pub scanOf : Unpaired → List ℕ → List ℕ → Scan
+scanOf h g w = record { unpaired = h; grid = g; work = w }
+
 abbrev pub idle : Spot → Unpaired
 idle q = record { any = false; spot = q }
 
@@ -52,8 +64,8 @@ unfoldable pub pairOf : ℕ → Axis → ℕ → Spot → Scan → Scan
 pairOf n a m q s =
     cond (stored n (s .work) a (pointAt a m (q .u) (q .v)))
     (cond (s .unpaired .any)
-    (record { unpaired = idle q; grid = turns n (path a m (s .unpaired .spot) q) (s .grid); work = works n (path a m (s .unpaired .spot) q) (s .work) })
-    (record { unpaired = waits q; grid = s .grid; work = s .work }))
+    (scanOf (idle q) (turns n (path a m (s .unpaired .spot) q) (s .grid)) (works n (path a m (s .unpaired .spot) q) (s .work)))
+    (scanOf (waits q) (s .grid) (s .work)))
     s
 
 abbrev pub scanAll : ℕ → Axis → ℕ → List Spot → Scan → Scan
@@ -64,6 +76,10 @@ scanAll n a m (q ∷ l) s = scanAll n a m l (pairOf n a m q s)
 pub record Placed (n : ℕ) (q : Spot) : Type 0 where
   pub u : q .u < n
   pub v : q .v < n
+
+-- spots of the plane have been taken, and the spot kept lies in the grid
+abbrev pub Scanned : ℕ → Axis → ℕ → List Spot → Scan → Scan → Type 0
+Scanned n a m l s r = (r ≡ scanAll n a m l s) × Placed n (r .unpaired .spot)
 
 -- a box of cells of the grid
 pub record Fits (n : ℕ) (b : Box) : Type 0 where

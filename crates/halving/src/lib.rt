@@ -26,13 +26,13 @@ use rules::Point;
 use rules::Spot;
 ghost use mathlib.Core.Path.{_≡_};
 ghost use mathlib.Core.List.{[], _∷_};
-ghost use Prim.Native.Nat.{_≤_, _<_, _+_, _-_, _/_};
+ghost use Prim.Native.Nat.{_≤_, _<_, _+_, _-_};
 ghost use lib.ListN.{length};
 ghost use Rattle.rules.specs.Lattice.{earlier, later, coord, up, pointAt, pointOf, pointNumber, pointCount, OfGrid};
 ghost use Rattle.rules.specs.Patch.{path, cut, patchOf};
 ghost use Rattle.rules.specs.Grid.{stored};
-ghost use Rattle.lattice.specs.Cells.{turnAt, turns, works};
-ghost use Rattle.halving.specs.Halving.{Edged, Run, ahead, along, Scan, pairOf, scanAll, Placed, Fits, rowOf};
+ghost use Rattle.lattice.specs.Cells.{turnAt, works};
+ghost use Rattle.halving.specs.Halving.{Sized, Flipped, Edged, EdgeRun, ahead, along, scanOf, Scanned, Placed, Fits, rowOf};
 
 // The spot of the working face that waits for a partner, if one does.
 pub struct Unpaired {
@@ -67,8 +67,8 @@ fn turn_faces(n: usize, work: &mut [u8], at: usize, a: Axis)
 
 // Flips an inner edge: its mark, and its four faces in the working set.
 fn flip(n: usize, grid: &mut [u8], work: &mut [u8], e: Place)
-    requires { ⌜ (n ≤ 32) × (pointCount n ≤ length (now grid)) × (pointCount n ≤ length (now work)) × Edged n e ⌝ }
-    ensures { λ _. ⌜ (now (grid .exit) ≡ turns n (e ∷ []) (now (grid .entry))) × (now (work .exit) ≡ works n (e ∷ []) (now (work .entry))) ⌝ }
+    requires { ⌜ Sized n (now grid) (now work) × Edged n e ⌝ }
+    ensures { λ _. ⌜ Flipped n (e ∷ []) (now (grid .entry)) (now (work .entry)) (now (grid .exit)) (now (work .exit)) ⌝ }
 {
     let at = number_of(n, e.at);
     let a = e.axis;
@@ -89,8 +89,8 @@ fn next_edge(n: usize, e: Place, b: Axis) -> Place
 
 // Flips count edges in a row along b, beginning with e.
 fn flip_run(n: usize, grid: &mut [u8], work: &mut [u8], e: Place, b: Axis, count: usize)
-    requires { ⌜ (n ≤ 32) × (pointCount n ≤ length (now grid)) × (pointCount n ≤ length (now work)) × Run n b count e ⌝ }
-    ensures { λ _. ⌜ (now (grid .exit) ≡ turns n (along b count e) (now (grid .entry))) × (now (work .exit) ≡ works n (along b count e) (now (work .entry))) ⌝ }
+    requires { ⌜ Sized n (now grid) (now work) × EdgeRun n b count e ⌝ }
+    ensures { λ _. ⌜ Flipped n (along b count e) (now (grid .entry)) (now (work .entry)) (now (grid .exit)) (now (work .exit)) ⌝ }
 {
     let mut at = e;
     let mut k = count;
@@ -114,8 +114,8 @@ fn point_at(a: Axis, m: usize, u: usize, v: usize) -> Point
 
 // Joins two faces of the plane m square to a by a path: first along the earlier axis of the plane, then along the later.
 fn join(n: usize, grid: &mut [u8], work: &mut [u8], a: Axis, m: usize, p: Spot, q: Spot)
-    requires { ⌜ (n ≤ 32) × (pointCount n ≤ length (now grid)) × (pointCount n ≤ length (now work)) × (1 ≤ m) × (m ≤ n) × Placed n p × Placed n q ⌝ }
-    ensures { λ _. ⌜ (now (grid .exit) ≡ turns n (path a m p q) (now (grid .entry))) × (now (work .exit) ≡ works n (path a m p q) (now (work .entry))) ⌝ }
+    requires { ⌜ Sized n (now grid) (now work) × (1 ≤ m) × (m ≤ n) × Placed n p × Placed n q ⌝ }
+    ensures { λ _. ⌜ Flipped n (path a m p q) (now (grid .entry)) (now (work .entry)) (now (grid .exit)) (now (work .exit)) ⌝ }
 {
     let b = earlier(a);
     let c = later(a);
@@ -139,8 +139,8 @@ fn pair_spot(
     q: Spot,
     h: Unpaired,
 ) -> Unpaired
-    requires { ⌜ (n ≤ 32) × (pointCount n ≤ length (now grid)) × (pointCount n ≤ length (now work)) × (1 ≤ m) × (m ≤ n) × Placed n q × Placed n (h .spot) ⌝ }
-    ensures { λ r. ⌜ (_≡_ {A = Scan} (record { unpaired = r; grid = now (grid .exit); work = now (work .exit) }) (pairOf n a m q (record { unpaired = h; grid = now (grid .entry); work = now (work .entry) }))) × Placed n (r .spot) ⌝ }
+    requires { ⌜ Sized n (now grid) (now work) × (1 ≤ m) × (m ≤ n) × Placed n q × Placed n (h .spot) ⌝ }
+    ensures { λ r. ⌜ Scanned n a m (q ∷ []) (scanOf h (now (grid .entry)) (now (work .entry))) (scanOf r (now (grid .exit)) (now (work .exit))) ⌝ }
 {
     let s = point_at(a, m, q.u, q.v);
     if !member(n, work, Place { axis: a, at: s }) {
@@ -169,9 +169,9 @@ fn pair_row(
     v: usize,
     first: Unpaired,
 ) -> Unpaired
-    requires { ⌜ (n ≤ 32) × (pointCount n ≤ length (now grid)) × (pointCount n ≤ length (now work)) × (1 ≤ m) × (m ≤ n) × (to ≤ n) × (v < n)
-        × Placed n (first .spot) ⌝ }
-    ensures { λ r. ⌜ (_≡_ {A = Scan} (record { unpaired = r; grid = now (grid .exit); work = now (work .exit) }) (scanAll n a m (rowOf from (to - from) v) (record { unpaired = first; grid = now (grid .entry); work = now (work .entry) }))) × Placed n (r .spot) ⌝ }
+    requires { ⌜ Sized n (now grid) (now work) × (1 ≤ m) × (m ≤ n) × (to ≤ n) × (v < n) × Placed n (first .spot) ⌝ }
+    ensures { λ r. ⌜ Scanned n a m (rowOf from (to - from) v) (scanOf first (now (grid .entry)) (now (work .entry)))
+        (scanOf r (now (grid .exit)) (now (work .exit))) ⌝ }
 {
     let mut h = first;
     let mut u = from;
@@ -184,10 +184,8 @@ fn pair_row(
 
 // Takes the working faces in the plane m of a box in pairs, by rising point number, and joins each pair.
 fn cut_plane(n: usize, grid: &mut [u8], work: &mut [u8], b: Box, a: Axis, m: usize)
-    requires { ⌜ (n ≤ 32) × (pointCount n ≤ length (now grid)) × (pointCount n ≤ length (now work)) × Fits n b × (coord a (b .lo) < m)
-        × (m < coord a (b .hi)) ⌝ }
-    ensures { λ _. ⌜ (now (grid .exit) ≡ turns n (cut b (stored n (now (work .entry))) a m) (now (grid .entry)))
-        × (now (work .exit) ≡ works n (cut b (stored n (now (work .entry))) a m) (now (work .entry))) ⌝ }
+    requires { ⌜ Sized n (now grid) (now work) × Fits n b × (coord a (b .lo) < m) × (m < coord a (b .hi)) ⌝ }
+    ensures { λ _. ⌜ Flipped n (cut b (stored n (now (work .entry))) a m) (now (grid .entry)) (now (work .entry)) (now (grid .exit)) (now (work .exit)) ⌝ }
 {
     let lo = b.lo;
     let hi = b.hi;
@@ -210,8 +208,7 @@ fn cut_plane(n: usize, grid: &mut [u8], work: &mut [u8], b: Box, a: Axis, m: usi
 // Patches a box: cuts its longest side, joins the working faces in the cut plane in pairs, and treats the two halves the same way.
 pub fn patch_box(n: usize, grid: &mut [u8], work: &mut [u8], b: Box)
     requires { ⌜ (n ≤ 32) × (pointCount n ≤ length (now grid)) × (pointCount n ≤ length (now work)) × Fits n b ⌝ }
-    ensures { λ _. ⌜ (now (grid .exit) ≡ turns n (patchOf b (stored n (now (work .entry)))) (now (grid .entry)))
-        × (now (work .exit) ≡ works n (patchOf b (stored n (now (work .entry)))) (now (work .entry))) ⌝ }
+    ensures { λ _. ⌜ Flipped n (patchOf b (stored n (now (work .entry)))) (now (grid .entry)) (now (work .entry)) (now (grid .exit)) (now (work .exit)) ⌝ }
 {
     if is_one_cell(n, b) {
         return;

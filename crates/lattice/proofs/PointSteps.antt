@@ -7,10 +7,8 @@ use Rattle.rules.specs.declared.Axis.{Axis}
 use Rattle.rules.specs.declared.Axis.the-variants.{X, Y, Z}
 use Rattle.rules.specs.declared.Point.{Point}
 use Rattle.rules.specs.declared.Place.{Place}
-use Rattle.rules.specs.Lattice.{coord, up, down, origin, pointNumber, pointCount, pointOf, OfGrid}
-use Rattle.rules.proofs.PointOf.{number-pointOf}
+use Rattle.rules.specs.Lattice.{coord, up, down, origin, pointNumber, OfGrid}
 use Rattle.lattice.specs.Cells.{pointStep, upperFace, moved, Cell}
-use Rattle.lattice.proofs.Laws.{num-below}
 
 -- a coordinate of a point of the grid
 pub coord-most : (n : ℕ) (a : Axis) (p : Point) → OfGrid n p → coord a p ≤ n

@@ -15,7 +15,8 @@ pub written : {A : Type 0} (s l : List A) (k : ℕ) → length l ≡ k → k ≤
 written s l k e h = sets-eq l s 0 (omega arith) ∙ ap (λ (i : ℕ). l ++ drop i s) (zero-add (length l) ∙ e)
 
 -- one member of those from p on is written, and the others are left
-pub write-more : (f : ℕ → ℕ) (s : List ℕ) (p c : ℕ) → p < c → sets (set s p (f p)) (suc p) (map f (upto (suc p) (c - suc p))) ≡ sets s p (map f (upto p (c - p)))
+pub write-more : (f : ℕ → ℕ) (s : List ℕ) (p c : ℕ) → p < c →
+    sets (set s p (f p)) (suc p) (map f (upto (suc p) (c - suc p))) ≡ sets s p (map f (upto p (c - p)))
 write-more f s p c h = ap (λ (l : List ℕ). sets s p (map f l)) (sym (upto-more p c h))
 
 -- none is left
@@ -25,7 +26,9 @@ write-end f s p c h = ap (λ (m : ℕ). sets s p (map f (upto p m))) (let e : c 
 -- two lists, one behind the other
 pub sets-append : {A : Type 0} (s : List A) (i : ℕ) (l m : List A) → sets (sets s i l) (i + length l) m ≡ sets s i (l ++ m)
 sets-append s i [] m = ap (λ (j : ℕ). sets s j m) (add-zero i)
-sets-append s i (x ∷ l) m = ap (λ (j : ℕ). sets (sets (set s i x) (suc i) l) j m) (let e : i + suc (length l) ≡ suc i + length l = omega arith in e) ∙ sets-append (set s i x) (suc i) l m
+sets-append s i (x ∷ l) m =
+    let e : i + suc (length l) ≡ suc i + length l = omega arith in
+    ap (λ (j : ℕ). sets (sets (set s i x) (suc i) l) j m) e ∙ sets-append (set s i x) (suc i) l m
 
 -- ---- a buffer rewritten in place, each byte from the one that stood there
 module _ (s₀ s : List ℕ) (p : ℕ) where

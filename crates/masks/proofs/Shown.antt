@@ -1,29 +1,22 @@
 -- The pictures as the bytes of a grid have them: pixel by pixel, row by row, layer by layer. Assumes nothing.
 use mathlib.Core.Path.{_≡_, sym, ap, ap₂, fun-ext, _∙_}
-use mathlib.Core.Bool.{Bool, true, false, cond}
+use mathlib.Core.Bool.{Bool, false, cond}
 use mathlib.Core.List.{List, map, _++_}
 use Prim.Native.Nat.{ℕ, zero, suc, _+_, _*_, _≤_, _<_}
-use native.Mathlib.Nat.{mul-assoc, mul-add, suc-mul, zero-mul, not-suc-le-zero, le-of-suc-le-suc}
+use native.Mathlib.Nat.{mul-assoc, mul-add, suc-mul, zero-mul}
 use native.Mathlib.Decide.{decLt}
 use native.Mathlib.Numerals.{add-one}
 use native.Mathlib.Omega.{arith}
 use borrow.Author.Tests.{le-leb, lt-leb}
-use lib.Dec.{leb}
 use lib.ListN.{length, getD, length-append, length-map, List·getD-eq-default}
 use Rattle.rules.specs.declared.Point.{Point}
 use Rattle.rules.specs.Lists.{each, upto}
-use Rattle.rules.specs.Lattice.{pointNumber}
 use Rattle.rules.specs.Grid.{value, saysInside, inside}
-use Rattle.rules.proofs.Numbers.{getD-map<}
+use Rattle.rules.proofs.Numbers.{length-upto, getD-upto, getD-map<}
 use Rattle.text.proofs.Texts.{each-more}
-use Rattle.masks.specs.Layers.{row, layer}
+use Rattle.masks.specs.Layers.{row}
 use Rattle.masks.specs.Mask.{pixel, pixelAt, packed, rowBytes, maskRow, rowAt, rowsAt, header, mask, maskAt, masks, maskSize}
-use Rattle.masks.proofs.Sizes.{length-upto, mask-length}
-
-getD-upto : (i k j d : ℕ) → j < k → getD (upto i k) j d ≡ i + j
-getD-upto i zero j d h = absurd (not-suc-le-zero h)
-getD-upto i (suc k) zero d h = omega arith
-getD-upto i (suc k) (suc j) d h = getD-upto (suc i) k j d (le-of-suc-le-suc h) ∙ omega arith
+use Rattle.masks.proofs.Sizes.{mask-length}
 
 module _ (n : ℕ) where
   pub row-long : (k j : ℕ) → length (row n k j) ≡ suc n

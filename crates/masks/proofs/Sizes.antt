@@ -1,5 +1,5 @@
 -- The lengths of a picture's parts. Assumes nothing.
-use mathlib.Core.Path.{_≡_, refl, sym, ap, ap₂, _∙_}
+use mathlib.Core.Path.{_≡_, sym, ap, ap₂, _∙_}
 use mathlib.Core.List.{List, [], _∷_}
 use Prim.Native.Nat.{ℕ, zero, suc, _+_, _*_, _/_, _%_, _≤_, _<_}
 use native.Mathlib.Nat.{mul-le-mul, mul-le-mul-left, mul-suc, suc-mul, zero-mul}
@@ -8,14 +8,11 @@ use native.Mathlib.Numerals.{add-one}
 use native.Mathlib.Omega.{arith}
 use lib.ListN.{length, length-append, length-map}
 use Rattle.rules.specs.Lists.{each, upto}
+use Rattle.rules.proofs.Numbers.{length-upto}
 use Rattle.text.specs.Text.{ascii, decimal, digit}
 use Rattle.text.proofs.Decimal.{decimal-one, decimal-more}
 use Rattle.text.proofs.Texts.{fields-length, each-more}
 use Rattle.masks.specs.Mask.{rowBytes, header, rowAt, rowsAt, maskAt, maskSize}
-
-pub length-upto : (i k : ℕ) → length (upto i k) ≡ k
-length-upto i zero = refl
-length-upto i (suc k) = ap suc (length-upto (suc i) k)
 
 -- ---- the width in decimal
 pub digits-one : (w : ℕ) → w < 10 → length (decimal w) ≡ 1

@@ -6,7 +6,7 @@ use mathlib.Core.List.{List}
 use mathlib.Core.Logic.{_↔_, _≢_}
 use Prim.Native.Nat.{ℕ, zero, suc}
 use Rattle.rules.specs.declared.Point.{Point}
-use Rattle.refusals.specs.Rows.{firstOf, Given, Lowest, rising}
+use Rattle.refusals.specs.Rows.{firstOf, Given, rising}
 use Rattle.refusals.specs.Reasons.{readNumber, answerNumber}
 use Rattle.refusals.specs.declared.Answer.{Answer}
 use Rattle.refusals.specs.declared.Answer.the-variants as Counting

@@ -3,9 +3,8 @@ use mathlib.Core.Path.{_≡_, refl}
 use mathlib.Core.List.{List, _++_}
 use Prim.Native.Nat.{ℕ}
 use lib.IntN.{ℤ}
-use lib.ListN.{length, drop, replicate, length-replicate}
+use lib.ListN.{drop, replicate, length-replicate}
 use lib.Seq.{drop-at}
-use Rattle.rules.specs.Lattice.{pointCount}
 use Rattle.rules.specs.Grid.{bytes, marks}
 use Rattle.rules.specs.Patch.{patched}
 use Rattle.rules.specs.Signs.{signBytes}

@@ -1,18 +1,15 @@
 -- Condition 1 of the five calls: when each number is given, and what a refusal leaves. Assumes nothing.
 use mathlib.Core.Path.{_≡_, refl, sym, ap, _∙_}
 use mathlib.Core.Bool.{true}
-use mathlib.Core.Logic.{_↔_, _≢_}
+use mathlib.Core.Logic.{_≢_}
 use Prim.Native.Nat.{ℕ}
-use Rattle.rules.specs.Grid.{marks}
 use Rattle.refusals.specs.Rows.{firstOf, rising}
 use Rattle.refusals.specs.Columns.{levelAt}
 use Rattle.refusals.proofs.First.{first-exactly}
 use Rattle.refusals.proofs.Lowest.{lowest-exactly}
 use Rattle.refusals.proofs.Answered.{answered-number, answered-refused}
-use Rattle.marking.specs.Ranges.{triangleOf}
-use Rattle.meeting.specs.Met.{marked}
 use Rattle.marking.specs.Outcome as Opening
-use Rattle.marking.specs.Open.{opened, openRows, openCall}
+use Rattle.marking.specs.Open.{openRows, openCall}
 use Rattle.marking.specs.Mark as Marking
 use Rattle.marking.specs.Mark.{markRows, markCall}
 use Rattle.patching.specs.Call as Patching

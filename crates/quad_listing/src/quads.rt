@@ -8,14 +8,15 @@ use rules::Axis;
 use rules::Point;
 ghost use mathlib.Core.Path.{_≡_};
 ghost use mathlib.Core.Bool.{true};
-ghost use mathlib.Core.List.{[], _∷_, _++_};
+ghost use mathlib.Core.List.{[], _∷_};
 ghost use Prim.Native.Nat.{_+_, _*_, _≤_, _<_};
-ghost use lib.ListN.{length, drop};
+ghost use lib.ListN.{length};
 ghost use lib.Seq.{sets};
 ghost use Rattle.rules.specs.Lattice.{inner, cellNumber, pointCount};
 ghost use Rattle.rules.specs.Grid.{has, marks, inside, isGrid, byteMarks};
-ghost use Rattle.rules.specs.Quads.{next, quads};
+ghost use Rattle.rules.specs.Quads.{next};
 ghost use Rattle.lattice.specs.Cells.{Cell};
+ghost use Rattle.surfacing.specs.Call.{surfaceDone};
 ghost use Rattle.surfacing.specs.Listing.{quadCount, cellStep, byteQuad, byteQuads, MarksInner};
 
 // The axis after an axis, round: for x the pair is (y,z), for y it is (z,x), for z it is (x,y).
@@ -123,7 +124,7 @@ pub fn count_quads(n: usize, grid: &[u8]) -> usize
 // Writes the quads into a list that has room for them.
 pub fn write_quads(n: usize, grid: &[u8], list: &mut [u16])
     requires { ⌜ (n ≤ 32) × (pointCount n ≤ length (now grid)) × (isGrid n (now grid) ≡ true) × (4 * quadCount n (marks n (now grid)) ≤ length (now list)) ⌝ }
-    ensures { λ _. ⌜ now (list .exit) ≡ quads n (marks n (now (grid .entry))) (inside n (now (grid .entry))) ++ drop (4 * quadCount n (marks n (now (grid .entry)))) (now (list .entry)) ⌝ }
+    ensures { λ _. ⌜ now (list .exit) ≡ surfaceDone n (marks n (now (grid .entry))) (inside n (now (grid .entry))) (now (list .entry)) .list ⌝ }
 {
     let count = point_count(n);
     let mut q = Point { i: 0, j: 0, k: 0 };

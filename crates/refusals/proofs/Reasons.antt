@@ -1,10 +1,10 @@
 -- A refusal is settled by its number. Assumes nothing.
 use mathlib.Core.Path.{_≡_, refl, sym, ap, _∙_}
-use mathlib.Core.Bool.{Bool, true, false, true≢false}
+use mathlib.Core.Bool.{true, false, true≢false}
 use Prim.Native.Nat.{ℕ}
 use Rattle.refusals.specs.declared.Refusal.{Refusal}
-use Rattle.refusals.specs.declared.Refusal.the-variants.{BadLevel, ShortBuffer, NotNine, NoGrid, OddFace, SignsMisfit, ShortList, WrongLength, TextForm, TooFar, BadScale}
-use Rattle.refusals.specs.declared.Refusal.the-variants.{BadBox, ShortTable, NotFours, CutShort, BadKind, BadPlace}
+use Rattle.refusals.specs.declared.Refusal.the-variants.{BadLevel, ShortBuffer, NotNine, NoGrid, OddFace, SignsMisfit, ShortList, WrongLength}
+use Rattle.refusals.specs.declared.Refusal.the-variants.{TextForm, TooFar, BadScale, BadBox, ShortTable, NotFours, CutShort, BadKind, BadPlace}
 use Rattle.refusals.specs.Reasons.{numberOf, readNumber}
 
 pub read-back : {A : Type 0} (done : A) (refused : Refusal → A) (r : Refusal) → readNumber (numberOf r) done refused ≡ refused r

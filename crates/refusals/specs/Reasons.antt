@@ -6,8 +6,8 @@ use lib.Dec.{eqb}
 use Rattle.refusals.specs.declared.Answer.{Answer}
 use Rattle.refusals.specs.declared.Answer.the-variants.{Done, Refused}
 use Rattle.refusals.specs.declared.Refusal.{Refusal}
-use Rattle.refusals.specs.declared.Refusal.the-variants.{BadLevel, ShortBuffer, NotNine, NoGrid, OddFace, SignsMisfit, ShortList, WrongLength, TextForm, TooFar, BadScale}
-use Rattle.refusals.specs.declared.Refusal.the-variants.{BadBox, ShortTable, NotFours, CutShort, BadKind, BadPlace}
+use Rattle.refusals.specs.declared.Refusal.the-variants.{BadLevel, ShortBuffer, NotNine, NoGrid, OddFace, SignsMisfit, ShortList, WrongLength}
+use Rattle.refusals.specs.declared.Refusal.the-variants.{TextForm, TooFar, BadScale, BadBox, ShortTable, NotFours, CutShort, BadKind, BadPlace}
 
 abbrev pub numberOf : Refusal → ℕ
 numberOf BadLevel = 1

@@ -1,7 +1,7 @@
 -- e as e + 20, so that the code counts in whole numbers. Assumes nothing.
 use mathlib.Core.Path.{_≡_, refl, sym, ap, _∙_}
 use mathlib.Core.Bool.{Bool, true, false, cond, true≢false}
-use Prim.Native.Nat.{ℕ, suc, _+_, _-_, _*_, _^_, _≤_, _<_}
+use Prim.Native.Nat.{ℕ, suc, _+_, _-_, _*_, _^_, _≤_}
 use native.Mathlib.Nat.{mul-assoc, mul-comm, mul-left-comm, mul-pos, mul-one}
 use native.Mathlib.Omega.{arith}
 use lib.Dec.{ltb}
@@ -11,7 +11,6 @@ use lib.IntN.{ℤ, pos, negsuc, _+ℤ_}
 use lib.Pow.{pow-add, pow-pos}
 use lib.Signed.{ltZ}
 use borrow.Author.Tests.{lt-ltb, le-ltb, ltb-true, ltb-false}
-use Rattle.rounding.specs.declared.Scale.{Scale}
 use Rattle.rounding.specs.declared.Scale.the-variants.{Known, Bad}
 use Rattle.rounding.specs.Pattern.{digitsOf, powerOf, nearestAway, sizeTimes}
 use Rattle.rounding.specs.Scales.{badScale, scaleAt, scaleOf, exponentOf}

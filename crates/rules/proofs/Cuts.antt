@@ -6,10 +6,12 @@ use Prim.Native.Nat.{max, min, suc, ℕ, _-_}
 use native.Mathlib.Omega.{arith}
 use lib.Dec.{eqb, leb, ltb}
 use Rattle.rules.specs.Lists.{_⊕_, keep, All, upto, between}
-use Rattle.rules.specs.Lattice.{earlier, later, sameAxis, coord, pointAt, up, samePoint, samePlace, Set, setOf, symdiff, faceIn, edgeIn, Axis, X, Y, Z, Point, Place, Box, Spot}
+use Rattle.rules.specs.Lattice.{Axis, X, Y, Z, Point, Place, Box, Spot, earlier, later, sameAxis, coord, pointAt, up, samePoint, samePlace}
+use Rattle.rules.specs.Lattice.{Set, setOf, symdiff, faceIn, edgeIn}
 use Rattle.rules.specs.Cell.{oddFace, oddCell}
 use Rattle.rules.specs.Patch.{side, plane, inPlane, steps, path, paths, cut}
-use Rattle.rules.proofs.Bits.{⊕-self, &&-⊕, &&-true, ands, Bounds, and-left, and-right, both, between→, between←, is-false, same-test, three→, eqb→, zeros}
+use Rattle.rules.proofs.Bits.{⊕-self, &&-⊕, &&-true, ands, and-left, and-right, both, is-false, same-test, three→, eqb→, zeros}
+use Rattle.rules.proofs.Bits.{Bounds, between→, between←}
 use Rattle.rules.proofs.Sums.{parity-keep, parityTo-cong, parityTo-one, &&-sum}
 use Rattle.rules.proofs.Lists.{all-append, all-weaken, all-keep, all-map, all-each, all-upto}
 use Rattle.rules.proofs.Oddness.{cell-even, oddCell-symdiff, coord-own, coord-earlier, coord-later, Closed, plane-even}

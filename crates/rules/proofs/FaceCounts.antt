@@ -1,5 +1,5 @@
 -- How many faces have one mark, and how many three. Assumes nothing.
-use mathlib.Core.Bool.{Bool, true, false, not, cond}
+use mathlib.Core.Bool.{Bool, true, false, not}
 use mathlib.Core.List.{List, [], _∷_}
 use mathlib.Core.Logic.{_↔_}
 use mathlib.Core.Path.{ap, fun-ext, refl, sym, _∙_, _≡_}

@@ -1,5 +1,5 @@
 -- The number of marks of a face, and the lists of odd and of even faces. Assumes nothing.
-use mathlib.Core.Bool.{Bool, false, _||_, true, not}
+use mathlib.Core.Bool.{Bool, false, true, not}
 use mathlib.Core.Path.{ap, fun-ext, refl, sym, _∙_, _≡_, subst}
 use Prim.Native.Nat.{suc, zero, ℕ, _%_, _≤_}
 use native.Mathlib.Omega.{arith}

@@ -14,11 +14,11 @@ use Rattle.rules.specs.Grid.{value, byteAt, bytes, has, saysInside, sign
 use Rattle.rules.proofs.Bits.{and-left, and-right, eqb-no}
 use Rattle.rules.proofs.Lists.{each-map, map-each}
 
-length-upto : (i k : ℕ) → length (upto i k) ≡ k
+pub length-upto : (i k : ℕ) → length (upto i k) ≡ k
 length-upto i zero = refl
 length-upto i (suc k) = ap suc (length-upto (suc i) k)
 
-getD-upto : (i k j d : ℕ) → j < k → getD (upto i k) j d ≡ i + j
+pub getD-upto : (i k j d : ℕ) → j < k → getD (upto i k) j d ≡ i + j
 getD-upto i zero j d h = absurd (not-suc-le-zero h)
 getD-upto i (suc k) zero d h = omega arith
 getD-upto i (suc k) (suc j) d h = getD-upto (suc i) k j d (le-of-suc-le-suc h) ∙ omega arith

@@ -5,7 +5,8 @@ use mathlib.Core.Path.{ap, fun-ext, refl, sym, _∙_, _≡_}
 use Prim.Native.Nat.{suc, ℕ, _<_}
 use native.Mathlib.Omega.{arith}
 use Rattle.rules.specs.Lists.{_⊕_, parity, keep, anyOf, All, each}
-use Rattle.rules.specs.Lattice.{earlier, later, sameAxis, coord, up, samePlace, places, Set, isIn, setOf, faceIn, edgeIn, whole, inner, Axis, X, Y, Z, Point, Place, Box, Sub}
+use Rattle.rules.specs.Lattice.{Axis, X, Y, Z, Point, Place, Box, earlier, later, sameAxis, coord, up, samePlace, places}
+use Rattle.rules.specs.Lattice.{Set, isIn, setOf, faceIn, edgeIn, whole, inner, Sub}
 use Rattle.rules.specs.Cell.{oddFace, oddCell}
 use Rattle.rules.specs.Rims.{oddFaces, joins, rimsOf, rims, ownBox, boxOf}
 use Rattle.rules.specs.Patch.{size, patchRim, flips, patched, patchOf}

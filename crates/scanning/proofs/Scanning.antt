@@ -40,7 +40,10 @@ pub run-start : (n : ℕ) (c : Point) (E : Set) (g : List ℕ) → Added n (inRu
 run-start n c E g = added-none n g (inRun c (c .i) E) (λ a p o e. absurd (never a p e))
   where
     never : (a : Axis) (p : Point) → inRun c (c .i) E a p ≡ true → ⊥
-    never a p e = let h = inBox→ (run c (c .i)) false false false p (and-left (inBox (run c (c .i)) false false false p) (E a p) e) in omega arith
+    never a p e =
+        let b = run c (c .i) in
+        let h = inBox→ b false false false p (and-left (inBox b false false false p) (E a p) e) in
+        omega arith
 
 -- the cells up to this one, and this one
 module _ (c d : Point) (h : c .i ≤ d .i) (y : d .j ≡ c .j) (z : d .k ≡ c .k) where
@@ -54,7 +57,9 @@ module _ (c d : Point) (h : c .i ≤ d .i) (y : d .j ≡ c .j) (z : d .k ≡ c .
       there e = go (or-cases x (samePoint d p) e)
         where
           go : (x ≡ true) ⊎ (samePoint d p ≡ true) → inBox (run c (d .i + 1)) false false false p ≡ true
-          go (inl f) = let o = inBox→ (run c (d .i)) false false false p f in inBox← (run c (d .i + 1)) false false false p (omega arith, omega arith, omega arith)
+          go (inl f) =
+              let o = inBox→ (run c (d .i)) false false false p f in
+              inBox← (run c (d .i + 1)) false false false p (omega arith, omega arith, omega arith)
           go (inr f) =
               subst (λ (q : Point). inBox (run c (d .i + 1)) false false false q ≡ true) (samePoint→ d p f)
               (inBox← (run c (d .i + 1)) false false false d (omega arith, omega arith, omega arith))
@@ -209,8 +214,8 @@ covers-standing l t b v =
     }
 
 -- what a cell of a row is
-pub row-cell : (l : Level) (t : Triangle) (b : Box) → Covers l t b → (c d : Point) → RowOf b c → c .i ≤ d .i → d .i < b .hi .i → d .j ≡ c .j → d .k ≡ c .k →
-    Cell (cellsOf l) d × (inBox b false false false d ≡ true)
+pub row-cell : (l : Level) (t : Triangle) (b : Box) → Covers l t b → (c d : Point) → RowOf b c → c .i ≤ d .i → d .i < b .hi .i → d .j ≡ c .j →
+    d .k ≡ c .k → Cell (cellsOf l) d × (inBox b false false false d ≡ true)
 row-cell l t b v c d r f g y z =
     let p = v X .most in
     let q = v Y .most in
@@ -244,14 +249,20 @@ two b e = go (thin b X) refl (thin b Y) refl (thin b Z) refl e
 
 -- nothing is met
 pub bare-none : (l : Level) (t : Triangle) (b : Box) → Covers l t b → bareOf b ≡ true → (g : List ℕ) → Added (cellsOf l) (met l t) g g
-bare-none l t b v e g = added-none (cellsOf l) g (met l t) (λ a p o m. absurd (none a p (two b e) (met-beyond l t b v a p m) (inBox→ b false false false p (met-covered l t a p b v m))))
+bare-none l t b v e g =
+    added-none (cellsOf l) g (met l t) (λ a p o m.
+    let in-box = inBox→ b false false false p (met-covered l t a p b v m) in
+    absurd (none a p (two b e) (met-beyond l t b v a p m) in-box))
   where
     off : {x lo hi : ℕ} → not (eqb x lo) ≡ true → lo ≤ x → x < hi → lo + 1 ≡ hi → ⊥
     off {x} {lo} {hi} f h k q =
         let u : x ≡ lo = omega arith in
         true≢false (sym f ∙ ap not (eqb-yes x lo u))
 
+    either : {x y : Bool} {P Q : Type 0} → x && y ≡ true → (x ≡ true → P → ⊥) → (y ≡ true → Q → ⊥) → P ⊎ Q → ⊥
+    either {x} {y} f g h = ⊎-elim (g (and-left x y f)) (h (and-right x y f))
+
     none : (a : Axis) (p : Point) → Two b → beyond (b .lo) p a ≡ true → InBox b false false false p → ⊥
-    none X p w f o = ⊎-elim (λ q. off (and-left (not (eqb (p .j) (b .lo .j))) (not (eqb (p .k) (b .lo .k))) f) (o .1 .low) (o .1 .high) q) (λ q. off (and-right (not (eqb (p .j) (b .lo .j))) (not (eqb (p .k) (b .lo .k))) f) (o .2 .low) (o .2 .high) q) (w .not-x)
-    none Y p w f o = ⊎-elim (λ q. off (and-left (not (eqb (p .i) (b .lo .i))) (not (eqb (p .k) (b .lo .k))) f) (o .0 .low) (o .0 .high) q) (λ q. off (and-right (not (eqb (p .i) (b .lo .i))) (not (eqb (p .k) (b .lo .k))) f) (o .2 .low) (o .2 .high) q) (w .not-y)
-    none Z p w f o = ⊎-elim (λ q. off (and-left (not (eqb (p .i) (b .lo .i))) (not (eqb (p .j) (b .lo .j))) f) (o .0 .low) (o .0 .high) q) (λ q. off (and-right (not (eqb (p .i) (b .lo .i))) (not (eqb (p .j) (b .lo .j))) f) (o .1 .low) (o .1 .high) q) (w .not-z)
+    none X p w f o = either f (λ h. off h (o .1 .low) (o .1 .high)) (λ h. off h (o .2 .low) (o .2 .high)) (w .not-x)
+    none Y p w f o = either f (λ h. off h (o .0 .low) (o .0 .high)) (λ h. off h (o .2 .low) (o .2 .high)) (w .not-y)
+    none Z p w f o = either f (λ h. off h (o .0 .low) (o .0 .high)) (λ h. off h (o .1 .low) (o .1 .high)) (w .not-z)

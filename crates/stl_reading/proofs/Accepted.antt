@@ -4,7 +4,7 @@ use mathlib.Core.List.{map}
 use Rattle.octets.specs.Octets.{word}
 use Rattle.rounding.specs.Pattern.{nearestAway, sizeTimes, roundTimes, isNear}
 use Rattle.stl_reading.specs.File.{vertexAt, faultAt, triangleFault, firstFault, triangleNumbers, numbersOf}
-use Rattle.stl_reading.specs.Call.{Outcome, faultIn, readDone, readRows, readCall}
+use Rattle.stl_reading.specs.Call.{faultIn, readDone, readRows, readCall}
 use Rattle.stl_reading.specs.Examples.{Example, examples}
 
 pub examples-hold : map (λ (x : Example). readCall (x .power) (x .bytes) (x .lent)) examples ≡ map (λ (x : Example). x .outcome) examples

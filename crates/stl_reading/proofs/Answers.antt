@@ -1,10 +1,9 @@
 -- The call's outcome, by the tests that lead to it. Assumes nothing.
-use mathlib.Core.Path.{_≡_, refl, sym, ap, _∙_}
-use mathlib.Core.Bool.{Bool, true, false, not, _&&_, cond}
+use mathlib.Core.Path.{_≡_, _∙_}
+use mathlib.Core.Bool.{true, false}
 use mathlib.Core.List.{List, _++_}
 use Prim.Native.Nat.{ℕ, _+_, _*_, _≤_, _<_}
-use native.Mathlib.Omega.{arith}
-use lib.Dec.{leb, eqb, ltb}
+use lib.Dec.{leb, eqb}
 use lib.IntN.{ℤ}
 use lib.ListN.{length, drop}
 use borrow.Author.Tests.{lt-ltb, le-ltb, leb-true, eqb-true}
@@ -13,11 +12,10 @@ use Rattle.octets.specs.Octets.{begins}
 use Rattle.refusals.specs.declared.Refusal.the-variants as Why
 use Rattle.rounding.specs.Pattern.{isNear, roundTimes}
 use Rattle.rounding.specs.Scales.{badScale, exponentOf}
-use Rattle.stl_reading.specs.declared.vertices.Fault.{Fault}
 use Rattle.stl_reading.specs.declared.vertices.Fault.the-variants.{Clear, OnAxis, TooFar}
 use Rattle.stl_reading.specs.declared.ReadAnswer.the-variants.{Done, NotFinite, Refused}
 use Rattle.stl_reading.specs.File.{countOf, rightLength, solid, firstFault, numbersOf}
-use Rattle.stl_reading.specs.Call.{Outcome, told, faultIn, readDone, readRows, readCall}
+use Rattle.stl_reading.specs.Call.{told, faultIn, readDone, readRows, readCall}
 
 -- the right length, as numbers
 pub right-length : (s : List ℕ) → rightLength s ≡ true → (84 ≤ length s) × (length s ≡ 84 + 50 * countOf s)

@@ -1,16 +1,15 @@
 -- The numbers of the triangles, as they are written one triangle after another. Assumes nothing.
 use mathlib.Core.Path.{_≡_, refl, sym, ap, _∙_}
-use mathlib.Core.List.{List, [], _∷_, _++_}
+use mathlib.Core.List.{List, _++_}
 use Prim.Native.Nat.{ℕ, zero, suc, _+_, _-_, _*_, _≤_, _<_}
 use native.Mathlib.Nat.{mul-suc, add-comm, sub-zero}
 use native.Mathlib.Numerals.{add-one}
 use native.Mathlib.Omega.{arith}
 use lib.IntN.{ℤ}
-use lib.ListN.{length, set, drop, length-append}
+use lib.ListN.{length, drop, length-append}
 use lib.Seq.{sets}
 use Rattle.rules.specs.Lists.{each, upto}
 use Rattle.rules.proofs.Lists.{upto-more}
-use Rattle.octets.specs.Octets.{wordAt}
 use Rattle.lattice.proofs.Written.{written, sets-append}
 use Rattle.stl_reading.specs.File.{verticesAt, vertexNumbers, triangleNumbers, numbersOf}
 

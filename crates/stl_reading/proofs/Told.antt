@@ -2,7 +2,7 @@
 use mathlib.Core.Path.{_≡_, refl, sym, ap, _∙_, subst}
 use mathlib.Core.Bool.{Bool, true, false, not, _&&_, cond}
 use mathlib.Core.List.{List}
-use Prim.Native.Nat.{ℕ, _+_, _<_}
+use Prim.Native.Nat.{ℕ, _+_}
 use native.Mathlib.Omega.{arith}
 use lib.Dec.{T}
 use lib.Ieee.{Float, binary32, ofBits, toBits, isNan, nanBits}
@@ -16,7 +16,6 @@ use Rattle.octets.specs.Octets.{wordAt}
 use Rattle.octets.proofs.Words.{word-small}
 use Rattle.rounding.specs.Pattern.{fieldOf, isFinite}
 use Rattle.stl_reading.specs.declared.vertices.Place.{Place}
-use Rattle.stl_reading.specs.declared.vertices.Vertex.{Vertex}
 use Rattle.stl_reading.specs.declared.vertices.Vertex.the-variants.{Finite, NotFinite}
 use Rattle.stl_reading.specs.declared.vertices.Fault.the-variants.{Clear, OnAxis, TooFar}
 use Rattle.stl_reading.specs.File.{placeAt, vertexAt, nearAt, faultAt}

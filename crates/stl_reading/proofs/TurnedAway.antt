@@ -54,7 +54,8 @@ abbrev differs : Wrong → Bool
 differs w = not (sameOutcome (reader (w .choice) (w .power) (w .bytes) (w .lent)) (readCall (w .power) (w .bytes) (w .lent)))
 
 all-differ : allOf differs wrongs ≡ true
-unfolding wrongs reader word readCall readRows readDone faultIn firstFault triangleFault faultAt vertexAt numbersOf triangleNumbers isNear roundTimes sizeTimes nearestAway
+unfolding wrongs reader word readCall readRows readDone faultIn firstFault triangleFault faultAt
+    vertexAt numbersOf triangleNumbers isNear roundTimes sizeTimes nearestAway
 all-differ = refl
 
 away : (w : Wrong) → differs w ≡ true → ¬ (Keeps (w .choice))

@@ -107,7 +107,8 @@ examples =
     ∷ reads (pos 1) (single (three half one twoAndHalf) origin origin) 9 1 (pos 1 ∷ (pos 2 ∷ (pos 5 ∷ zeros 6)))
     ∷ reads (negsuc 0) (single (three half one twoAndHalf) origin origin) 9 1 (pos 0 ∷ (pos 1 ∷ (pos 1 ∷ zeros 6)))
     -- two triangles, one behind the other; a normal that isn't finite is no fault
-    ∷ reads (pos 0) (file (triangle (three nan infinite beyond) origin origin (three one none none) ∷ (triangle origin (three none one none) origin origin ∷ [])))
+    ∷ reads (pos 0)
+    (file (triangle (three nan infinite beyond) origin origin (three one none none) ∷ (triangle origin (three none one none) origin origin ∷ [])))
     18 2
     (zeros 6 ++ (pos 1 ∷ (zeros 3 ++ (pos 1 ∷ zeros 7))))
     -- 14: e from -20 to 20

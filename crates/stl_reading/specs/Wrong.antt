@@ -15,7 +15,8 @@ use Rattle.stl_reading.specs.declared.vertices.Vertex.{Vertex}
 use Rattle.stl_reading.specs.declared.vertices.Vertex.the-variants.{Finite, NotFinite}
 use Rattle.stl_reading.specs.declared.vertices.Fault.{Fault}
 use Rattle.stl_reading.specs.declared.vertices.Fault.the-variants.{Clear}
-use Rattle.stl_reading.specs.File.{countOf, rightLength, solid, verticesAt, placeAt, nearAt, faultOf, faultAt, orElse, firstFault, vertexNumbers, numbersOf}
+use Rattle.stl_reading.specs.File.{countOf, rightLength, solid, verticesAt, placeAt, nearAt, faultOf, faultAt, orElse, firstFault}
+use Rattle.stl_reading.specs.File.{vertexNumbers, numbersOf}
 use Rattle.stl_reading.specs.Call.{Outcome, faultIn, isOnAxis, isTooFar, refused}
 use Rattle.stl_reading.specs.Examples.{none, half, one, nan, most, three, triangle, origin, file, fileWith, single, lent}
 

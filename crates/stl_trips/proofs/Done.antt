@@ -1,8 +1,8 @@
 -- What write_stl wrote: it reads back, its triangles turn one way, and its quads are document 01's. Assumes nothing.
-use mathlib.Core.Path.{_≡_, refl, sym, ap, subst, _∙_}
+use mathlib.Core.Path.{_≡_, refl, sym, ap, _∙_}
 use mathlib.Core.Bool.{Bool, true, false}
-use mathlib.Core.List.{List, [], _∷_, map}
-use Prim.Native.Nat.{ℕ, suc, _+_, _-_, _*_, _/_, _%_, _^_, _≤_, _<_}
+use mathlib.Core.List.{List, [], _∷_}
+use Prim.Native.Nat.{ℕ, suc, _+_, _-_, _*_, _/_, _^_, _≤_, _<_}
 use native.Mathlib.Decide.{decLe}
 use native.Mathlib.Omega.{arith}
 use lib.IntN.{ℤ}
@@ -11,27 +11,26 @@ use lib.Pow.{pow-add, pow-mono}
 use Rattle.rules.specs.declared.Point.{Point}
 use Rattle.rules.specs.declared.Place.{Place}
 use Rattle.rules.specs.Lists.{count, keep, each, All}
-use Rattle.rules.specs.Lattice.{Set, isIn, cellNumber, pointCount, points, placesAt, places}
+use Rattle.rules.specs.Lattice.{Set, isIn, cellNumber, points, placesAt, places}
 use Rattle.rules.specs.Grid.{marks, inside}
-use Rattle.rules.specs.Quads.{quad, quadCells, quads}
+use Rattle.rules.specs.Quads.{quadCells, quads}
 use Rattle.rules.proofs.Lists.{all-map, all-weaken, all-kept, count-length, each-map}
 use Rattle.rules.proofs.Numbers.{points-length}
 use Rattle.lattice.specs.declared.level.Level.{Level}
 use Rattle.lattice.specs.Cells.{Cell}
 use Rattle.lattice.specs.Levels.{numberOf, cellsOf, sideOf}
 use Rattle.lattice.proofs.LevelFacts.{cells-most, side-whole, count-is, count-most}
-use Rattle.refusals.specs.Columns.{levelAt}
 use Rattle.surfacing.specs.Listing.{quadCount}
 use Rattle.surfacing.proofs.Exist.{quad-cells}
 use Rattle.stl_reading.specs.Call.{readCall}
 use Rattle.stl_records.specs.Records.{Placed, centreOf}
-use Rattle.stl_records.specs.File.{Facing, facing, facings, fileOf}
+use Rattle.stl_records.specs.File.{Facing, facing, facings}
 use Rattle.stl_writing.specs.Call.{writeCall}
 use Rattle.stl_writing.proofs.Corners.{side-wide, cell-placed}
-use Rattle.stl_writing.proofs.Done.{Written, write-done}
+use Rattle.stl_writing.proofs.Done.{write-done}
 use Rattle.stl_writing.proofs.Files.{facings-count}
-use Rattle.stl_trips.specs.Facets.{facets, InLattice}
-use Rattle.stl_trips.specs.Turning.{Corner, isGoing, goingsIn, goings, facetGoings}
+use Rattle.stl_trips.specs.Facets.{InLattice}
+use Rattle.stl_trips.specs.Turning.{Corner, isGoing, goingsIn, goings}
 use Rattle.stl_trips.proofs.Trip.{readQuads, trip, file-goings}
 use Rattle.stl_trips.proofs.OneWay.{facets-one-way}
 

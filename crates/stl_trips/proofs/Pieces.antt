@@ -1,17 +1,17 @@
 -- A file of quads is a file of triangles; where the words of a vertex stand in it. Assumes nothing.
 use mathlib.Core.Path.{_≡_, refl, sym, ap, _∙_}
-use mathlib.Core.List.{List, [], _∷_, _++_, append-assoc, append-nil}
+use mathlib.Core.List.{List, [], _∷_, _++_, append-assoc}
 use Prim.Native.Nat.{ℕ, _+_, _*_, _<_}
 use native.Mathlib.Omega.{arith}
 use lib.IntN.{ℤ}
 use lib.ListN.{length, replicate, length-append}
-use Rattle.rules.specs.Lists.{each, All}
+use Rattle.rules.specs.Lists.{each}
 use Rattle.octets.specs.Octets.{wordAt, word}
 use Rattle.octets.proofs.Words.{word-length, word-reads}
 use Rattle.stl_records.specs.declared.Vertex.{Vertex}
 use Rattle.stl_records.specs.Records.{cornerOf, normalOf, triangleBytes, pairBytes}
 use Rattle.stl_records.specs.File.{Facing, cellAt, quadBytes, header, fileOf}
-use Rattle.stl_trips.specs.Facets.{Facet, facets, facetBytes, InLattice}
+use Rattle.stl_trips.specs.Facets.{facets, facetBytes}
 
 -- ---- three words one behind another
 module _ (xs zs : List ℕ) (at a b c : ℕ) (long : length xs ≡ at) where

@@ -1,22 +1,20 @@
 -- What the vertices and triangles of a written file read back as, and the sides of its triangles. Assumes nothing.
 use mathlib.Core.Path.{_≡_, refl, sym, ap, subst, _∙_}
-use mathlib.Core.Bool.{Bool, true}
 use mathlib.Core.List.{List, [], _∷_, _++_, append-assoc}
-use Prim.Native.Nat.{ℕ, zero, suc, _+_, _*_, _/_, _≤_, _<_}
+use Prim.Native.Nat.{ℕ, suc, _+_, _*_, _≤_}
 use native.Mathlib.Omega.{arith}
 use lib.Ieee.{toBits, binary32}
-use lib.IntN.{ℤ, pos}
+use lib.IntN.{ℤ}
 use lib.ListN.{length, length-append}
 use Rattle.rules.specs.declared.Point.{Point}
 use Rattle.rules.specs.Lists.{each, upto, All}
 use Rattle.rules.proofs.Bits.{both}
-use Rattle.octets.specs.Octets.{wordAt, word}
+use Rattle.octets.specs.Octets.{wordAt}
 use Rattle.rounding.specs.Pattern.{roundTimes, isNear}
 use Rattle.rounding.specs.Scales.{exponentOf}
 use Rattle.rounding.proofs.Near.{near-finite}
 use Rattle.coordinates.specs.Coordinates.{coordOf}
 use Rattle.coordinates.proofs.Back.{ReadBack, coord-word, read-back}
-use Rattle.stl_reading.specs.declared.vertices.Fault.{Fault}
 use Rattle.stl_reading.specs.declared.vertices.Fault.the-variants.{Clear}
 use Rattle.stl_reading.specs.File.{verticesAt, faultAt, orElse, triangleFault, vertexNumbers, triangleNumbers}
 use Rattle.stl_reading.proofs.Told.{fault-clear}

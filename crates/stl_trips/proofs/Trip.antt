@@ -2,7 +2,7 @@
 -- Assumes nothing.
 use mathlib.Core.Path.{_≡_, refl, sym, ap, subst, _∙_}
 use mathlib.Core.Bool.{Bool, true, false}
-use mathlib.Core.List.{List, [], _∷_, _++_}
+use mathlib.Core.List.{List, _++_}
 use Prim.Native.Nat.{ℕ, zero, suc, _+_, _*_, _≤_, _<_}
 use native.Mathlib.Omega.{arith}
 use borrow.Author.Tests.{le-leb, eq-eqb}
@@ -16,7 +16,6 @@ use Rattle.octets.specs.Octets.{wordAt}
 use Rattle.rounding.specs.Pattern.{roundTimes, isNear}
 use Rattle.rounding.specs.Scales.{badScale, scaleAt, exponentOf}
 use Rattle.rounding.proofs.Scaled.{scale-back}
-use Rattle.stl_reading.specs.declared.vertices.Fault.{Fault}
 use Rattle.stl_reading.specs.declared.vertices.Fault.the-variants.{Clear}
 use Rattle.stl_reading.specs.File.{countOf, rightLength, verticesAt, orElse, triangleFault, firstFault, numbersOf}
 use Rattle.stl_reading.specs.Call.{Outcome, faultIn, readDone, readCall}

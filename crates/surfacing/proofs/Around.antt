@@ -98,6 +98,7 @@ parts-most n c h k =
     (omega arith, omega arith)
 
 -- the marks of a grid's byte are on inner edges
-pub marks-inner-at : (n : ℕ) (g : List ℕ) (p : ℕ) (q : Point) → pointCount n ≤ length g → isGrid n g ≡ true → At n p q → p < pointCount n → MarksInner n (getD g p 0) q
+pub marks-inner-at : (n : ℕ) (g : List ℕ) (p : ℕ) (q : Point) → pointCount n ≤ length g → isGrid n g ≡ true → At n p q → p < pointCount n →
+    MarksInner n (getD g p 0) q
 marks-inner-at n g p q long grid a h b e =
     marks-inner n g b q (sym (grid-marks n g long grid b q (at-grid n p q a h)) ∙ ap (λ (i : ℕ). has b (getD g i 0)) (a .is) ∙ e)

@@ -4,6 +4,7 @@ use mathlib.Core.Bool.{Bool, true, false}
 use mathlib.Core.List.{List, [], _∷_}
 use Prim.Native.Nat.{ℕ, suc, _*_, _≤_, _<_}
 use native.Mathlib.Omega.{arith}
+use Rattle.rules.specs.declared.Axis.{Axis}
 use Rattle.rules.specs.declared.Point.{Point}
 use Rattle.rules.specs.declared.Place.{Place}
 use Rattle.rules.specs.Lists.{All, keep}
@@ -17,14 +18,23 @@ use Rattle.lattice.proofs.PointSteps.{down-cell}
 use Rattle.surfacing.proofs.Around.{inner→, cell-below, cube-most}
 
 cells-exist : (n : ℕ) (s : Point → Bool) (e : Place) → Cell n (e .at) → All (Cell n) (quadCells s e)
-cells-exist n s e h =
-    let b = next (e .axis) in
-    let c = next b in
-    go (s (e .at)) (down-cell n b (down c (e .at)) (down-cell n c (e .at) h)) (down-cell n c (e .at) h) (down-cell n b (e .at) h)
+cells-exist n s e h = go (s (e .at))
   where
-    go : (t : Bool) → Cell n (down (next (e .axis)) (down (next (next (e .axis))) (e .at))) → Cell n (down (next (next (e .axis))) (e .at)) → Cell n (down (next (e .axis)) (e .at)) → All (Cell n) (quadCells (λ q. t) e)
-    go true x y z = (x, (y, (h, (z, tt))))
-    go false x y z = (x, (z, (h, (y, tt))))
+    b : Axis
+    b = next (e .axis)
+
+    before-b : Cell n (down b (e .at))
+    before-b = down-cell n b (e .at) h
+
+    before-c : Cell n (down (next b) (e .at))
+    before-c = down-cell n (next b) (e .at) h
+
+    before-both : Cell n (down b (down (next b) (e .at)))
+    before-both = down-cell n b (down (next b) (e .at)) before-c
+
+    go : (t : Bool) → All (Cell n) (quadCells (λ q. t) e)
+    go true = (before-both, (before-c, (h, (before-b, tt))))
+    go false = (before-both, (before-b, (h, (before-c, tt))))
 
 -- the four cells of a marked edge of a grid are cells of the grid
 pub quad-cells : (n : ℕ) (g : List ℕ) (s : Point → Bool) (e : Place) → isIn (marks n g) e ≡ true → All (Cell n) (quadCells s e)

@@ -3,13 +3,12 @@ use mathlib.Core.Path.{_≡_, refl, sym, ap, subst, _∙_}
 use mathlib.Core.Bool.{Bool, true, false}
 use mathlib.Core.List.{List, [], _∷_, _++_, map}
 use Prim.Native.Nat.{ℕ, suc}
-use Rattle.rules.specs.declared.Axis.{Axis}
 use Rattle.rules.specs.declared.Point.{Point}
 use Rattle.rules.specs.declared.Place.{Place}
 use Rattle.rules.specs.Lists.{sumOf, keep, each, All}
-use Rattle.rules.specs.Lattice.{down, cellNumber, places, Set, isIn}
+use Rattle.rules.specs.Lattice.{places, Set, isIn}
 use Rattle.rules.specs.Grid.{value}
-use Rattle.rules.specs.Quads.{next, quad, quads}
+use Rattle.rules.specs.Quads.{quad, quads}
 use Rattle.rules.proofs.Lists.{all-weaken, all-map, all-kept}
 use Rattle.rules.proofs.Sums.{sum-map, sum-keep}
 use Rattle.surfacing.specs.Sides.{Four, fours, four}

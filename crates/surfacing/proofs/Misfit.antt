@@ -104,7 +104,8 @@ module _ (n : ℕ) (g : List ℕ) where
       fit← n (marks n g) _ (signs-signed n (marks n g) (sign-consistent n (marks n g) (λ a p h. even-all n (marks n g) (marks-inner n g) .0 e a p)) r)
 
   -- signs that fit have nothing inside on the outer skin
-  pub skin-outside : isGrid n g ≡ true → (s : Point → Bool) → signsFit n (marks n g) s ≡ true → (a : Axis) (p : Point) → OfGrid n p → (coord a p ≡ 0) ⊎ (coord a p ≡ n) → s p ≡ false
+  pub skin-outside : isGrid n g ≡ true → (s : Point → Bool) → signsFit n (marks n g) s ≡ true → (a : Axis) (p : Point) → OfGrid n p →
+      (coord a p ≡ 0) ⊎ (coord a p ≡ n) → s p ≡ false
   skin-outside grid s e a p h o =
       let k = fit→ n (marks n g) s e in
       sign-unique n (marks n g) s k p h ∙ grid-outer n g grid (grid-signs n g grid .0 (s, k)) a p o

@@ -31,8 +31,10 @@ use Rattle.surfacing.specs.Sides.{Four, fours, Step, sides, allSides, is
 use Rattle.surfacing.proofs.Around.{Inside, inner→}
 use Rattle.surfacing.proofs.Quads.{quads-length}
 use Rattle.surfacing.proofs.Fours.{quadOf, quads-sum, quads-all}
-use Rattle.surfacing.proofs.Crossed.{Between, upward, is, first-edge, second-edge, third-edge, fourth-edge, ups, downs, sides-join}
-use Rattle.surfacing.proofs.Round.{under, value-plus, share, round-face, corners, last-corner, at-most-one, some-once, gather, four-edges, two-or-four, sum-four}
+use Rattle.surfacing.proofs.Crossed.{Between, upward, first-edge, second-edge, third-edge, fourth-edge}
+use Rattle.surfacing.proofs.Stepped.{is, ups, downs, sides-join}
+use Rattle.surfacing.proofs.Round.{under, value-plus, share, round-face, corners, last-corner, at-most-one, some-once, gather}
+use Rattle.surfacing.proofs.Round.{four-edges, two-or-four, sum-four}
 
 -- ---- the quads of marks on inner edges, with signs that differ across an edge exactly when it is marked
 module _ (n : ℕ) (E : Set) (s : Point → Bool) (marked : (a : Axis) (p : Point) → E a p ≡ true → inner n a p ≡ true) (k : Consistent n E s) where

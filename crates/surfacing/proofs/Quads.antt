@@ -34,7 +34,8 @@ module _ {A B : Type 0} where
   each-keep f w [] = refl
   each-keep f w (x ∷ l) = go (w x) (each-keep f w l)
     where
-      go : (c : Bool) → each f (keep w l) ≡ each (λ y. cond (w y) (f y) []) l → each f (cond c (x ∷ keep w l) (keep w l)) ≡ cond c (f x) [] ++ each (λ y. cond (w y) (f y) []) l
+      go : (c : Bool) → each f (keep w l) ≡ each (λ y. cond (w y) (f y) []) l →
+          each f (cond c (x ∷ keep w l) (keep w l)) ≡ cond c (f x) [] ++ each (λ y. cond (w y) (f y) []) l
       go true e = ap (λ (r : List B). f x ++ r) e
       go false e = e
 
@@ -43,7 +44,8 @@ module _ {A B : Type 0} where
   length-kept f w k h [] = omega arith
   length-kept f w k h (x ∷ l) = go (w x) (length-kept f w k h l)
     where
-      go : (c : Bool) → length (each f (keep w l)) ≡ k * count w l → length (each f (cond c (x ∷ keep w l) (keep w l))) ≡ k * cond c (suc (count w l)) (count w l)
+      go : (c : Bool) → length (each f (keep w l)) ≡ k * count w l →
+          length (each f (cond c (x ∷ keep w l) (keep w l))) ≡ k * cond c (suc (count w l)) (count w l)
       go true e = let a = length-append (f x) (each f (keep w l)) in let m = mul-suc k (count w l) in let g = h x in omega arith
       go false e = e
 
@@ -176,7 +178,9 @@ pub three-written : (l : List ℕ) (i : ℕ) (x y z : List ℕ) {j k h : ℕ} {m
 three-written l i x y z ex ey ez = (
   simp length-append (omega arith),
   ez .1
-      ∙ ap₂ (λ (d : List ℕ) (t : ℕ). sets d t z) (ey .1 ∙ ap₂ (λ (d : List ℕ) (t : ℕ). sets d t y) (ex .1) (ex .0)) (ey .0 ∙ ap (λ (t : ℕ). t + length y) (ex .0))
+      ∙ ap₂ (λ (d : List ℕ) (t : ℕ). sets d t z)
+      (ey .1 ∙ ap₂ (λ (d : List ℕ) (t : ℕ). sets d t y) (ex .1) (ex .0))
+      (ey .0 ∙ ap (λ (t : ℕ). t + length y) (ex .0))
       ∙ ap (λ (d : List ℕ). sets d (i + length x + length y) z) (sets-append l i x y)
       ∙ ap (λ (t : ℕ). sets (sets l i (x ++ y)) t z) (let a = length-append x y in let e : i + length x + length y ≡ i + length (x ++ y) = omega arith in e)
       ∙ sets-append l i (x ++ y) z

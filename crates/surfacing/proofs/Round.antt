@@ -19,7 +19,8 @@ use Rattle.rules.proofs.Cuts.{samePoint→}
 use Rattle.rules.proofs.Rims.{no-loop}
 use Rattle.lattice.specs.Cells.{Cell}
 use Rattle.surfacing.specs.Sides.{Step}
-use Rattle.surfacing.proofs.Crossed.{is, first-edge, second-edge, third-edge, fourth-edge}
+use Rattle.surfacing.proofs.Crossed.{first-edge, second-edge, third-edge, fourth-edge}
+use Rattle.surfacing.proofs.Stepped.{is}
 
 -- ---- numbers
 nothing : (b : Bool) → value b 0 ≡ 0

@@ -10,7 +10,7 @@ use Rattle.triangles.specs.declared.Vector.{Vector}
 use Rattle.triangles.specs.declared.Span.{Span}
 use Rattle.triangles.specs.declared.Triangle.{Triangle}
 use Rattle.triangles.specs.Vectors.{Each, Size, OnLattice, Terms, axisMost, dotMost, vector, along, dot}
-use Rattle.triangles.specs.Spans.{lesser, greater, spanAt, spanWith, before, apart}
+use Rattle.triangles.specs.Spans.{lesser, greater, spanAt, spanWith, apart}
 use Rattle.triangles.specs.Meets.{triangleSpan, edgeSpan, separates}
 use Rattle.triangles.specs.Shared.{times}
 use Rattle.triangles.specs.Keeping.{keptOf, parts}

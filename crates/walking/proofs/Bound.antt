@@ -10,9 +10,9 @@ use Rattle.rules.specs.declared.Point.{Point}
 use Rattle.rules.specs.Lattice.{pointCount}
 use Rattle.lattice.specs.Cells.{Cell}
 use Rattle.walking.specs.Walks.{oddIn, Fine, seenB, Walked, stepOf}
-use Rattle.walking.specs.Bound.{darkCells, Steps, stay, step, startOf, Whole, Walks, none, more}
+use Rattle.walking.specs.Bound.{unseenCells, Steps, stay, step, startOf, Whole, Walks, none, more}
 use Rattle.walking.proofs.Bytes.{odd-face, odd-inside}
-use Rattle.walking.proofs.Dark.{dark-most, dark-same, dark-enter}
+use Rattle.walking.proofs.Unseen.{unseen-most, unseen-same, unseen-enter}
 use Rattle.walking.proofs.Invariant.{Live, left}
 use Rattle.walking.proofs.Steps.{start-live, step-live}
 
@@ -22,7 +22,7 @@ module _ (n : ℕ) (w₀ : List ℕ) (seed : Point) (size : pointCount n ≤ len
       (suc (left n (stepOf n (oddIn n w₀) s)) ≡ left n s)
   step-left s h o =
       let k = step-live n (oddIn n w₀) w₀ seed (odd-inside n w₀) size (odd-face n w₀ fine) s (h .on o) in
-      (k .0, k .1 ∙ sym (ap (λ (x : Bool). cond x (suc (s .walk .depth + 2 * darkCells n (s .work))) (2 * darkCells n (s .work))) o))
+      (k .0, k .1 ∙ sym (ap (λ (x : Bool). cond x (suc (s .walk .depth + 2 * unseenCells n (s .work))) (2 * unseenCells n (s .work))) o))
 
   steps-left : {s t : Walked} {k : ℕ} → Steps n (oddIn n w₀) s k t → Live n (oddIn n w₀) w₀ seed s → k + left n t ≡ left n s
   steps-left {s} stay h = omega arith
@@ -59,24 +59,24 @@ walk-ends n w seed cell unseen fine long =
     (t .0, t .1 .work, record { seed = seed; cell = cell; unseen = unseen; fine = fine; long = long; last = t .1; steps = t .2; off = t .3; work = refl })
 
 -- it takes one step less than twice the cells that it sees
-pub walk-steps : (n : ℕ) (w : List ℕ) (k : ℕ) (u : List ℕ) → Whole n w k u → k + 1 + 2 * darkCells n u ≡ 2 * darkCells n w
+pub walk-steps : (n : ℕ) (w : List ℕ) (k : ℕ) (u : List ℕ) → Whole n w k u → k + 1 + 2 * unseenCells n u ≡ 2 * unseenCells n w
 walk-steps n w k u h =
     let e = steps-left n w (h .seed) (h .long) (h .fine) (h .steps)
     (start-live n (oddIn n w) w (h .seed) (odd-inside n w) (h .long) (odd-face n w (h .fine)) (h .cell) (h .unseen)) in
-    let d = dark-enter n (h .seed) 0 (let z : 0 < 8 = omega arith in z) w (h .long) (h .cell) (h .unseen) in
-    let o : left n (h .last) ≡ 2 * darkCells n (h .last .work) = ap
-    (λ (x : Bool). cond x (suc (h .last .walk .depth + 2 * darkCells n (h .last .work))) (2 * darkCells n (h .last .work))) (h .off) in
-    let q : darkCells n (h .last .work) ≡ darkCells n u = ap (darkCells n) (h .work) in
+    let d = unseen-enter n (h .seed) 0 (let z : 0 < 8 = omega arith in z) w (h .long) (h .cell) (h .unseen) in
+    let o : left n (h .last) ≡ 2 * unseenCells n (h .last .work) = ap
+    (λ (x : Bool). cond x (suc (h .last .walk .depth + 2 * unseenCells n (h .last .work))) (2 * unseenCells n (h .last .work))) (h .off) in
+    let q : unseenCells n (h .last .work) ≡ unseenCells n u = ap (unseenCells n) (h .work) in
     omega arith
 
-walks-left : (n : ℕ) {w x : List ℕ} {k : ℕ} → Walks n w k x → k ≤ 2 * darkCells n w
+walks-left : (n : ℕ) {w x : List ℕ} {k : ℕ} → Walks n w k x → k ≤ 2 * unseenCells n w
 walks-left n none = omega arith
 walks-left n (more {w = w} {u = u} {v = v} h s r) =
     let a = walk-steps n w _ u h in
     let b = walks-left n r in
-    let c = dark-same n u v s (n * n * n) (omega arith) in
+    let c = unseen-same n u v s (n * n * n) (omega arith) in
     omega arith
 
 -- all walks together take at most two steps for each cell of the grid
 pub walks-bound : (n : ℕ) {w x : List ℕ} {k : ℕ} → Walks n w k x → k ≤ 2 * (n * n * n)
-walks-bound n {w} h = let a = walks-left n h in let b = dark-most n w (n * n * n) in omega arith
+walks-bound n {w} h = let a = walks-left n h in let b = unseen-most n w (n * n * n) in omega arith

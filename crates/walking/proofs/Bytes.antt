@@ -20,7 +20,7 @@ use Rattle.lattice.specs.Byte.{above, high, odd, seen, wayBack, entered}
 use Rattle.lattice.specs.Cells.{aside}
 use Rattle.lattice.proofs.Laws.{num-below}
 use Rattle.lattice.proofs.Parts.{packed-low, packed-has, packed-flag, packed-high, above-flag}
-use Rattle.walking.specs.Walks.{oddIn, Fine, seenB, lightOf, wayOf}
+use Rattle.walking.specs.Walks.{oddIn, Fine, seenB, seeOf, wayOf}
 
 -- 0 before 1: not the one, and the other
 pub bit-less : (o s : Bool) → ltb (value s 1) (value o 1) ≡ o && not s
@@ -72,30 +72,30 @@ module _ (n : ℕ) (d : Point) (v : ℕ) (small : v < 8) (w : List ℕ) (long : 
   little : high (getD w (pointNumber n d) 0) < 8
   little = omega arith
 
-  pub light-length : length (lightOf n d v w) ≡ length w
-  unfolding lightOf
-  light-length = length-set w (pointNumber n d) (entered v (getD w (pointNumber n d) 0))
+  pub see-length : length (seeOf n d v w) ≡ length w
+  unfolding seeOf
+  see-length = length-set w (pointNumber n d) (entered v (getD w (pointNumber n d) 0))
 
-  pub light-same : getD (lightOf n d v w) (pointNumber n d) 0 ≡ entered v (getD w (pointNumber n d) 0)
-  unfolding lightOf
-  light-same = let l = num-below n d b in getD-set-same w (pointNumber n d) (entered v (getD w (pointNumber n d) 0)) 0 (omega arith)
+  pub see-same : getD (seeOf n d v w) (pointNumber n d) 0 ≡ entered v (getD w (pointNumber n d) 0)
+  unfolding seeOf
+  see-same = let l = num-below n d b in getD-set-same w (pointNumber n d) (entered v (getD w (pointNumber n d) 0)) 0 (omega arith)
 
-  pub light-other : (i : ℕ) → (i ≡ pointNumber n d → ⊥) → getD (lightOf n d v w) i 0 ≡ getD w i 0
-  unfolding lightOf
-  light-other i h = getD-set-other w (pointNumber n d) i (entered v (getD w (pointNumber n d) 0)) 0 h
+  pub see-other : (i : ℕ) → (i ≡ pointNumber n d → ⊥) → getD (seeOf n d v w) i 0 ≡ getD w i 0
+  unfolding seeOf
+  see-other i h = getD-set-other w (pointNumber n d) i (entered v (getD w (pointNumber n d) 0)) 0 h
 
-  pub light-past : (i : ℕ) → pointCount n ≤ i → getD (lightOf n d v w) i 0 ≡ getD w i 0
-  light-past i h = light-other i (λ e. let l = num-below n d b in let z : ⊥ = omega arith in z)
+  pub see-past : (i : ℕ) → pointCount n ≤ i → getD (seeOf n d v w) i 0 ≡ getD w i 0
+  see-past i h = see-other i (λ e. let l = num-below n d b in let z : ⊥ = omega arith in z)
 
-  pub light-seen : seenB n (lightOf n d v w) d ≡ true
+  pub see-seen : seenB n (seeOf n d v w) d ≡ true
   unfolding seenB
-  light-seen = ap seen light-same ∙ packed-flag v 1 _ small (omega arith) little
+  see-seen = ap seen see-same ∙ packed-flag v 1 _ small (omega arith) little
 
-  pub light-way : wayOf n (lightOf n d v w) d ≡ v
-  light-way = ap wayBack light-same ∙ packed-low v 1 _ small (omega arith) little
+  pub see-way : wayOf n (seeOf n d v w) d ≡ v
+  see-way = ap wayBack see-same ∙ packed-low v 1 _ small (omega arith) little
 
-  pub light-low : (a : Axis) → stored n (lightOf n d v w) a d ≡ has a v
-  light-low a = ap (has a) light-same ∙ packed-has v 1 _ small (omega arith) little a
+  pub see-low : (a : Axis) → stored n (seeOf n d v w) a d ≡ has a v
+  see-low a = ap (has a) see-same ∙ packed-has v 1 _ small (omega arith) little a
 
   -- at one point or another
   at-or : (P : Point → Type 0) (q : Point) → OfGrid n q → P d → ((pointNumber n q ≡ pointNumber n d → ⊥) → P q) → P q
@@ -105,12 +105,12 @@ module _ (n : ℕ) (d : Point) (v : ℕ) (small : v < 8) (w : List ℕ) (long : 
       go (yes e) = subst P (sym (number-inj n q d h b e)) here
       go (no e) = there e
 
-  pub light-odd : (a : Axis) (q : Point) → OfGrid n q → aside n (lightOf n d v w) a q ≡ aside n w a q
-  light-odd a q h = at-or (λ p. aside n (lightOf n d v w) a p ≡ aside n w a p) q h
-      (ap (odd a) light-same ∙ ap (has a) (packed-high v 1 _ small (omega arith) little))
-      (λ e. ap (odd a) (light-other (pointNumber n q) e))
+  pub see-odd : (a : Axis) (q : Point) → OfGrid n q → aside n (seeOf n d v w) a q ≡ aside n w a q
+  see-odd a q h = at-or (λ p. aside n (seeOf n d v w) a p ≡ aside n w a p) q h
+      (ap (odd a) see-same ∙ ap (has a) (packed-high v 1 _ small (omega arith) little))
+      (λ e. ap (odd a) (see-other (pointNumber n q) e))
 
   -- what has been seen stays seen
-  pub light-grows : (q : Point) → OfGrid n q → seenB n w q ≡ true → seenB n (lightOf n d v w) q ≡ true
-  light-grows q h e = at-or (λ p. seenB n (lightOf n d v w) p ≡ true) q h light-seen
-      (λ k. seen-same n w (lightOf n d v w) q (light-other (pointNumber n q) k) ∙ e)
+  pub see-grows : (q : Point) → OfGrid n q → seenB n w q ≡ true → seenB n (seeOf n d v w) q ≡ true
+  see-grows q h e = at-or (λ p. seenB n (seeOf n d v w) p ≡ true) q h see-seen
+      (λ k. seen-same n w (seeOf n d v w) q (see-other (pointNumber n q) k) ∙ e)

@@ -17,13 +17,13 @@ use Rattle.rules.specs.Grid.{has}
 use Rattle.rules.specs.Rims.{joinBox}
 use Rattle.rules.proofs.Bits.{and-left, and-right, or-no-left, or-no-right}
 use Rattle.rules.proofs.RimBox.{sub-trans, sub-join, join-left, join-right}
-use Rattle.walking.specs.Walks.{seenB, lightOf, oddAt, acrossOf, opposite, backOf, openB, cellBox, Walked, pushOf, over, New}
-use Rattle.walking.specs.Bound.{darkCells}
+use Rattle.walking.specs.Walks.{seenB, seeOf, oddAt, acrossOf, opposite, backOf, openB, cellBox, Walked, pushOf, over, New}
+use Rattle.walking.specs.Bound.{unseenCells}
 use Rattle.lattice.proofs.PointSteps.{cell-grid}
 use Rattle.walking.proofs.Faces.{Crossed, crossed}
-use Rattle.walking.proofs.Bytes.{seen-same, light-length, light-past, light-seen, light-way, light-odd}
-use Rattle.walking.proofs.Dark.{dark-enter}
-use Rattle.walking.proofs.Trail.{not-same, trailOf, Trail, trail-new, trail-lit, byte-on, new-on, trail-on, new-was, each-on, done-on}
+use Rattle.walking.proofs.Bytes.{seen-same, see-length, see-past, see-seen, see-way, see-odd}
+use Rattle.walking.proofs.Unseen.{unseen-enter}
+use Rattle.walking.proofs.Trail.{not-same, trailOf, Trail, trail-new, trail-seen, byte-on, new-on, trail-on, new-was, each-on, done-on}
 use Rattle.walking.proofs.Invariant.{Settled, Inv, left}
 
 module _ (n : ℕ) (F : Set) (w₀ : List ℕ) (seed : Point) (inside : (a : Axis) (p : Point) → F a p ≡ true → faceIn (whole n) a p ≡ true)
@@ -39,7 +39,7 @@ module _ (n : ℕ) (F : Set) (w₀ : List ℕ) (seed : Point) (inside : (a : Axi
     d = acrossOf f c
 
     abbrev u : List ℕ
-    u = lightOf n d f w
+    u = seeOf n d f w
 
     old : New n F w₀ w seed c
     old = trail-new n F w₀ seed w (s .walk .depth) c (h .trail)
@@ -71,15 +71,15 @@ module _ (n : ℕ) (F : Set) (w₀ : List ℕ) (seed : Point) (inside : (a : Axi
         go (inr k) = absurd (true≢false (sym (k .lit) ∙ unseen))
 
     new : New n F w₀ u seed d
-    new = record { cell = cross .cell; dark = before; lit = light-seen n _ f small w size′ in-grid; route = over (old .route) f l odd }
+    new = record { cell = cross .cell; dark = before; lit = see-seen n _ f small w size′ in-grid; route = over (old .route) f l odd }
 
     kept : (trailOf n u (s .walk .depth) c ≡ trailOf n w (s .walk .depth) c)
         × Trail n F w₀ seed u (s .walk .depth) c
-    kept = trail-on n F w₀ seed w _ f small size′ in-grid (s .walk .depth) c (trail-lit n F w₀ seed w _ unseen (s .walk .depth) c (h .trail)) (h .trail)
+    kept = trail-on n F w₀ seed w _ f small size′ in-grid (s .walk .depth) c (trail-seen n F w₀ seed w _ unseen (s .walk .depth) c (h .trail)) (h .trail)
 
     -- the trail with the cell in front
     back-is : backOf n u d ≡ c
-    back-is = ap (λ (k : ℕ). acrossOf (opposite k) d) (light-way n _ f small w size′ in-grid) ∙ cross .back
+    back-is = ap (λ (k : ℕ). acrossOf (opposite k) d) (see-way n _ f small w size′ in-grid) ∙ cross .back
 
     trail-is : trailOf n u (s .walk .depth + 1) d ≡ d ∷ trailOf n w (s .walk .depth) c
     trail-is =
@@ -91,10 +91,10 @@ module _ (n : ℕ) (F : Set) (w₀ : List ℕ) (seed : Point) (inside : (a : Axi
     trail′ = subst (λ (k : ℕ). Trail n F w₀ seed u k d) (sym (add-one (s .walk .depth))) (
       record {
         new = new;
-        way = subst (λ (k : ℕ). k < 6) (sym (light-way n _ f small w size′ in-grid)) l;
-        odd = ap (λ (k : ℕ). oddAt F (opposite k) d) (light-way n _ f small w size′ in-grid) ∙ ap (λ (e : Place). F (e .axis) (e .at)) (cross .face) ∙ odd;
+        way = subst (λ (k : ℕ). k < 6) (sym (see-way n _ f small w size′ in-grid)) l;
+        odd = ap (λ (k : ℕ). oddAt F (opposite k) d) (see-way n _ f small w size′ in-grid) ∙ ap (λ (e : Place). F (e .axis) (e .at)) (cross .face) ∙ odd;
         once = ap (λ (q : Point). anyOf (samePoint d) (trailOf n u (s .walk .depth) q)) back-is
-            ∙ ap (anyOf (samePoint d)) (kept .0) ∙ trail-lit n F w₀ seed w _ unseen (s .walk .depth) c (h .trail);
+            ∙ ap (anyOf (samePoint d)) (kept .0) ∙ trail-seen n F w₀ seed w _ unseen (s .walk .depth) c (h .trail);
       },
       subst (Trail n F w₀ seed u (s .walk .depth)) (sym back-is) (kept .1),
     )
@@ -104,16 +104,16 @@ module _ (n : ℕ) (F : Set) (w₀ : List ℕ) (seed : Point) (inside : (a : Axi
 
     pub push-inv : Inv n F w₀ seed (pushOf n f s)
     push-inv = record {
-      long = light-length n _ f small w size′ in-grid ∙ h .long;
-      past = λ i k. light-past n _ f small w size′ in-grid i k ∙ h .past i k;
-      odds = λ a p k. light-odd n _ f small w size′ in-grid a p k ∙ h .odds a p k;
+      long = see-length n _ f small w size′ in-grid ∙ h .long;
+      past = λ i k. see-past n _ f small w size′ in-grid i k ∙ h .past i k;
+      odds = λ a p k. see-odd n _ f small w size′ in-grid a p k ∙ h .odds a p k;
       each = λ q b. each-on n F w₀ seed w _ f small size′ in-grid new q b (h .each q b);
       first = new-on n F w₀ seed w _ f small size′ in-grid seed (h .first);
       trail = trail′;
       closed = λ q k t. shut q k (sym (ap (anyOf (samePoint q)) trail-is) ∙ t) (was q k);
       holds = λ q k. held q (was q k);
       least = λ b k. sub-join (s .walk .reach) (cellBox d) b (h .least b (λ q m. k q (new-on n F w₀ seed w _ f small size′ in-grid q m))) (k _ new);
-      room = let e = dark-enter n _ f small w size′ (cross .cell) unseen in let r = h .room in omega arith;
+      room = let e = unseen-enter n _ f small w size′ (cross .cell) unseen in let r = h .room in omega arith;
     }
       where
         shut : (q : Point) → New n F w₀ u seed q → samePoint q d || anyOf (samePoint q) (trailOf n w (s .walk .depth) c) ≡ false →
@@ -130,5 +130,5 @@ module _ (n : ℕ) (F : Set) (w₀ : List ℕ) (seed : Point) (inside : (a : Axi
         held q (inl e) = subst (λ (x : Point). Sub (cellBox x) (joinBox (s .walk .reach) (cellBox d))) (sym e) (join-right (s .walk .reach) _)
         held q (inr m) = sub-trans (cellBox q) (s .walk .reach) _ (h .holds q m) (join-left (s .walk .reach) _)
 
-    pub push-left : suc (left n (pushOf n f s)) ≡ suc (s .walk .depth + 2 * darkCells n w)
-    push-left = let e = dark-enter n _ f small w size′ (cross .cell) unseen in omega arith
+    pub push-left : suc (left n (pushOf n f s)) ≡ suc (s .walk .depth + 2 * unseenCells n w)
+    push-left = let e = unseen-enter n _ f small w size′ (cross .cell) unseen in omega arith

@@ -20,7 +20,7 @@ use Rattle.lattice.proofs.Laws.{face-small}
 use Rattle.rules.proofs.Numbers.{value-most}
 use Rattle.lattice.proofs.PointSteps.{up-down, down-cell}
 use Rattle.rules.proofs.Rims.{down-up}
-use Rattle.walking.specs.Walks.{Inside, crossedOn, acrossOf, opposite}
+use Rattle.walking.specs.Walks.{BetweenCells, crossedOn, acrossOf, opposite}
 
 -- ---- a lower and an upper face on each axis
 at-zero : (c : Point) → record { i = c .i + 0; j = c .j + 0; k = c .k + 0 } ≡ c
@@ -93,10 +93,10 @@ pub record Crossed (n f : ℕ) (c : Point) : Type 0 where
   pub back : acrossOf (opposite f) (acrossOf f c) ≡ c
   pub face : faceOf (opposite f) (acrossOf f c) ≡ faceOf f c
 
-pub crossed : (n f : ℕ) (c : Point) → f < 6 → Cell n c → Inside n f c → Crossed n f c
+pub crossed : (n f : ℕ) (c : Point) → f < 6 → Cell n c → BetweenCells n f c → Crossed n f c
 crossed n f c l k i = go (which f l)
   where
-    lower : (a : Axis) → Inside n (indexOf a) c → Crossed n (indexOf a) c
+    lower : (a : Axis) → BetweenCells n (indexOf a) c → Crossed n (indexOf a) c
     lower a h =
         let b = face-cell n a c (subst (λ (e : Place). faceIn (whole n) (e .axis) (e .at) ≡ true) (face-lower a c) h) in
         let d = across-lower a c in
@@ -108,7 +108,7 @@ crossed n f c l k i = go (which f l)
           face = ap₂ faceOf o d ∙ face-upper a (down a c) ∙ ap (λ (p : Point). record { axis = a; at = p }) u ∙ sym (face-lower a c);
         }
 
-    upper : (a : Axis) → Inside n (indexOf a + 3) c → Crossed n (indexOf a + 3) c
+    upper : (a : Axis) → BetweenCells n (indexOf a + 3) c → Crossed n (indexOf a + 3) c
     upper a h =
         let b = face-cell n a (up a c) (subst (λ (e : Place). faceIn (whole n) (e .axis) (e .at) ≡ true) (face-upper a c) h) in
         let d = across-upper a c in
@@ -120,11 +120,11 @@ crossed n f c l k i = go (which f l)
         }
 
     go : ((a : Axis) × (f ≡ indexOf a)) ⊎ ((a : Axis) × (f ≡ indexOf a + 3)) → Crossed n f c
-    go (inl e) = subst (λ (g : ℕ). Crossed n g c) (sym (e .1)) (lower (e .0) (subst (λ (g : ℕ). Inside n g c) (e .1) i))
-    go (inr e) = subst (λ (g : ℕ). Crossed n g c) (sym (e .1)) (upper (e .0) (subst (λ (g : ℕ). Inside n g c) (e .1) i))
+    go (inl e) = subst (λ (g : ℕ). Crossed n g c) (sym (e .1)) (lower (e .0) (subst (λ (g : ℕ). BetweenCells n g c) (e .1) i))
+    go (inr e) = subst (λ (g : ℕ). Crossed n g c) (sym (e .1)) (upper (e .0) (subst (λ (g : ℕ). BetweenCells n g c) (e .1) i))
 
 -- ---- the cell across, as code adds it up: on one axis after the other
-pub crossed-all : (n f : ℕ) (c : Point) → f < 6 → Inside n f c → crossedOn Z f (crossedOn Y f (crossedOn X f c)) ≡ acrossOf f c
+pub crossed-all : (n f : ℕ) (c : Point) → f < 6 → BetweenCells n f c → crossedOn Z f (crossedOn Y f (crossedOn X f c)) ≡ acrossOf f c
 crossed-all n f c l h = go f l h
   where
     low : (k : ℕ) → 1 ≤ k → k + 0 - 1 ≡ pred k
@@ -137,10 +137,10 @@ crossed-all n f c l h = go f l h
     high : (k : ℕ) → k + 1 - 0 ≡ suc k
     high k = omega arith
 
-    above : (a : Axis) → Inside n (indexOf a) c → 1 ≤ coord a c
+    above : (a : Axis) → BetweenCells n (indexOf a) c → 1 ≤ coord a c
     above a i = face-cell n a c (subst (λ (e : Place). faceIn (whole n) (e .axis) (e .at) ≡ true) (face-lower a c) i) .1
 
-    go : (g : ℕ) → g < 6 → Inside n g c → crossedOn Z g (crossedOn Y g (crossedOn X g c)) ≡ acrossOf g c
+    go : (g : ℕ) → g < 6 → BetweenCells n g c → crossedOn Z g (crossedOn Y g (crossedOn X g c)) ≡ acrossOf g c
     go zero k i = (λ t. record { i = low (c .i) (above X i) t; j = same (c .j) t; k = same (c .k) t }) ∙ sym (across-lower X c)
     go (suc zero) k i = (λ t. record { i = same (c .i) t; j = low (c .j) (above Y i) t; k = same (c .k) t }) ∙ sym (across-lower Y c)
     go (suc (suc zero)) k i = (λ t. record { i = same (c .i) t; j = same (c .j) t; k = low (c .k) (above Z i) t }) ∙ sym (across-lower Z c)
@@ -150,12 +150,12 @@ crossed-all n f c l h = go f l h
     go (suc (suc (suc (suc (suc (suc g)))))) k i = absurd (omega arith)
 
 -- what is taken away is there
-pub crossed-fits : (n f : ℕ) (c : Point) (a : Axis) → Inside n f c → value (eqb f (indexOf a)) 1 ≤ coord a c
+pub crossed-fits : (n f : ℕ) (c : Point) (a : Axis) → BetweenCells n f c → value (eqb f (indexOf a)) 1 ≤ coord a c
 crossed-fits n f c a i = go (eqb f (indexOf a)) refl
   where
     go : (x : Bool) → eqb f (indexOf a) ≡ x → value x 1 ≤ coord a c
     go true q =
-        let j = subst (λ (m : ℕ). Inside n m c) (eqb→ f (indexOf a) q) i in
+        let j = subst (λ (m : ℕ). BetweenCells n m c) (eqb→ f (indexOf a) q) i in
         face-cell n a c (subst (λ (y : Place). faceIn (whole n) (y .axis) (y .at) ≡ true) (face-lower a c) j) .1
     go false q = omega arith
 

@@ -12,14 +12,14 @@ use Rattle.rules.specs.declared.Box.{Box}
 use Rattle.rules.specs.Lattice.{OfGrid, Set, pointNumber, samePoint, pointCount, Sub}
 use Rattle.rules.specs.Grid.{stored}
 use Rattle.lattice.specs.Cells.{aside}
-use Rattle.walking.specs.Walks.{cellBox, Walked, New, Done, Found}
-use Rattle.walking.specs.Bound.{darkCells}
+use Rattle.walking.specs.Walks.{cellBox, Walked, New, AllSeen, Found}
+use Rattle.walking.specs.Bound.{unseenCells}
 use Rattle.walking.proofs.Trail.{trailOf, Trail}
 
 module _ (n : ℕ) (F : Set) (w₀ : List ℕ) (seed : Point) where
   -- a cell that has been left for good
   abbrev pub Settled : List ℕ → Point → Type 0
-  Settled w q = Done n F w q × ((a : Axis) → stored n w a q ≡ F a q)
+  Settled w q = AllSeen n F w q × ((a : Axis) → stored n w a q ≡ F a q)
 
   pub record Inv (s : Walked) : Type 0 where
     pub long : length (s .work) ≡ length w₀
@@ -32,7 +32,7 @@ module _ (n : ℕ) (F : Set) (w₀ : List ℕ) (seed : Point) where
         Settled (s .work) q
     pub holds : (q : Point) → New n F w₀ (s .work) seed q → Sub (cellBox q) (s .walk .reach)
     pub least : (c : Box) → ((q : Point) → New n F w₀ (s .work) seed q → Sub (cellBox q) c) → Sub (s .walk .reach) c
-    pub room : s .walk .depth + 2 * darkCells n (s .work) ≤ 2 * (n * n * n)
+    pub room : s .walk .depth + 2 * unseenCells n (s .work) ≤ 2 * (n * n * n)
 
   -- the walk, going on or ended
   pub record Live (s : Walked) : Type 0 where
@@ -42,4 +42,4 @@ module _ (n : ℕ) (F : Set) (w₀ : List ℕ) (seed : Point) where
 
 -- the steps that are left, and two for each cell that will not be seen
 abbrev pub left : ℕ → Walked → ℕ
-left n s = cond (s .walk .on) (suc (s .walk .depth + 2 * darkCells n (s .work))) (2 * darkCells n (s .work))
+left n s = cond (s .walk .on) (suc (s .walk .depth + 2 * unseenCells n (s .work))) (2 * unseenCells n (s .work))

@@ -16,11 +16,11 @@ use Rattle.rules.proofs.Bits.{both}
 use Rattle.rules.proofs.Cuts.{samePoint→}
 use Rattle.lattice.specs.Byte.{high}
 use Rattle.lattice.specs.Cells.{aside}
-use Rattle.walking.specs.Walks.{seenB, acrossOf, leaveOf, oddAt, backOf, firstOpen, cellBox, Walked, popOf, stopOf, New, Done, Found}
-use Rattle.walking.specs.Bound.{darkCells}
+use Rattle.walking.specs.Walks.{seenB, acrossOf, leaveOf, oddAt, backOf, firstOpen, cellBox, Walked, popOf, stopOf, New, AllSeen, Found}
+use Rattle.walking.specs.Bound.{unseenCells}
 use Rattle.lattice.proofs.PointSteps.{cell-grid}
-use Rattle.walking.proofs.Bytes.{light-length, light-past, light-low, light-odd}
-use Rattle.walking.proofs.Dark.{dark-leave}
+use Rattle.walking.proofs.Bytes.{see-length, see-past, see-low, see-odd}
+use Rattle.walking.proofs.Unseen.{unseen-leave}
 use Rattle.walking.proofs.FirstOpen.{first-none}
 use Rattle.walking.proofs.Trail.{not-same, trailOf, Trail, trail-new, byte-on, new-on, trail-on, new-was, each-on, done-on}
 use Rattle.walking.proofs.Invariant.{Settled, Inv, left}
@@ -54,13 +54,13 @@ module _ (n : ℕ) (F : Set) (w₀ : List ℕ) (seed : Point) (inside : (a : Axi
     at-after = new-on n F w₀ seed w _ _ little size″ here-grid c at
 
     pub leave-long : length u ≡ length w₀
-    leave-long = light-length n _ _ little w size″ here-grid ∙ h .long
+    leave-long = see-length n _ _ little w size″ here-grid ∙ h .long
 
     leave-past : (i : ℕ) → pointCount n ≤ i → getD u i 0 ≡ getD w₀ i 0
-    leave-past i k = light-past n _ _ little w size″ here-grid i k ∙ h .past i k
+    leave-past i k = see-past n _ _ little w size″ here-grid i k ∙ h .past i k
 
     leave-odds : (a : Axis) (p : Point) → OfGrid n p → aside n u a p ≡ aside n w₀ a p
-    leave-odds a p k = light-odd n _ _ little w size″ here-grid a p k ∙ h .odds a p k
+    leave-odds a p k = see-odd n _ _ little w size″ here-grid a p k ∙ h .odds a p k
 
     leave-each : (q : Point) → OfGrid n q → (getD u (pointNumber n q) 0 ≡ getD w₀ (pointNumber n q) 0) ⊎ New n F w₀ u seed q
     leave-each q b = each-on n F w₀ seed w _ _ little size″ here-grid at-after q b (h .each q b)
@@ -86,7 +86,7 @@ module _ (n : ℕ) (F : Set) (w₀ : List ℕ) (seed : Point) (inside : (a : Axi
     leave-here : Settled n F w₀ seed u c
     leave-here = (done-on n F w₀ seed w _ _ little size″ here-grid inside c (at .cell) done, faces)
       where
-        done : Done n F w c
+        done : AllSeen n F w c
         done f l o = go (seenB n w (acrossOf f c)) refl
           where
             go : (x : Bool) → seenB n w (acrossOf f c) ≡ x → seenB n w (acrossOf f c) ≡ true
@@ -95,7 +95,7 @@ module _ (n : ℕ) (F : Set) (w₀ : List ℕ) (seed : Point) (inside : (a : Axi
                 (omega arith) l))
 
         faces : (a : Axis) → stored n u a c ≡ F a c
-        faces a = light-low n _ _ little w size″ here-grid a ∙ h .odds a c here-grid ∙ bits a c here-grid
+        faces a = see-low n _ _ little w size″ here-grid a ∙ h .odds a c here-grid ∙ bits a c here-grid
 
     -- every new cell is settled that is not on the trail behind
     leave-closed : (q : Point) (t : List Point) → New n F w₀ u seed q → anyOf (samePoint q) t ≡ false →
@@ -110,8 +110,8 @@ module _ (n : ℕ) (F : Set) (w₀ : List ℕ) (seed : Point) (inside : (a : Axi
               λ a. ap (has a) (byte-on n F w₀ seed w _ _ little size″ here-grid q (cell-grid n q (k .cell)) (not-same q c y)) ∙ r .1 a,
             )
 
-    leave-dark : darkCells n u ≡ darkCells n w
-    leave-dark = dark-leave n _ _ little w size″ (at .cell) (at .lit)
+    leave-unseen : unseenCells n u ≡ unseenCells n w
+    leave-unseen = unseen-leave n _ _ little w size″ (at .cell) (at .lit)
 
     -- ---- back to the cell before
     pub pop-inv : (k : ℕ) → s .walk .depth ≡ suc k → Inv n F w₀ seed (popOf n s)
@@ -126,7 +126,7 @@ module _ (n : ℕ) (F : Set) (w₀ : List ℕ) (seed : Point) (inside : (a : Axi
           (λ u. h .closed q (leave-was q m) (ap (λ (j : ℕ). anyOf (samePoint q) (trailOf n w j c)) e ∙ u));
       holds = leave-holds;
       least = leave-least;
-      room = let r = h .room in let d = leave-dark in omega arith;
+      room = let r = h .room in let d = leave-unseen in omega arith;
     }
       where
         k-is : s .walk .depth - 1 ≡ k
@@ -142,8 +142,8 @@ module _ (n : ℕ) (F : Set) (w₀ : List ℕ) (seed : Point) (inside : (a : Axi
         trail-is : trailOf n u (s .walk .depth - 1) (backOf n w c) ≡ trailOf n w k (backOf n w c)
         trail-is = ap (λ (j : ℕ). trailOf n u j (backOf n w c)) k-is ∙ rest .0
 
-    pub pop-left : (k : ℕ) → s .walk .depth ≡ suc k → suc (left n (popOf n s)) ≡ suc (s .walk .depth + 2 * darkCells n w)
-    pop-left k e = let d = leave-dark in omega arith
+    pub pop-left : (k : ℕ) → s .walk .depth ≡ suc k → suc (left n (popOf n s)) ≡ suc (s .walk .depth + 2 * unseenCells n w)
+    pop-left k e = let d = leave-unseen in omega arith
 
     -- ---- the end
     pub stop-found : s .walk .depth ≡ 0 → Found n F w₀ u seed (s .walk .reach)
@@ -162,5 +162,5 @@ module _ (n : ℕ) (F : Set) (w₀ : List ℕ) (seed : Point) (inside : (a : Axi
         all : (q : Point) → New n F w₀ u seed q → Settled n F w₀ seed u q
         all q m = leave-closed q [] m refl (λ u. h .closed q (leave-was q m) (ap (λ (j : ℕ). anyOf (samePoint q) (trailOf n w j c)) e ∙ u))
 
-    pub stop-left : s .walk .depth ≡ 0 → suc (left n (stopOf n s)) ≡ suc (s .walk .depth + 2 * darkCells n w)
-    stop-left e = let d = leave-dark in omega arith
+    pub stop-left : s .walk .depth ≡ 0 → suc (left n (stopOf n s)) ≡ suc (s .walk .depth + 2 * unseenCells n w)
+    stop-left e = let d = leave-unseen in omega arith

@@ -15,9 +15,9 @@ use Rattle.rules.specs.Rims.{joinBox}
 use Rattle.rules.proofs.Bits.{and-left}
 use Rattle.rules.proofs.PointOf.{pointOf-number}
 use Rattle.lattice.specs.Cells.{Cell}
-use Rattle.walking.specs.Walks.{oddIn, Fine, seenB, lightOf, wayOf, leaveOf, oddAt, Inside, acrossOf, opposite, backOf, firstOpen, cellBox, Walked}
-use Rattle.walking.specs.Walks.{stepOf}
-use Rattle.walking.specs.Bound.{darkCells}
+use Rattle.walking.specs.Walks.{oddIn, Fine, seenB, seeOf, wayOf, leaveOf, oddAt, BetweenCells, acrossOf, opposite, backOf, firstOpen}
+use Rattle.walking.specs.Walks.{WayBack, cellBox, Walked, withWork, stepOf}
+use Rattle.walking.specs.Bound.{unseenCells}
 use Rattle.walking.specs.declared.Walk.{Walk}
 use Rattle.lattice.proofs.PointSteps.{cell-grid}
 use Rattle.walking.proofs.Faces.{crossed}
@@ -36,27 +36,25 @@ pub first-of : (n : ℕ) (w : List ℕ) (c : Point) (i f : ℕ) → Cell n c →
 first-of n w c i f h e q = q ∙ ap (λ (p : Point). firstOpen n (oddIn n w) w p 6 0) (cell-at n c i h e)
 
 -- an open face lies between two cells
-pub open-inside : (n : ℕ) (w : List ℕ) (c : Point) (f : ℕ) → f ≡ firstOpen n (oddIn n w) w c 6 0 → f < 6 → Inside n f c
+pub open-inside : (n : ℕ) (w : List ℕ) (c : Point) (f : ℕ) → f ≡ firstOpen n (oddIn n w) w c 6 0 → f < 6 → BetweenCells n f c
 open-inside n w c f e l =
     let o = first-is n (oddIn n w) w c 6 0 (omega arith) in
-    subst (λ (g : ℕ). Inside n g c) (sym e) (odd-inside n w _ _
+    subst (λ (g : ℕ). BetweenCells n g c) (sym e) (odd-inside n w _ _
     (and-left (oddAt (oddIn n w) (firstOpen n (oddIn n w) w c 6 0) c) (not (seenB n w (acrossOf (firstOpen n (oddIn n w) w c 6 0) c))) o))
 
-pub across-grid : (n f : ℕ) (c d : Point) → f < 6 → Cell n c → Inside n f c → d ≡ acrossOf f c → OfGrid n d
+pub across-grid : (n f : ℕ) (c d : Point) → f < 6 → Cell n c → BetweenCells n f c → d ≡ acrossOf f c → OfGrid n d
 across-grid n f c d l k i e = subst (OfGrid n) (sym e) (cell-grid n _ (crossed n f c l k i .cell))
 
 module _ (n : ℕ) (F : Set) (s : Walk) (w : List ℕ) (f : ℕ) (e : f ≡ firstOpen n F w (s .cell) 6 0) where
-  pub step-push : (d : Point) (v : List ℕ) (b : Box) → f < 6 → d ≡ acrossOf f (s .cell) → v ≡ lightOf n d f w → b ≡ joinBox (s .reach) (cellBox d) →
-      _≡_ {A = Walked} (record { walk = record { cell = d; depth = s .depth + 1; reach = b; on = true }; work = v })
-      (stepOf n F (record { walk = s; work = w }))
+  pub step-push : (d : Point) (v : List ℕ) (b : Box) → f < 6 → d ≡ acrossOf f (s .cell) → v ≡ seeOf n d f w → b ≡ joinBox (s .reach) (cellBox d) →
+      withWork (record { cell = d; depth = s .depth + 1; reach = b; on = true }) v ≡ stepOf n F (withWork s w)
   unfolding stepOf
   step-push d v b l q r t =
       let o : ltb f 6 ≡ true = lt-ltb f 6 l in
       rw (← e, o, r, t, q)
 
   pub step-stop : (v : List ℕ) → 6 ≤ f → s .depth ≡ 0 → v ≡ leaveOf n (s .cell) w →
-      _≡_ {A = Walked} (record { walk = record { cell = s .cell; depth = 0; reach = s .reach; on = false }; work = v })
-      (stepOf n F (record { walk = s; work = w }))
+      withWork (record { cell = s .cell; depth = 0; reach = s .reach; on = false }) v ≡ stepOf n F (withWork s w)
   unfolding stepOf
   step-stop v l z r =
       let o : ltb f 6 ≡ false = le-ltb f 6 l in
@@ -64,8 +62,7 @@ module _ (n : ℕ) (F : Set) (s : Walk) (w : List ℕ) (f : ℕ) (e : f ≡ firs
       rw (← e, o, y, r)
 
   pub step-pop : (p : Point) (v : List ℕ) → 6 ≤ f → (s .depth ≡ 0 → ⊥) → p ≡ backOf n w (s .cell) → v ≡ leaveOf n (s .cell) w →
-      _≡_ {A = Walked} (record { walk = record { cell = p; depth = s .depth - 1; reach = s .reach; on = true }; work = v })
-      (stepOf n F (record { walk = s; work = w }))
+      withWork (record { cell = p; depth = s .depth - 1; reach = s .reach; on = true }) v ≡ stepOf n F (withWork s w)
   unfolding stepOf
   step-pop p v l z q r =
       let o : ltb f 6 ≡ false = le-ltb f 6 l in
@@ -74,13 +71,13 @@ module _ (n : ℕ) (F : Set) (s : Walk) (w : List ℕ) (f : ℕ) (e : f ≡ firs
 
 -- ---- the loop
 module _ (n : ℕ) (w₀ : List ℕ) (seed : Point) (size : pointCount n ≤ length w₀) (fine : Fine n w₀) where
-  pub start-from : Cell n seed → seenB n w₀ seed ≡ false → (b : Box) (w : List ℕ) → b ≡ cellBox seed → w ≡ lightOf n seed 0 w₀ →
-      Live n (oddIn n w₀) w₀ seed (record { walk = record { cell = seed; depth = 0; reach = b; on = true }; work = w })
-  start-from cell dark b w e q =
-      subst (λ (x : Box). Live n (oddIn n w₀) w₀ seed (record { walk = record { cell = seed; depth = 0; reach = x; on = true }; work = w })) (sym e)
+  pub start-from : Cell n seed → seenB n w₀ seed ≡ false → (b : Box) (w : List ℕ) → b ≡ cellBox seed → w ≡ seeOf n seed 0 w₀ →
+      Live n (oddIn n w₀) w₀ seed (withWork (record { cell = seed; depth = 0; reach = b; on = true }) w)
+  start-from cell unseen b w e q =
+      subst (λ (x : Box). Live n (oddIn n w₀) w₀ seed (withWork (record { cell = seed; depth = 0; reach = x; on = true }) w)) (sym e)
       (subst (λ (x : List ℕ). Live n (oddIn n w₀) w₀ seed
-      (record { walk = record { cell = seed; depth = 0; reach = cellBox seed; on = true }; work = x })) (sym q)
-      (start-live n (oddIn n w₀) w₀ seed (odd-inside n w₀) size (odd-face n w₀ fine) cell dark))
+      (withWork (record { cell = seed; depth = 0; reach = cellBox seed; on = true }) x)) (sym q)
+      (start-live n (oddIn n w₀) w₀ seed (odd-inside n w₀) size (odd-face n w₀ fine) cell unseen))
 
   -- the odd faces as they were
   same-odd : (s : Walked) → Inv n (oddIn n w₀) w₀ seed s → oddIn n (s .work) ≡ oddIn n w₀
@@ -93,12 +90,12 @@ module _ (n : ℕ) (w₀ : List ℕ) (seed : Point) (size : pointCount n ≤ len
       let k = step-live n (oddIn n w₀) w₀ seed (odd-inside n w₀) size (odd-face n w₀ fine) s i in
       let q : r ≡ stepOf n (oddIn n w₀) s = e ∙ ap (λ (G : Set). stepOf n G s) (same-odd s i) in
       let m : suc (left n (stepOf n (oddIn n w₀) s)) ≡ left n s = k .1 ∙ sym
-      (ap (λ (x : Bool). cond x (suc (s .walk .depth + 2 * darkCells n (s .work))) (2 * darkCells n (s .work))) o) in
+      (ap (λ (x : Bool). cond x (suc (s .walk .depth + 2 * unseenCells n (s .work))) (2 * unseenCells n (s .work))) o) in
       subst (λ (x : Walked). Live n (oddIn n w₀) w₀ seed x × (left n x < left n s)) (sym q) (k .0, omega arith)
 
   pub ready : n ≤ 32 → (s : Walked) → Live n (oddIn n w₀) w₀ seed s → s .walk .on ≡ true →
       (pointCount n ≤ length (s .work)) × Cell n (s .walk .cell) × Fine n (s .work) × (s .walk .depth < 100000)
-      × ((s .walk .depth ≡ 0 → ⊥) → (wayOf n (s .work) (s .walk .cell) < 6) × Inside n (opposite (wayOf n (s .work) (s .walk .cell))) (s .walk .cell))
+      × WayBack n (s .work) (s .walk)
   ready m s h o =
       let i = h .on o in
       let t = trail-new n (oddIn n w₀) w₀ seed (s .work) (s .walk .depth) (s .walk .cell) (i .trail) in
@@ -108,7 +105,7 @@ module _ (n : ℕ) (w₀ : List ℕ) (seed : Point) (size : pointCount n ≤ len
       let m₃ : n * n * n ≤ 32 * 32 * 32 = mul-le-mul m₂ m in
       (omega arith, t .cell, record { between = λ a p b e. fine .between a p b (sym (i .odds a p b) ∙ e) }, omega arith, way (s .walk .depth) (i .trail))
     where
-      way : (k : ℕ) → Trail n (oddIn n w₀) w₀ seed (s .work) k (s .walk .cell) → (k ≡ 0 → ⊥) → (wayOf n (s .work) (s .walk .cell) < 6) × Inside n
+      way : (k : ℕ) → Trail n (oddIn n w₀) w₀ seed (s .work) k (s .walk .cell) → (k ≡ 0 → ⊥) → (wayOf n (s .work) (s .walk .cell) < 6) × BetweenCells n
           (opposite (wayOf n (s .work) (s .walk .cell))) (s .walk .cell)
       way zero t z = absurd (z refl)
       way (suc k) t z = (t .0 .way, odd-inside n w₀ _ _ (t .0 .odd))

@@ -14,11 +14,11 @@ use Rattle.rules.specs.declared.Box.{Box}
 use Rattle.rules.specs.Lattice.{OfGrid, Set, faceIn, whole, samePoint, pointCount, Sub}
 use Rattle.rules.proofs.Bits.{or-no-left}
 use Rattle.lattice.specs.Cells.{aside, Cell}
-use Rattle.walking.specs.Walks.{seenB, lightOf, firstOpen, cellBox, Walked, pushOf, popOf, stopOf, stepOf, here, New}
-use Rattle.walking.specs.Bound.{darkCells}
+use Rattle.walking.specs.Walks.{seenB, seeOf, firstOpen, cellBox, Walked, pushOf, popOf, stopOf, stepOf, here, New}
+use Rattle.walking.specs.Bound.{unseenCells}
 use Rattle.lattice.proofs.PointSteps.{cell-grid}
-use Rattle.walking.proofs.Bytes.{light-length, light-past, light-seen, light-odd}
-use Rattle.walking.proofs.Dark.{dark-most, dark-enter}
+use Rattle.walking.proofs.Bytes.{see-length, see-past, see-seen, see-odd}
+use Rattle.walking.proofs.Unseen.{unseen-most, unseen-enter}
 use Rattle.walking.proofs.FirstOpen.{first-is}
 use Rattle.walking.proofs.Trail.{not-same, new-was, each-on}
 use Rattle.walking.proofs.Invariant.{Inv, Live, left}
@@ -30,22 +30,22 @@ module _ (n : ℕ) (F : Set) (w₀ : List ℕ) (seed : Point) (inside : (a : Axi
     (bits : (a : Axis) (p : Point) → OfGrid n p → aside n w₀ a p ≡ F a p) where
   -- ---- the beginning
   pub start-live : Cell n seed → seenB n w₀ seed ≡ false → Live n F w₀ seed
-      (record { walk = record { cell = seed; depth = 0; reach = cellBox seed; on = true }; work = lightOf n seed 0 w₀ })
+      (record { walk = record { cell = seed; depth = 0; reach = cellBox seed; on = true }; work = seeOf n seed 0 w₀ })
   start-live cell unseen = record {
     on = λ e. record {
-      long = light-length n seed 0 zero-small w₀ size in-grid;
-      past = λ i k. light-past n seed 0 zero-small w₀ size in-grid i k;
-      odds = λ a p k. light-odd n seed 0 zero-small w₀ size in-grid a p k;
+      long = see-length n seed 0 zero-small w₀ size in-grid;
+      past = λ i k. see-past n seed 0 zero-small w₀ size in-grid i k;
+      odds = λ a p k. see-odd n seed 0 zero-small w₀ size in-grid a p k;
       each = λ q b. each-on n F w₀ seed w₀ seed 0 zero-small size in-grid new q b (inl refl);
       first = new;
       trail = new;
       closed = λ q m t. absurd (not-same q seed (or-no-left (samePoint q seed) false t) (only q m));
       holds = λ q m. subst (λ (x : Point). Sub (cellBox x) (cellBox seed)) (sym (only q m)) (sub-self (cellBox seed));
       least = λ b k. k seed new;
-      room = let d = dark-enter n seed 0 zero-small w₀ size cell unseen in let m = dark-most n w₀ (n * n * n) in omega arith;
+      room = let d = unseen-enter n seed 0 zero-small w₀ size cell unseen in let m = unseen-most n w₀ (n * n * n) in omega arith;
     };
     off = λ e. absurd (true≢false e);
-    long = light-length n seed 0 zero-small w₀ size in-grid;
+    long = see-length n seed 0 zero-small w₀ size in-grid;
   }
     where
       zero-small : 0 < 8
@@ -54,13 +54,13 @@ module _ (n : ℕ) (F : Set) (w₀ : List ℕ) (seed : Point) (inside : (a : Axi
       in-grid : OfGrid n seed
       in-grid = cell-grid n seed cell
 
-      new : New n F w₀ (lightOf n seed 0 w₀) seed seed
-      new = record { cell = cell; dark = unseen; lit = light-seen n seed 0 zero-small w₀ size in-grid; route = here }
+      new : New n F w₀ (seeOf n seed 0 w₀) seed seed
+      new = record { cell = cell; dark = unseen; lit = see-seen n seed 0 zero-small w₀ size in-grid; route = here }
 
       sub-self : (b : Box) → Sub b b
       sub-self b = omega arith
 
-      only : (q : Point) → New n F w₀ (lightOf n seed 0 w₀) seed q → q ≡ seed
+      only : (q : Point) → New n F w₀ (seeOf n seed 0 w₀) seed q → q ≡ seed
       only q m = go (new-was n F w₀ seed w₀ seed 0 zero-small size in-grid q (cell-grid n q (m .cell)) (inl refl) m)
         where
           go : (q ≡ seed) ⊎ New n F w₀ w₀ seed q → q ≡ seed
@@ -69,12 +69,12 @@ module _ (n : ℕ) (F : Set) (w₀ : List ℕ) (seed : Point) (inside : (a : Axi
 
   -- ---- one step
   pub step-live : (s : Walked) → Inv n F w₀ seed s → Live n F w₀ seed (stepOf n F s) ×
-      (suc (left n (stepOf n F s)) ≡ suc (s .walk .depth + 2 * darkCells n (s .work)))
+      (suc (left n (stepOf n F s)) ≡ suc (s .walk .depth + 2 * unseenCells n (s .work)))
   unfolding stepOf
   step-live s h = go (ltb (firstOpen n F (s .work) (s .walk .cell) 6 0) 6) refl
     where
       Goal : Walked → Type 0
-      Goal t = Live n F w₀ seed t × (suc (left n t) ≡ suc (s .walk .depth + 2 * darkCells n (s .work)))
+      Goal t = Live n F w₀ seed t × (suc (left n t) ≡ suc (s .walk .depth + 2 * unseenCells n (s .work)))
 
       no-face : (y : Bool) → eqb (s .walk .depth) 0 ≡ y → 6 ≤ firstOpen n F (s .work) (s .walk .cell) 6 0 → Goal (cond y (stopOf n s) (popOf n s))
       no-face true e l =

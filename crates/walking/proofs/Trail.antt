@@ -16,10 +16,10 @@ use Rattle.rules.proofs.Bits.{is-false, or-no-left, or-no-right}
 use Rattle.rules.proofs.Store.{number-inj}
 use Rattle.lattice.specs.Byte.{wayBack}
 use Rattle.lattice.specs.Cells.{Cell}
-use Rattle.walking.specs.Walks.{seenB, lightOf, wayOf, oddAt, acrossOf, opposite, backOf, New, Done}
+use Rattle.walking.specs.Walks.{seenB, seeOf, wayOf, oddAt, acrossOf, opposite, backOf, New, AllSeen}
 use Rattle.lattice.proofs.PointSteps.{cell-grid}
 use Rattle.walking.proofs.Faces.{crossed}
-use Rattle.walking.proofs.Bytes.{seen-same, light-other, light-grows}
+use Rattle.walking.proofs.Bytes.{seen-same, see-other, see-grows}
 
 -- the cells from where the walk stands back to its beginning
 abbrev pub trailOf : ℕ → List ℕ → ℕ → Point → List Point
@@ -46,14 +46,14 @@ module _ (n : ℕ) (F : Set) (w₀ : List ℕ) (seed : Point) where
   trail-new w (suc k) c h = h .0 .new
 
   -- a cell that has not been seen is not on the trail
-  pub trail-lit : (w : List ℕ) (d : Point) → seenB n w d ≡ false → (k : ℕ) (c : Point) → Trail w k c → anyOf (samePoint d) (trailOf n w k c) ≡ false
-  trail-lit w d e zero c h = is-false (samePoint d c || false)
+  pub trail-seen : (w : List ℕ) (d : Point) → seenB n w d ≡ false → (k : ℕ) (c : Point) → Trail w k c → anyOf (samePoint d) (trailOf n w k c) ≡ false
+  trail-seen w d e zero c h = is-false (samePoint d c || false)
       (λ t. true≢false (sym (h .lit) ∙ ap (seenB n w) (sym (samePoint→ d c (one (samePoint d c) t))) ∙ e))
     where
       one : (x : Bool) → x || false ≡ true → x ≡ true
       one true t = refl
       one false t = t
-  trail-lit w d e (suc k) c h = go (samePoint d c) refl (trail-lit w d e k (backOf n w c) (h .1))
+  trail-seen w d e (suc k) c h = go (samePoint d c) refl (trail-seen w d e k (backOf n w c) (h .1))
     where
       go : (x : Bool) → samePoint d c ≡ x → anyOf (samePoint d) (trailOf n w k (backOf n w c)) ≡ false → x || anyOf (samePoint d)
           (trailOf n w k (backOf n w c)) ≡ false
@@ -63,20 +63,20 @@ module _ (n : ℕ) (F : Set) (w₀ : List ℕ) (seed : Point) where
   -- ---- a cell d is seen
   module _ (w : List ℕ) (d : Point) (v : ℕ) (small : v < 8) (long : pointCount n ≤ length w) (b : OfGrid n d) where
     abbrev pub after : List ℕ
-    after = lightOf n d v w
+    after = seeOf n d v w
 
-    pub byte-on : (q : Point) → OfGrid n q → (q ≡ d → ⊥) → getD (lightOf n d v w) (pointNumber n q) 0 ≡ getD w (pointNumber n q) 0
-    byte-on q h e = light-other n d v small w long b (pointNumber n q) (λ k. e (number-inj n q d h b k))
+    pub byte-on : (q : Point) → OfGrid n q → (q ≡ d → ⊥) → getD (seeOf n d v w) (pointNumber n q) 0 ≡ getD w (pointNumber n q) 0
+    byte-on q h e = see-other n d v small w long b (pointNumber n q) (λ k. e (number-inj n q d h b k))
 
-    pub new-on : (q : Point) → New n F w₀ w seed q → New n F w₀ (lightOf n d v w) seed q
-    new-on q h = record { cell = h .cell; dark = h .dark; lit = light-grows n d v small w long b q (cell-grid n q (h .cell)) (h .lit); route = h .route }
+    pub new-on : (q : Point) → New n F w₀ w seed q → New n F w₀ (seeOf n d v w) seed q
+    new-on q h = record { cell = h .cell; dark = h .dark; lit = see-grows n d v small w long b q (cell-grid n q (h .cell)) (h .lit); route = h .route }
 
     -- the rest of the trail stays as it is
     pub trail-on : (k : ℕ) (c : Point) → anyOf (samePoint d) (trailOf n w k c) ≡ false → Trail w k c →
-        (trailOf n (lightOf n d v w) k c ≡ trailOf n w k c) × Trail (lightOf n d v w) k c
+        (trailOf n (seeOf n d v w) k c ≡ trailOf n w k c) × Trail (seeOf n d v w) k c
     trail-on zero c e h = (refl, new-on c h)
     trail-on (suc k) c e h =
-        let u = lightOf n d v w in
+        let u = seeOf n d v w in
         let other : (c ≡ d → ⊥) = λ q. not-same d c (or-no-left (samePoint d c) (anyOf (samePoint d) (trailOf n w k (backOf n w c))) e) (sym q) in
         let same = byte-on c (cell-grid n c (h .0 .new .cell)) other in
         let back : backOf n u c ≡ backOf n w c = ap (λ (x : ℕ). acrossOf (opposite (wayBack x)) c) same in
@@ -96,25 +96,26 @@ module _ (n : ℕ) (F : Set) (w₀ : List ℕ) (seed : Point) where
 
     -- a cell that is new afterwards was new, or is d
     pub new-was : (q : Point) → OfGrid n q → (getD w (pointNumber n q) 0 ≡ getD w₀ (pointNumber n q) 0) ⊎ New n F w₀ w seed q → New n F w₀
-        (lightOf n d v w) seed q → (q ≡ d) ⊎ New n F w₀ w seed q
+        (seeOf n d v w) seed q → (q ≡ d) ⊎ New n F w₀ w seed q
     new-was q g (inr k) h = inr k
     new-was q g (inl k) h = go (ℕ-discrete (pointNumber n q) (pointNumber n d))
       where
         go : Dec (pointNumber n q ≡ pointNumber n d) → (q ≡ d) ⊎ New n F w₀ w seed q
         go (yes e) = inl (number-inj n q d g b e)
-        go (no e) = absurd (true≢false (sym (h .lit) ∙ seen-same n w₀ (lightOf n d v w) q (light-other n d v small w long b (pointNumber n q) e ∙ k) ∙ h .dark))
+        go (no e) = absurd (true≢false (sym (h .lit) ∙ seen-same n w₀ (seeOf n d v w) q (see-other n d v small w long b (pointNumber n q) e ∙ k) ∙ h .dark))
 
-    pub each-on : New n F w₀ (lightOf n d v w) seed d → (q : Point) → OfGrid n q → (getD w (pointNumber n q) 0 ≡ getD w₀ (pointNumber n q) 0) ⊎ New n
+    pub each-on : New n F w₀ (seeOf n d v w) seed d → (q : Point) → OfGrid n q → (getD w (pointNumber n q) 0 ≡ getD w₀ (pointNumber n q) 0) ⊎ New n
         F w₀ w seed q →
-        (getD (lightOf n d v w) (pointNumber n q) 0 ≡ getD w₀ (pointNumber n q) 0) ⊎ New n F w₀ (lightOf n d v w) seed q
+        (getD (seeOf n d v w) (pointNumber n q) 0 ≡ getD w₀ (pointNumber n q) 0) ⊎ New n F w₀ (seeOf n d v w) seed q
     each-on new q g (inr k) = inr (new-on q k)
     each-on new q g (inl k) = go (ℕ-discrete (pointNumber n q) (pointNumber n d))
       where
-        go : Dec (pointNumber n q ≡ pointNumber n d) → (getD (lightOf n d v w) (pointNumber n q) 0 ≡ getD w₀ (pointNumber n q) 0) ⊎ New n F w₀
-            (lightOf n d v w) seed q
-        go (yes e) = inr (subst (New n F w₀ (lightOf n d v w) seed) (sym (number-inj n q d g b e)) new)
-        go (no e) = inl (light-other n d v small w long b (pointNumber n q) e ∙ k)
+        go : Dec (pointNumber n q ≡ pointNumber n d) → (getD (seeOf n d v w) (pointNumber n q) 0 ≡ getD w₀ (pointNumber n q) 0) ⊎ New n F w₀
+            (seeOf n d v w) seed q
+        go (yes e) = inr (subst (New n F w₀ (seeOf n d v w) seed) (sym (number-inj n q d g b e)) new)
+        go (no e) = inl (see-other n d v small w long b (pointNumber n q) e ∙ k)
 
     -- a cell whose neighbours have all been seen
-    pub done-on : ((a : Axis) (p : Point) → F a p ≡ true → faceIn (whole n) a p ≡ true) → (q : Point) → Cell n q → Done n F w q → Done n F (lightOf n d v w) q
-    done-on inside q c h f l o = light-grows n d v small w long b (acrossOf f q) (cell-grid n _ (crossed n f q l c (inside _ _ o) .cell)) (h f l o)
+    pub done-on : ((a : Axis) (p : Point) → F a p ≡ true → faceIn (whole n) a p ≡ true) → (q : Point) → Cell n q → AllSeen n F w q →
+        AllSeen n F (seeOf n d v w) q
+    done-on inside q c h f l o = see-grows n d v small w long b (acrossOf f q) (cell-grid n _ (crossed n f q l c (inside _ _ o) .cell)) (h f l o)

@@ -7,20 +7,20 @@ use lib.ListN.{length}
 use Rattle.rules.specs.declared.Point.{Point}
 use Rattle.rules.specs.Lattice.{Set, pointCount}
 use Rattle.lattice.specs.Cells.{Cell}
-use Rattle.walking.specs.Walks.{oddIn, Fine, seenB, lightOf, cellBox, Walked, stepOf}
+use Rattle.walking.specs.Walks.{oddIn, Fine, seenB, seeOf, cellBox, Walked, stepOf}
 
 -- the cell of a number
 unfoldable pub cellOf : ℕ → ℕ → Point
 cellOf n k = record { i = k % n; j = k / n % n; k = k / n / n }
 
 -- how many of the cells below a number have not been seen
-abbrev pub darkBelow : ℕ → List ℕ → ℕ → ℕ
-darkBelow n w zero = 0
-darkBelow n w (suc k) = cond (seenB n w (cellOf n k)) (darkBelow n w k) (suc (darkBelow n w k))
+abbrev pub unseenBelow : ℕ → List ℕ → ℕ → ℕ
+unseenBelow n w zero = 0
+unseenBelow n w (suc k) = cond (seenB n w (cellOf n k)) (unseenBelow n w k) (suc (unseenBelow n w k))
 
 -- how many cells have not been seen
-abbrev pub darkCells : ℕ → List ℕ → ℕ
-darkCells n w = darkBelow n w (n * n * n)
+abbrev pub unseenCells : ℕ → List ℕ → ℕ
+unseenCells n w = unseenBelow n w (n * n * n)
 
 -- k steps lead from one state to another, the walk going on at each
 pub data Steps (n : ℕ) (F : Set) : Walked → ℕ → Walked → Type 0 where
@@ -29,7 +29,7 @@ pub data Steps (n : ℕ) (F : Set) : Walked → ℕ → Walked → Type 0 where
 
 -- the first state of a walk
 abbrev pub startOf : ℕ → List ℕ → Point → Walked
-startOf n w seed = record { walk = record { cell = seed; depth = 0; reach = cellBox seed; on = true }; work = lightOf n seed 0 w }
+startOf n w seed = record { walk = record { cell = seed; depth = 0; reach = cellBox seed; on = true }; work = seeOf n seed 0 w }
 
 -- a walk of k steps that has ended, from the work bytes w to the work bytes u
 pub record Whole (n : ℕ) (w : List ℕ) (k : ℕ) (u : List ℕ) : Type 0 where

@@ -11,7 +11,7 @@ use Rattle.rules.specs.declared.Axis.the-variants.{X, Y, Z}
 use Rattle.rules.specs.declared.Point.{Point}
 use Rattle.rules.specs.declared.Box.{Box}
 use Rattle.rules.specs.Lattice.{coord, withCoord, up, down, Set, OfGrid, pointNumber, faceIn, whole, pointCount, Sub}
-use Rattle.rules.specs.Grid.{has, value, stored}
+use Rattle.rules.specs.Grid.{value, stored}
 use Rattle.rules.specs.Rims.{joinBox}
 use Rattle.lattice.specs.Byte.{high, seen, wayBack, entered}
 use Rattle.lattice.specs.Cells.{indexOf, faceOf, aside, Cell}
@@ -32,8 +32,8 @@ unfoldable pub seenB : ℕ → List ℕ → Point → Bool
 seenB n w c = seen (getD w (pointNumber n c) 0)
 
 -- a cell is seen, with v in the lowest part of its byte
-unfoldable pub lightOf : ℕ → Point → ℕ → List ℕ → List ℕ
-lightOf n c v w = set w (pointNumber n c) (entered v (getD w (pointNumber n c) 0))
+unfoldable pub seeOf : ℕ → Point → ℕ → List ℕ → List ℕ
+seeOf n c v w = set w (pointNumber n c) (entered v (getD w (pointNumber n c) 0))
 
 -- the face of the cell before by which a cell was entered
 abbrev pub wayOf : ℕ → List ℕ → Point → ℕ
@@ -41,7 +41,7 @@ wayOf n w c = wayBack (getD w (pointNumber n c) 0)
 
 -- a cell is left for good: its odd lower faces go into the working set
 abbrev pub leaveOf : ℕ → Point → List ℕ → List ℕ
-leaveOf n c w = lightOf n c (high (getD w (pointNumber n c) 0)) w
+leaveOf n c w = seeOf n c (high (getD w (pointNumber n c) 0)) w
 
 -- ---- the cells around a cell
 
@@ -50,8 +50,8 @@ abbrev pub oddAt : Set → ℕ → Point → Bool
 oddAt F f c = F (faceOf f c .axis) (faceOf f c .at)
 
 -- face f of a cell lies between two cells
-abbrev pub Inside : ℕ → ℕ → Point → Type 0
-Inside n f c = faceIn (whole n) (faceOf f c .axis) (faceOf f c .at) ≡ true
+abbrev pub BetweenCells : ℕ → ℕ → Point → Type 0
+BetweenCells n f c = faceIn (whole n) (faceOf f c .axis) (faceOf f c .at) ≡ true
 
 -- a step across face f where it is square to a: on across the upper one, back across the lower one
 abbrev pub crossedOn : Axis → ℕ → Point → Point
@@ -68,6 +68,10 @@ opposite f = cond (ltb f 3) (f + 3) (f - 3)
 -- the cell that the walk came from
 abbrev pub backOf : ℕ → List ℕ → Point → Point
 backOf n w c = acrossOf (opposite (wayOf n w c)) c
+
+-- away from the first cell the byte keeps a way back
+abbrev pub WayBack : ℕ → List ℕ → Walk → Type 0
+WayBack n w s = (s .depth ≡ 0 → ⊥) → (wayOf n w (s .cell) < 6) × BetweenCells n (opposite (wayOf n w (s .cell))) (s .cell)
 
 -- face f is odd and leads to a cell not yet seen
 abbrev pub openB : ℕ → Set → List ℕ → Point → ℕ → Bool
@@ -88,13 +92,16 @@ pub record Walked : Type 0 where
   pub walk : Walk
   pub work : List ℕ
 
+abbrev pub withWork : Walk → List ℕ → Walked
+withWork s w = record { walk = s; work = w }
+
 -- on across face f
 abbrev pub pushOf : ℕ → ℕ → Walked → Walked
 pushOf n f s =
     let d = acrossOf f (s .walk .cell) in
     record {
       walk = record { cell = d; depth = s .walk .depth + 1; reach = joinBox (s .walk .reach) (cellBox d); on = true };
-      work = lightOf n d f (s .work);
+      work = seeOf n d f (s .work);
     }
 
 -- back to the cell before
@@ -131,8 +138,8 @@ pub record New (n : ℕ) (F : Set) (w₀ w : List ℕ) (s : Point) (q : Point) :
   pub route : Route F s q
 
 -- every odd face of a cell leads to a cell that has been seen
-abbrev pub Done : ℕ → Set → List ℕ → Point → Type 0
-Done n F w q = (f : ℕ) → f < 6 → oddAt F f q ≡ true → seenB n w (acrossOf f q) ≡ true
+abbrev pub AllSeen : ℕ → Set → List ℕ → Point → Type 0
+AllSeen n F w q = (f : ℕ) → f < 6 → oddAt F f q ≡ true → seenB n w (acrossOf f q) ≡ true
 
 -- the cells that faces of the set join to the seed, their lower faces as the working set, and the smallest box that holds them
 pub record Found (n : ℕ) (F : Set) (w₀ w : List ℕ) (s : Point) (b : Box) : Type 0 where
@@ -142,6 +149,6 @@ pub record Found (n : ℕ) (F : Set) (w₀ w : List ℕ) (s : Point) (b : Box) :
   pub each : (q : Point) → OfGrid n q → (getD w (pointNumber n q) 0 ≡ getD w₀ (pointNumber n q) 0) ⊎ New n F w₀ w s q
   pub first : New n F w₀ w s s
   pub faces : (q : Point) → New n F w₀ w s q → (a : Axis) → stored n w a q ≡ F a q
-  pub closed : (q : Point) → New n F w₀ w s q → Done n F w q
+  pub closed : (q : Point) → New n F w₀ w s q → AllSeen n F w q
   pub holds : (q : Point) → New n F w₀ w s q → Sub (cellBox q) b
   pub least : (c : Box) → ((q : Point) → New n F w₀ w s q → Sub (cellBox q) c) → Sub b c

@@ -23,7 +23,8 @@ ghost use Rattle.rules.specs.Lattice.{coord, OfGrid, pointOf, pointCount};
 ghost use Rattle.rules.specs.Grid.{value};
 ghost use Rattle.rules.specs.Rims.{joinBox};
 ghost use Rattle.lattice.specs.Cells.{indexOf, Cell};
-ghost use Rattle.walking.specs.Walks.{oddIn, Fine, seenB, lightOf, wayOf, leaveOf, Inside, crossedOn, acrossOf, opposite, openB, firstOpen, cellBox, Walked, stepOf, Found};
+ghost use Rattle.walking.specs.Walks.{oddIn, Fine, seenB, seeOf, wayOf, leaveOf, BetweenCells, crossedOn, acrossOf, opposite, openB, firstOpen};
+ghost use Rattle.walking.specs.Walks.{WayBack, cellBox, withWork, stepOf, Found};
 
 // The cell where the walk stands, how many cells lie behind it on the way back, the box of all that it has seen, and whether it goes on.
 pub struct Walk {
@@ -100,7 +101,7 @@ fn crossed_on(n: usize, c: Point, a: Axis, f: usize) -> Point
 
 // The cell across face f of a cell, where the face lies between two cells.
 fn across(n: usize, c: Point, f: usize) -> Point
-    requires { ⌜ (n ≤ 32) × Cell n c × (f < 6) × Inside n f c ⌝ }
+    requires { ⌜ (n ≤ 32) × Cell n c × (f < 6) × BetweenCells n f c ⌝ }
     ensures { λ r. ⌜ r ≡ acrossOf f c ⌝ }
 {
     let p = crossed_on(n, c, Axis::X, f);
@@ -122,7 +123,7 @@ fn opposite_face(f: usize) -> usize
 // Enters a cell by way of face f of the cell before.
 fn enter(n: usize, work: &mut [u8], c: Point, f: usize)
     requires { ⌜ (n ≤ 32) × (pointCount n ≤ length (now work)) × OfGrid n c × (f < 6) ⌝ }
-    ensures { λ _. ⌜ now (work .exit) ≡ lightOf n c f (now (work .entry)) ⌝ }
+    ensures { λ _. ⌜ now (work .exit) ≡ seeOf n c f (now (work .entry)) ⌝ }
 {
     let at = number_of(n, c);
     work[at] = entered(work[at], f);
@@ -175,8 +176,8 @@ fn single(n: usize, c: Point) -> Box
 // Takes one step: on to a cell not yet seen, else back to the cell before, else the walk ends.
 fn walk_on(n: usize, work: &mut [u8], s: Walk) -> Walk
     requires { ⌜ (n ≤ 32) × (pointCount n ≤ length (now work)) × Cell n (s .cell) × Fine n (now work) × (s .depth < 100000)
-        × ((s .depth ≡ 0 → ⊥) → (wayOf n (now work) (s .cell) < 6) × Inside n (opposite (wayOf n (now work) (s .cell))) (s .cell)) ⌝ }
-    ensures { λ r. ⌜ _≡_ {A = Walked} (record { walk = r; work = now (work .exit) }) (stepOf n (oddIn n (now (work .entry))) (record { walk = s; work = now (work .entry) })) ⌝ }
+        × WayBack n (now work) s ⌝ }
+    ensures { λ r. ⌜ withWork r (now (work .exit)) ≡ stepOf n (oddIn n (now (work .entry))) (withWork s (now (work .entry))) ⌝ }
 {
     let c = s.cell;
     let reach = s.reach;

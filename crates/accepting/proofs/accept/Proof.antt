@@ -1,6 +1,6 @@
 -- `accept` gives the first row that applies, and decides where none does. Assumes nothing.
 use borrow.Author.Needs.{needs}
-use mathlib.Core.Path.{sym, ap, _∙_}
+use mathlib.Core.Path.{sym, _∙_}
 use Rattle.lattice.proofs.LevelFacts.{cells-most}
 use Rattle.refusals.proofs.Levels.{read-unknown, read-known}
 use Rattle.accepting.proofs.Judged.{bad-level, short-grid, short-work, not-fours, goes-on, cells-more}
@@ -86,11 +86,9 @@ returns-5 c =
     let if1 = c .before .before .before .before .before .before .before .before .before .if1 in
     let points = c .before .before .before .before .before .before .before .before .before .before .points in
     let cells = c .before .before .before .before .before .before .before .before .before .before .before .cells in
-    let l = c .before .before .before .before .before .before .before .before .before .before .before .before .before .l in
-    let read = c .before .before .before .before .before .before .before .before .before .before .before .before .before .before .before .read in
-    let back = c .before .before .before .before .before .before .before .before .before .before in
-    let start = back .before .before .before .before .before .before .before .before .before in
-    let level = read-known _ _ (sym (read .ensures) ∙ l .given .1) in
+    let known = c .before .before .before .before .before .before .before .before .before .before .before .before .before in
+    let start = known .before .before .before .before .before .before in
+    let level = read-known _ _ (sym (known .before .before .read .ensures) ∙ known .l .given .1) in
     rw (cells .ensures) at (decide .ensures)
     ∙ goes-on (start .args .level) (start .args .list .now) (start .args .grid .now) (start .args .work .now) _ level
     (rw (points .ensures) at (if1 .left)) (rw (points .ensures) at (if2 .left)) (if3 .left)

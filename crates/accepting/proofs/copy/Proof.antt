@@ -1,11 +1,12 @@
--- `accepting::copy` meets its contract. Assumes nothing.
+-- `accepting::copy` meets its contract. The loop's invariant: with the bytes from p on copied the list is as with all of them copied. Assumes
+-- nothing.
 use Rattle.accepting.proofs.Copied.{byteOf, copy-end}
 use Rattle.lattice.proofs.Written.{write-more}
 use mathlib.Core.Path.{_≡_, refl, _∙_}
 use Rattle.rules.specs.Lists.{upto}
 use lib.Seq.{sets}
-use lib.ListN.{length, getD, length-set}
-use Prim.Native.Nat.{ℕ, _-_, _≤_, _<_}
+use lib.ListN.{length, length-set}
+use Prim.Native.Nat.{_-_, _≤_, _<_}
 use mathlib.Core.List.{map}
 use native.Mathlib.Numerals.{add-one}
 use native.Mathlib.Omega.{arith}

@@ -1,4 +1,5 @@
--- `accepting::decide` meets its contract. Assumes nothing.
+-- `accepting::decide` meets its contract: the quads are gathered in a cleared work, and signed and copied only where they are some grid's.
+-- Assumes nothing.
 use borrow.Author.Needs.{needs}
 use mathlib.Core.Path.{sym, subst}
 use Prim.Native.Nat.{ℕ, _≤_}
@@ -31,88 +32,62 @@ gather-requires c κs =
 
 clear-requires-2 : tie.Need-clear-requires-2
 clear-requires-2 c κs =
-    let gather = c .before .before .before .before .gather in
-    let clear = c .before .before .before .before .before .before .before .before .clear in
-    let point-count = c .before .before .before .before .before .before .before .before .before .before .point-count in
-    let start-2 = c .before .before .before .before .before .before .before .before .before .before .before .before .before .before in
-    omega (
-      arith,
-      point-count .ensures .0,
-      start-2 .pre .3,
-      clear .kept .1 .0,
-      gather .kept .1 .1 .0,
-    )
+    let gathered = c .before .before .before .before in
+    let point-count = gathered .before .before .before .before .before .before .point-count in
+    let start = gathered .before .before .before .before .before .before .before .before .before .before in
+    omega (arith, point-count .ensures .0, start .pre .3, gathered .before .before .before .before .clear .kept .1 .0, gathered .gather .kept .1 .1 .0)
 
 same-length : tie.Need-same-length
 same-length c = search needs
 
 returns : tie.Need-returns
 returns c =
-    let if1 = c .before .before .before .before .if1 in
-    let gather = c .before .before .before .before .before .before .before .gather in
-    let clear = c .before .before .before .before .before .before .before .before .before .before .before .clear in
-    let point-count = c .before .before .before .before .before .before .before .before .before .before .before .before .before .point-count in
-    let start = c .before .before .before .before .before .before .before .before .before .before .before .before .before .before .before .before .before in
+    let gathered = c .before .before .before .before .before .before .before in
+    let point-count = gathered .before .before .before .before .before .before .point-count in
+    let start = gathered .before .before .before .before .before .before .before .before .before .before in
     said-no (start .args .n) _ (start .args .list .now) (start .args .grid .now) (start .args .work .now) _ (point-count .ensures .0) (start .pre .3)
-    (clear .ensures) _ _ _ (gather .ensures) (not-true _ (if1 .taken)) (c .before .before .clear2 .ensures)
+    (gathered .before .before .before .before .clear .ensures) _ _ _ (gathered .gather .ensures)
+    (not-true _ (c .before .before .before .before .if1 .taken)) (c .before .before .clear2 .ensures)
 
 sign-grid-requires : tie.Need-sign-grid-requires
 sign-grid-requires c κs =
-    let gather = c .before .before .before .before .gather in
-    let clear = c .before .before .before .before .before .before .before .before .clear in
-    let start = c .before .before .before .before .before .before .before .before .before .before .before .before .before .before in
-    let told = c .before .before .before .before .gather .ensures in
+    let gathered = c .before .before .before .before in
+    let start = gathered .before .before .before .before .before .before .before .before .before .before in
+    let told = gathered .gather .ensures in
     let said = not-false _ (c .before .if1 .left) in (
-      (
-        start .pre .1,
-        omega (
-          arith,
-          start .pre .3,
-          clear .kept .1 .0,
-          gather .kept .1 .1 .0,
-        ),
-      ),
+      (start .pre .1, omega (arith, start .pre .3, gathered .before .before .before .before .clear .kept .1 .0, gathered .gather .kept .1 .1 .0)),
       (told .grid said, told .even said),
     )
 
 copy-requires : tie.Need-copy-requires
 copy-requires c κs =
     let sign-grid = c .before .before .before .before .sign-grid in
-    let gather = c .before .before .before .before .before .before .before .before .before .gather in
-    let clear = c .before .before .before .before .before .before .before .before .before .before .before .before .before .clear in
-    let back = c .before .before .before .before .before .before .before .before .before .before in
-    let point-count = back .before .before .before .before .before .point-count in
-    let start = c .before .before .before .before .before .before .before .before .before .before .before .before .before .before .before .before .before .before .before in (
+    let gathered = c .before .before .before .before .before .before .before .before .before in
+    let point-count = gathered .before .before .before .before .before .before .point-count in
+    let start = gathered .before .before .before .before .before .before .before .before .before .before in (
       omega (
         arith,
         point-count .ensures .0,
         start .pre .3,
-        clear .kept .1 .0,
-        gather .kept .1 .1 .0,
+        gathered .before .before .before .before .clear .kept .1 .0,
+        gathered .gather .kept .1 .1 .0,
         sign-grid .kept .1 .0,
       ),
-      omega (
-        arith,
-        point-count .ensures .0,
-        start .pre .2,
-      ),
+      omega (arith, point-count .ensures .0, start .pre .2),
     )
 
 clear-requires-3 : tie.Need-clear-requires-3
 clear-requires-3 c κs =
     let sign-grid = c .before .before .before .before .before .before .before .before .sign-grid in
-    let gather = c .before .before .before .before .before .before .before .before .before .before .before .before .before .gather in
-    let back = c .before .before .before .before .before .before .before .before .before .before in
-    let clear = back .before .before .before .before .before .before .before .clear in
-    let point-count = back .before .before .before .before .before .before .before .before .before .point-count in
-    let back = c .before .before .before .before .before .before .before .before .before .before in
-    let start = back .before .before .before .before .before .before .before .before .before .before .before .before .before in
+    let gathered = c .before .before .before .before .before .before .before .before .before .before .before .before .before in
+    let point-count = gathered .before .before .before .before .before .before .point-count in
+    let start = gathered .before .before .before .before .before .before .before .before .before .before in
     omega (
       arith,
       point-count .ensures .0,
       start .pre .3,
-      clear .kept .1 .0,
-      gather .kept .1 .1 .0,
+      gathered .before .before .before .before .clear .kept .1 .0,
+      gathered .gather .kept .1 .1 .0,
       sign-grid .kept .1 .0,
     )
 
@@ -127,15 +102,12 @@ returns-2 c =
     let copy = c .before .before .before .before .before .before .copy in
     let sign-grid = c .before .before .before .before .before .before .before .before .before .before .before .sign-grid in
     let if1 = c .before .before .before .before .before .before .before .before .before .before .before .before .before .if1 in
-    let back = c .before .before .before .before .before .before .before .before .before .before in
-    let gather = back .before .before .before .before .before .before .gather in
-    let clear = back .before .before .before .before .before .before .before .before .before .before .clear in
-    let back2 = back .before .before .before .before .before .before .before .before .before .before in
-    let point-count = back2 .before .before .point-count in
-    let back = c .before .before .before .before .before .before .before .before .before .before in
-    let start = back .before .before .before .before .before .before .before .before .before .before .before .before .before .before .before .before in
+    let gathered = c .before .before .before .before .before .before .before .before .before .before .before .before .before .before .before .before in
+    let clear = gathered .before .before .before .before .clear in
+    let point-count = gathered .before .before .before .before .before .before .point-count in
+    let start = gathered .before .before .before .before .before .before .before .before .before .before in
     said-yes (start .args .n) _ (start .args .list .now) (start .args .grid .now) (start .args .work .now) _ (point-count .ensures .0) (start .pre .3)
-    (clear .ensures) _ _ _ _ _ (gather .ensures) (not-false _ (if1 .left)) (sign-grid .ensures) (copy .ensures) (c .before .before .clear3 .ensures)
+    (clear .ensures) _ _ _ _ _ (gathered .gather .ensures) (not-false _ (if1 .left)) (sign-grid .ensures) (copy .ensures) (c .before .before .clear3 .ensures)
 
 pub decide-spec : {M : Type 1} → statement M
 decide-spec =

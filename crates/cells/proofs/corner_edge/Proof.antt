@@ -1,3 +1,4 @@
+-- `corner_edge` moves the table's edge to the cell, and the table's edge at the lowest corner is the axis at that corner. Assumes nothing.
 use mathlib.Core.Path.{ap, _∙_}
 use borrow.Author.Needs.{needs}
 use Rattle.rules.specs.declared.Place.{Place}

@@ -1,3 +1,4 @@
+-- `face_rule` reads the table, whose six entries are the rule's. Assumes nothing.
 use Rattle.cells.proofs.face_rule.Tie as tie
 use borrow.Author.Needs.{needs}
 use Rattle.cells.proofs.face_rule.Statement.{statement}

@@ -28,14 +28,18 @@ returns : tie.Need-returns Inv-loop μ-loop
 returns c =
     let s = c .before .before .before in
     let l = c .before .before .loop in
+    let w = s .args .kept .now in
     let none : (a : Axis) → has a (l .left) ≡ false = λ a. ap (has a) (c .if1 .taken) ∙ zero-has a in
-    (l .inv .1, λ a. none a ∙ sym (none-left (s .args .kept .now) (s .args .p) a (has a (s .args .left)) (l .k) (s .args .built) (l .inv .0) (sym (l .inv .2 a) ∙ none a)))
+    let further = none-left w (s .args .p) in
+    (l .inv .1, λ a. none a ∙ sym (further a (has a (s .args .left)) (l .k) (s .args .built) (l .inv .0) (sym (l .inv .2 a) ∙ none a)))
 
 kept-at-requires : tie.Need-kept-at-requires Inv-loop μ-loop
 kept-at-requires c κs = let h = c .before .before .before .pre .1 in omega arith
 
 still-left-requires : tie.Need-still-left-requires Inv-loop μ-loop
-still-left-requires c κs = (c .before .before .before .loop .inv .1, rw (c .kept-at .ensures) (c .before .before .before .before .pre .2 (c .before .before .before .loop .k) (c .before .before .loop-test .taken)))
+still-left-requires c κs =
+    let l = c .before .before .before .loop in
+    (l .inv .1, rw (c .kept-at .ensures) (c .before .before .before .before .pre .2 (l .k) (c .before .before .loop-test .taken)))
 
 add-k : tie.Need-add-k Inv-loop μ-loop
 add-k c = let h = c .before .before .before .before .before .pre .1 in omega arith

@@ -35,8 +35,9 @@ returns : tie.Need-returns Inv-loop μ-loop
 returns c =
     let s = c .before .before .before in
     let l = c .before .before .loop in
+    let rest = restLeft (s .args .l) (s .args .t) (l .k) (s .args .c) in
     let none : (a : Axis) → has a (l .left) ≡ false = λ a. ap (has a) (c .if1 .taken) ∙ zero-has a in
-    (l .inv .0, l .inv .2, λ a. none a ∙ sym (sym (l .inv .3 a) ∙ ap (λ (b : Bool). restLeft (s .args .l) (s .args .t) (l .k) (s .args .c) a b) (none a)))
+    (l .inv .0, l .inv .2, λ a. none a ∙ sym (sym (l .inv .3 a) ∙ ap (rest a) (none a)))
 
 side-requires : tie.Need-side-requires Inv-loop μ-loop
 side-requires c κs = search needs
@@ -52,20 +53,26 @@ kept-requires : tie.Need-kept-requires Inv-loop μ-loop
 kept-requires c κs = let s = c .before .before .before .before .before in (s .pre .0, (omega arith, rw (side-is c) (up-to (side-most (s .args .l)))))
 
 -- the axis that is built
-axis-is : (c : tie.After-kept Inv-loop μ-loop) → c .kept .result ≡ keptOf (sideOf (c .before .before .before .before .before .before .args .l)) (getD (laterAxes (c .before .before .before .before .before .before .args .t)) (c .before .before .before .before .before .loop .k) nought) (c .before .before .before .before .before .before .args .t)
+axis-is : (c : tie.After-kept Inv-loop μ-loop) →
+    let l = c .before .before .before .before .before .loop in
+    let s = c .before .before .before .before .before .before in
+    c .kept .result ≡ keptOf (sideOf (s .args .l)) (getD (laterAxes (s .args .t)) (l .k) nought) (s .args .t)
 axis-is c = c .kept .ensures (sideOf (c .before .before .before .before .before .before .args .l)) (side-is (c .before))
 
 keep-requires : tie.Need-keep-requires Inv-loop μ-loop
 keep-requires c κs = omega arith
 
 numbers-of-requires : tie.Need-numbers-of-requires Inv-loop μ-loop
-numbers-of-requires c κs = let s = c .before .before .before .before .before .before .before .before in cell-wide (cellsOf (s .args .l)) (s .args .c) (cells-most (s .args .l)) (s .pre .4)
+numbers-of-requires c κs =
+    let s = c .before .before .before .before .before .before .before .before in
+    cell-wide (cellsOf (s .args .l)) (s .args .c) (cells-most (s .args .l)) (s .pre .4)
 
 still-left-requires : tie.Need-still-left-requires Inv-loop μ-loop
 still-left-requires c κs =
     let s = c .before .before .before .before .before .before .before .before .before in
     let l = c .before .before .before .before .before .before .before .before .loop in
-    (l .inv .1, rw (axis-is ((c .before .before .before)), c .numbers-of .ensures) (kept-fits (s .args .l) (s .args .t) (s .pre .0) (l .k) (s .args .c) (s .pre .4)))
+    let fits = kept-fits (s .args .l) (s .args .t) (s .pre .0) (l .k) (s .args .c) (s .pre .4) in
+    (l .inv .1, rw (axis-is (c .before .before .before), c .numbers-of .ensures) fits)
 
 add-k : tie.Need-add-k Inv-loop μ-loop
 add-k c = omega arith

@@ -1,4 +1,4 @@
--- `mark_edge` meets its contract. Assumes nothing.
+-- `mark_edge` meets its contract: the mark is turned exactly where there is none and the edge is left. Assumes nothing.
 use mathlib.Core.Path.{sym, _∙_}
 use Prim.Native.Nat.{_<_}
 use native.Mathlib.Nat.{lt-of-lt-of-le}
@@ -33,7 +33,8 @@ returns-2 : tie.Need-returns-2
 returns-2 c =
     let s = c .before .before .before .before .before .before in
     let m = rw (s .pre .2) at (c .before .before .before .bit .ensures) in
-    λ E f. edge-not-in (s .args .n) E (s .args .e) (s .args .grid .now) (f (sym m ∙ c .before .before .if1 .left) ∙ fails (c .before .bit2 .ensures) (c .if2 .taken))
+    let clear = sym m ∙ c .before .before .if1 .left in
+    λ E f. edge-not-in (s .args .n) E (s .args .e) (s .args .grid .now) (f clear ∙ fails (c .before .bit2 .ensures) (c .if2 .taken))
 
 turn-requires : tie.Need-turn-requires
 turn-requires c κs = below (c .before .before .before .before .before .before .before)
@@ -43,10 +44,16 @@ same-length c = search needs
 
 returns-3 : tie.Need-returns-3
 returns-3 c =
+    let if2 = c .before .before .before .before .if2 in
+    let bit2 = c .before .before .before .before .before .bit2 in
+    let if1 = c .before .before .before .before .before .before .if1 in
+    let bit = c .before .before .before .before .before .before .before .bit in
     let s = c .before .before .before .before .before .before .before .before .before .before in
-    let m = rw (s .pre .2) at (c .before .before .before .before .before .before .before .bit .ensures) in
+    let m = rw (s .pre .2) at (bit .ensures) in
+    let clear = sym m ∙ if1 .left in
+    let is-left = holds (bit2 .ensures) (if2 .left) in
     rw (c .before .before .turn .ensures, s .pre .2)
-    (λ E f. edge-turned (s .args .n) E (s .args .e) (s .args .grid .now) (s .pre .0) (s .pre .1) (sym m ∙ c .before .before .before .before .before .before .if1 .left) (f (sym m ∙ c .before .before .before .before .before .before .if1 .left) ∙ holds (c .before .before .before .before .before .bit2 .ensures) (c .before .before .before .before .if2 .left)))
+    (λ E f. edge-turned (s .args .n) E (s .args .e) (s .args .grid .now) (s .pre .0) (s .pre .1) clear (f clear ∙ is-left))
 
 pub mark-edge-spec : {M : Type 1} → statement M
 mark-edge-spec =

@@ -14,33 +14,44 @@ mark-edge-requires c κs =
     rw (c .corner-edge .ensures) (s .pre .1, corner-grid (s .args .n) (s .args .c) X (s .pre .2) .0, s .pre .3)
 
 corner-edge-requires-2 : tie.Need-corner-edge-requires-2
-corner-edge-requires-2 c κs = let s = c .before .before .before .before .before .before .before in (s .pre .0, corner-grid (s .args .n) (s .args .c) Y (s .pre .2) .0)
+corner-edge-requires-2 c κs =
+    let s = c .before .before .before .before .before .before .before in
+    (s .pre .0, corner-grid (s .args .n) (s .args .c) Y (s .pre .2) .0)
 
 mark-edge-requires-2 : tie.Need-mark-edge-requires-2
 mark-edge-requires-2 c κs =
     let s = c .before .before .before .before .before .before .before .before in
-    rw (c .corner-edge2 .ensures) (rw (c .before .before .before .before .mark-edge .kept .1 .0) (s .pre .1), corner-grid (s .args .n) (s .args .c) Y (s .pre .2) .0, s .pre .3)
+    let long = c .before .before .before .before .mark-edge .kept .1 .0 in
+    rw (c .corner-edge2 .ensures) (rw long (s .pre .1), corner-grid (s .args .n) (s .args .c) Y (s .pre .2) .0, s .pre .3)
 
 corner-edge-requires-3 : tie.Need-corner-edge-requires-3
-corner-edge-requires-3 c κs = let s = c .before .before .before .before .before .before .before .before .before .before .before .before in (s .pre .0, corner-grid (s .args .n) (s .args .c) Z (s .pre .2) .0)
+corner-edge-requires-3 c κs =
+    let s = c .before .before .before .before .before .before .before .before .before .before .before .before in
+    (s .pre .0, corner-grid (s .args .n) (s .args .c) Z (s .pre .2) .0)
 
 mark-edge-requires-3 : tie.Need-mark-edge-requires-3
 mark-edge-requires-3 c κs =
+    let mark-edge2 = c .before .before .before .before .mark-edge2 in
+    let mark-edge = c .before .before .before .before .before .before .before .before .before .mark-edge in
     let s = c .before .before .before .before .before .before .before .before .before .before .before .before .before in
-    rw (c .corner-edge3 .ensures) (rw (c .before .before .before .before .mark-edge2 .kept .1 .0, c .before .before .before .before .before .before .before .before .before .mark-edge .kept .1 .0) (s .pre .1), corner-grid (s .args .n) (s .args .c) Z (s .pre .2) .0, s .pre .3)
+    let o = corner-grid (s .args .n) (s .args .c) Z (s .pre .2) .0 in
+    rw (c .corner-edge3 .ensures) (rw (mark-edge2 .kept .1 .0, mark-edge .kept .1 .0) (s .pre .1), o, s .pre .3)
 
 same-length : tie.Need-same-length
 same-length c = search needs
 
 returns : tie.Need-returns
 returns c =
-    let s = c .before .before .before .before .before .before .before .before .before .before .before .before .before .before .before .before in
+    let third = c .before .before in
+    let second = third .before .before .before .before .before in
+    let first = second .before .before .before .before .before in
+    let s = first .before .before .before .before in
     let n = s .args .n in
     let d = s .args .c in
     let o = corner-grid n d X (s .pre .2) .0 in
-    let x = rw (c .before .before .before .before .before .before .before .before .before .before .before .before .before .corner-edge .ensures) at (c .before .before .before .before .before .before .before .before .before .before .before .before .mark-edge .ensures) in
-    let y = rw (c .before .before .before .before .before .before .before .before .corner-edge2 .ensures) at (c .before .before .before .before .before .before .before .mark-edge2 .ensures) in
-    let z = rw (c .before .before .before .corner-edge3 .ensures) at (c .before .before .mark-edge3 .ensures) in
+    let x = rw (first .before .corner-edge .ensures) at (first .mark-edge .ensures) in
+    let y = rw (second .before .corner-edge2 .ensures) at (second .mark-edge2 .ensures) in
+    let z = rw (third .before .corner-edge3 .ensures) at (third .mark-edge3 .ensures) in
     λ E f.
     let p = x E (f X) in
     let q = y E (λ h. f Y (none-before n p Y d o h)) in

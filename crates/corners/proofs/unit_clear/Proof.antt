@@ -1,4 +1,4 @@
--- `unit_clear` meets its contract. Assumes nothing.
+-- `unit_clear` meets its contract: in the box's first plane on an axis only the edge along that axis is left. Assumes nothing.
 use mathlib.Core.Path.{_≡_, refl, ap, _∙_}
 use mathlib.Core.Bool.{Bool, not, _&&_}
 use Prim.Native.Nat.{ℕ, _-_, _%_}
@@ -36,6 +36,9 @@ masked-requires-3 c κs = search needs
 
 returns : tie.Need-returns
 returns c =
+    let masked2 = c .before .before .before .masked2 in
+    let masked1 = c .before .before .before .before .before .before .masked in
+    let lowest = c .before .before .before .before .before .before .before .before .before .low in
     let s = c .before .before .before .before .before .before .before .before .before .before in
     let b = s .args .b in
     let lo = s .args .lo in
@@ -43,7 +46,9 @@ returns c =
     let x = eqb (d .i) (lo .i) in
     let y = eqb (d .j) (lo .j) in
     let z = eqb (d .k) (lo .k) in
-    let e = c .masked3 .ensures ∙ ap (λ (m : ℕ). masked m 4 z) (c .before .before .before .masked2 .ensures ∙ ap (λ (m : ℕ). masked m 2 y) (c .before .before .before .before .before .before .masked .ensures ∙ ap (λ (m : ℕ). masked (7 - m) 1 x) (c .before .before .before .before .before .before .before .before .before .low .ensures .0))) in
+    let e₁ = masked1 .ensures ∙ ap (λ (m : ℕ). masked (7 - m) 1 x) (lowest .ensures .0) in
+    let e₂ = masked2 .ensures ∙ ap (λ (m : ℕ). masked m 2 y) e₁ in
+    let e = c .masked3 .ensures ∙ ap (λ (m : ℕ). masked m 4 z) e₂ in
     rw e (masks-less (7 - b % 8) 1 2 4 x y z (omega arith), λ a. opened-has x y z b a ∙ ap (λ (u : Bool). not (has a b) && u) (clear-is lo d a))
 
 pub unit-clear-spec : {M : Type 1} → statement M

@@ -22,7 +22,8 @@ returns c =
     let x = s .args .x in
     let y = s .args .y in
     let z = s .args .z in
-    let e = c .masked3 .ensures ∙ ap (λ (b : ℕ). masked b 3 z) (c .before .masked2 .ensures ∙ ap (λ (b : ℕ). masked b 5 y) (c .before .before .masked .ensures)) in
+    let e₂ = c .before .masked2 .ensures ∙ ap (λ (b : ℕ). masked b 5 y) (c .before .before .masked .ensures) in
+    let e = c .masked3 .ensures ∙ ap (λ (b : ℕ). masked b 3 z) e₂ in
     rw e (masks-less (s .args .left) 6 5 3 x y z (s .pre), taken-has x y z (s .args .left) (s .pre))
 
 pub without-spec : {M : Type 1} → statement M

@@ -1,4 +1,5 @@
--- `feed` meets its contract. Assumes nothing.
+-- `feed` meets its contract. The loop's invariant: whatever follows the block, what is left from here, taken from the state now, comes to the
+-- whole. Assumes nothing.
 use mathlib.Core.Path.{_≡_, refl, sym, ap, _∙_}
 use mathlib.Core.List.{List, [], _++_}
 use Prim.Native.Nat.{ℕ, _+_, _-_, _/_, _%_, _≤_, _<_}
@@ -6,7 +7,7 @@ use native.Mathlib.Omega.{arith}
 use lib.ListN.{length, drop, drop-of-length-le}
 use Rattle.lattice.specs.Levels.{numberOf}
 use Rattle.feeding.specs.Taken.{refusedBy, taken}
-use Rattle.feeding.specs.Feed.{Ready, Whole}
+use Rattle.feeding.specs.Feed.{Ready, Uncut}
 use Rattle.feeding.proofs.Taken.{block-full, block-short, block-refused, block-next}
 use Rattle.feeding.proofs.feed.Statement.{statement}
 use Rattle.feeding.proofs.feed.Tie as tie
@@ -19,7 +20,7 @@ Inv-loop l grid₀ count block triangles₀ at₀ grid triangles at =
     × (triangles ≤ 100000)
     × (length grid ≡ length grid₀)
     × Ready l grid
-    × ((rest : List ℕ) → Whole block rest
+    × ((rest : List ℕ) → Uncut block rest
     → taken (numberOf l) (100000 - count) (block ++ rest) count grid₀ ≡ taken (numberOf l) (100000 - triangles) (drop at block ++ rest) triangles grid)
 
 abbrev μ-loop : tie.MeasureT-loop
@@ -53,10 +54,13 @@ returns-2 c =
     let l = c .before .before .before .loop in
     let a = c .before .before .before .before .before .before .args in
     let f : l .triangles < 100000 = omega (arith, l .inv .3, c .before .if1 .left) in
+    let some = c .before .before .loop-test .taken in
     record {
       ready = l .inv .5;
       counted = tt;
-      goes-on = λ rest w. l .inv .6 rest w ∙ block-short (a .l) (l .triangles) _ (a .block .now) rest (l .at) (c .before .before .loop-test .taken) f (l .inv .5) w (l .inv .1) (c .if2 .taken);
+      goes-on = λ rest w.
+          l .inv .6 rest w
+          ∙ block-short (a .l) (l .triangles) _ (a .block .now) rest (l .at) some f (l .inv .5) w (l .inv .1) (c .if2 .taken);
     }
 
 mark-at-requires : tie.Need-mark-at-requires Inv-loop μ-loop
@@ -67,14 +71,19 @@ same-length-3 c = c .before .before .before .mark-at .kept .1 .0 ∙ c .before .
 
 returns-3 : tie.Need-returns-3 Inv-loop μ-loop
 returns-3 c =
+    let m = c .before .before .before .mark-at in
+    let enough = c .before .before .before .before .before .if2 .left in
+    let some = c .before .before .before .before .before .before .before .loop-test .taken in
     let l = c .before .before .before .before .before .before .before .before .loop in
     let a = c .before .before .before .before .before .before .before .before .before .before .before .args in
-    let m = c .before .before .before .mark-at in
     let f : l .triangles < 100000 = omega (arith, l .inv .3, c .before .before .before .before .before .before .if1 .left) in
     record {
       ready = m .ensures .ready;
       counted = tt;
-      goes-on = λ rest w. l .inv .6 rest w ∙ block-refused (a .l) (l .triangles) _ (a .block .now) rest (l .at) (c .before .before .before .before .before .before .before .loop-test .taken) f (c .before .before .before .before .before .if2 .left) _ refl (λ z. c .if3 .taken (m .ensures .number-is ∙ z)) ∙ ap refusedBy (sym (m .ensures .number-is));
+      goes-on = λ rest w.
+          l .inv .6 rest w
+          ∙ block-refused (a .l) (l .triangles) _ (a .block .now) rest (l .at) some f enough _ refl (λ z. c .if3 .taken (m .ensures .number-is ∙ z))
+          ∙ ap refusedBy (sym (m .ensures .number-is));
     }
 
 add-triangles : tie.Need-add-triangles Inv-loop μ-loop
@@ -88,17 +97,24 @@ loop-less c = omega (arith, c .before .before .before .before .before .before .b
 
 loop-again : tie.Need-loop-again Inv-loop μ-loop
 loop-again c =
+    let m = c .before .before .before .mark-at in
+    let enough = c .before .before .before .before .before .if2 .left in
+    let some = c .before .before .before .before .before .before .before .loop-test .taken in
     let l = c .before .before .before .before .before .before .before .before .loop in
     let a = c .before .before .before .before .before .before .before .before .before .before .before .args in
-    let m = c .before .before .before .mark-at in
-    let f : l .triangles < 100000 = omega (arith, l .inv .3, c .before .before .before .before .before .before .if1 .left) in (
-      omega (arith, c .before .before .before .before .before .before .before .loop-test .taken, c .before .before .before .before .before .if2 .left),
+    let f : l .triangles < 100000 = omega (arith, l .inv .3, c .before .before .before .before .before .before .if1 .left) in
+    let done = sym (m .ensures .number-is) ∙ c .if3 .left in (
+      omega (arith, some, enough),
       omega (arith, l .inv .1),
       omega (arith, l .inv .1, l .inv .2),
       omega arith,
       m .kept .1 .0 ∙ l .inv .4,
       m .ensures .ready,
-      λ rest w. l .inv .6 rest w ∙ block-next (a .l) (l .triangles) _ (a .block .now) rest (l .at) (c .before .before .before .before .before .before .before .loop-test .taken) f (c .before .before .before .before .before .if2 .left) _ refl (sym (m .ensures .number-is) ∙ c .if3 .left) ∙ ap (λ (g : List ℕ). taken (numberOf (a .l)) (100000 - (l .triangles + 1)) (drop (l .at + 36) (a .block .now) ++ rest) (l .triangles + 1) g) (sym (m .ensures .grid-is)),
+      λ rest w.
+          let left = drop (l .at + 36) (a .block .now) ++ rest in
+          l .inv .6 rest w
+          ∙ block-next (a .l) (l .triangles) _ (a .block .now) rest (l .at) some f enough _ refl done
+          ∙ ap (λ (g : List ℕ). taken (numberOf (a .l)) (100000 - (l .triangles + 1)) left (l .triangles + 1) g) (sym (m .ensures .grid-is)),
     )
 
 same-length-4 : tie.Need-same-length-4 Inv-loop μ-loop

@@ -1,5 +1,6 @@
--- `mark_at` meets its contract. Assumes nothing.
-use mathlib.Core.Path.{_≡_, refl, sym, ap, _∙_}
+-- `mark_at` meets its contract: nine numbers are read, and the first that is out of range decides; where none is, the triangle is marked.
+-- Assumes nothing.
+use mathlib.Core.Path.{_≡_, sym, ap, _∙_}
 use mathlib.Core.Bool.{true, false}
 use mathlib.Core.List.{List, []}
 use Prim.Native.Nat.{ℕ, _≤_, _<_}
@@ -28,8 +29,8 @@ use Rattle.feeding.proofs.mark_at.Tie as tie
 abbrev bytesAt : tie.Start → List ℕ
 bytesAt c = drop (c .args .at) (c .args .block .now)
 
-nine : (c : tie.Start) → length (numbers (bytesAt c)) ≡ 9
-nine c = numbers-nine (bytesAt c) (omega (arith, length-drop (c .args .at) (c .args .block .now), c .pre .0))
+nine-numbers : (c : tie.Start) → length (numbers (bytesAt c)) ≡ 9
+nine-numbers c = numbers-nine (bytesAt c) (omega (arith, length-drop (c .args .at) (c .args .block .now), c .pre .0))
 
 -- numbers as they were read, and the place that was looked for
 module _ (l : Level) (s : List ℕ) (c : List ℤ) (k : ℕ) (n : length (numbers s) ≡ 9) (e : c ≡ numbers s) (f : k ≡ firstOut l c) where
@@ -82,10 +83,10 @@ returns c =
     let n = c .before .before .before .before .before .before .numbers-at in
     let p = c .before .before .before .before .first-out in
     let v : Plain w32 (getD (n .result) (p .result) (pos 0)) = search needs in
-    let o = out (s .args .l) (bytesAt s) (n .result) (p .result) (nine s) (n .ensures) (p .ensures) (c .before .before .before .if1 .taken) in
-    let r = out-is (s .args .l) (bytesAt s) (n .result) (p .result) (nine s) (n .ensures) (p .ensures) in
+    let o = out (s .args .l) (bytesAt s) (n .result) (p .result) (nine-numbers s) (n .ensures) (p .ensures) (c .before .before .before .if1 .taken) in
+    let r = out-is (s .args .l) (bytesAt s) (n .result) (p .result) (nine-numbers s) (n .ensures) (p .ensures) in
     let k = ap (λ (x : Outcome). x .number) (rw v at (c .before .out-of-range .ensures [] [])) in
-    let m = sym (mark-out (s .args .l) _ (s .pre .1) _ (nine s) o) in
+    let m = sym (mark-out (s .args .l) _ (s .pre .1) _ (nine-numbers s) o) in
     record {
       number-is = c .number .ensures ∙ k ∙ r ∙ ap (λ (x : Outcome). x .number) m;
       grid-is = ap (λ (x : Outcome). x .grid) m;
@@ -100,8 +101,11 @@ triangle-of-requires c κs = search needs
 
 mark-fast-requires : tie.Need-mark-fast-requires
 mark-fast-requires c κs =
+    let if1 = c .before .before .before .if1 in
+    let first-out = c .before .before .before .before .first-out in
+    let numbers-at = c .before .before .before .before .before .before .numbers-at in
     let s = c .before .before .before .before .before .before .before .before .before in
-    let p = passed (s .args .l) (bytesAt s) _ _ (nine s) (c .before .before .before .before .before .before .numbers-at .ensures) (c .before .before .before .before .first-out .ensures) _ (c .before .before .before .if1 .left) (c .triangle-of .ensures) in
+    let p = passed (s .args .l) (bytesAt s) _ _ (nine-numbers s) (numbers-at .ensures) (first-out .ensures) _ (if1 .left) (c .triangle-of .ensures) in
     (p .lies, (s .pre .1 .long, s .pre .1 .grid, s .pre .1 .unsigned))
 
 same-length : tie.Need-same-length
@@ -109,15 +113,19 @@ same-length c = search needs
 
 returns-2 : tie.Need-returns-2
 returns-2 c =
-    let s = c .before .before .before .before .before .before .before .before .before .before .before .before in
     let m = c .before .before .mark-fast in
-    let p = passed (s .args .l) (bytesAt s) _ _ (nine s) (c .before .before .before .before .before .before .before .before .before .numbers-at .ensures) (c .before .before .before .before .before .before .before .first-out .ensures) _ (c .before .before .before .before .before .before .if1 .left) (c .before .before .before .triangle-of .ensures) in
+    let triangle-of = c .before .before .before .triangle-of in
+    let if1 = c .before .before .before .before .before .before .if1 in
+    let first-out = c .before .before .before .before .before .before .before .first-out in
+    let numbers-at = c .before .before .before .before .before .before .before .before .before .numbers-at in
+    let s = c .before .before .before .before .before .before .before .before .before .before .before .before in
+    let p = passed (s .args .l) (bytesAt s) _ _ (nine-numbers s) (numbers-at .ensures) (first-out .ensures) _ (if1 .left) (triangle-of .ensures) in
     let is = m .ensures ∙ ap (λ (t : Triangle). marked (s .args .l) t (s .args .grid .now)) (p .is) in
-    let o = sym (mark-in (s .args .l) _ (s .pre .1) _ (nine s) (p .fits)) in
+    let o = sym (mark-in (s .args .l) _ (s .pre .1) _ (nine-numbers s) (p .fits)) in
     record {
       number-is = ap (λ (x : Outcome). x .number) o;
       grid-is = is ∙ ap (λ (x : Outcome). x .grid) o;
-      ready = rw is (ready-after (s .args .l) _ _ (s .pre .1) (nine s) (p .fits));
+      ready = rw is (ready-after (s .args .l) _ _ (s .pre .1) (nine-numbers s) (p .fits));
     }
 
 pub mark-at-spec : {M : Type 1} → statement M

@@ -1,4 +1,5 @@
--- `fitting::edge_fits` meets its contract. Assumes nothing.
+-- `fitting::edge_fits` meets its contract: past the grid there is no edge; else the two ends' signs differ exactly where it is marked. Assumes
+-- nothing.
 use borrow.Author.Needs.{needs}
 use mathlib.Core.Path.{sym}
 use Prim.Native.Nat.{_<_}
@@ -34,7 +35,9 @@ add-r c =
     omega (arith, c .step .ensures)
 
 shared-slice-read-is-inside : tie.Need-shared-slice-read-is-inside
-shared-slice-read-is-inside c = let start = c .before .before .before .before .before in omega (arith, num-below (start .args .n) (start .args .q) (start .pre .3))
+shared-slice-read-is-inside c =
+    let start = c .before .before .before .before .before in
+    omega (arith, num-below (start .args .n) (start .args .q) (start .pre .3))
 
 is-inside-requires : tie.Need-is-inside-requires
 is-inside-requires c κs = search needs
@@ -49,16 +52,22 @@ is-inside-requires-2 : tie.Need-is-inside-requires-2
 is-inside-requires-2 c κs = search needs
 
 shared-slice-read-bit : tie.Need-shared-slice-read-bit
-shared-slice-read-bit c = let start = c .before .before .before .before .before .before .before .before .before in omega (arith, num-below (start .args .n) (start .args .q) (start .pre .3))
+shared-slice-read-bit c =
+    let start = c .before .before .before .before .before .before .before .before .before in
+    omega (arith, num-below (start .args .n) (start .args .q) (start .pre .3))
 
 bit-requires : tie.Need-bit-requires
 bit-requires c κs = search needs
 
 returns-2 : tie.Need-returns-2
 returns-2 c =
+    let here = c .before .before .before .before .is-inside in
+    let there = c .before .before .is-inside2 in
+    let step = c .before .before .before .before .before .before .step in
+    let e = exists (c .before .before .before .before .before .before .before) in
     let start = c .before .before .before .before .before .before .before .before .before .before in
-    edge-is (start .args .n) (start .args .grid .now) (start .args .a) (start .args .q) (start .args .p) _ _ _ _
-    (start .pre .1) (start .pre .2) (start .pre .3) (exists (c .before .before .before .before .before .before .before)) (start .pre .4) (c .before .before .before .before .before .before .step .ensures) (c .before .before .before .before .is-inside .ensures) (c .before .before .is-inside2 .ensures) (c .bit .ensures)
+    edge-is (start .args .n) (start .args .grid .now) (start .args .a) (start .args .q) (start .args .p) _ _ _ _ (start .pre .1)
+    (start .pre .2) (start .pre .3) e (start .pre .4) (step .ensures) (here .ensures) (there .ensures) (c .bit .ensures)
 
 pub edge-fits-spec : {M : Type 1} → statement M
 edge-fits-spec =

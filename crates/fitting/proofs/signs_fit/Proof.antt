@@ -40,7 +40,9 @@ point-count-requires c κs = c .before .before .before .before .pre .0
 
 loop-holds : tie.Need-loop-holds Inv-loop μ-loop
 loop-holds c =
-    (c .point-count .ensures .0, omega arith, at-start _, all-start _ _ ∙ origin-outside _ _ (c .before .before .before .before .before .args .grid .now) (sym (c .before .before .is-inside .ensures) ∙ c .before .if1 .left))
+    let start = c .before .before .before .before .before in
+    let outside = sym (c .before .before .is-inside .ensures) ∙ c .before .if1 .left in
+    (c .point-count .ensures .0, omega arith, at-start _, all-start _ _ ∙ origin-outside _ _ (start .args .grid .now) outside)
 
 point-fits-requires : tie.Need-point-fits-requires Inv-loop μ-loop
 point-fits-requires c κs =
@@ -73,12 +75,16 @@ loop-less c = omega (arith, c .before .before .before .loop-test .taken)
 
 loop-again : tie.Need-loop-again Inv-loop μ-loop
 loop-again c =
-    let start = c .before .before .before .before .before .before .before .before .before .before in
     let l = c .before .before .before .before .loop in
+    let start = c .before .before .before .before .before .before .before .before .before .before in
     let f = pointFits (start .args .n) (marks (start .args .n) (start .args .grid .now)) (inside (start .args .n) (start .args .grid .now)) in
     let h : l .p < pointCount (start .args .n) = omega (arith, l .inv .0, c .before .before .before .loop-test .taken) in
-    let e : f (l .q) ≡ true = holds {a = f (l .q)} (c .before .before .point-fits .ensures) (c .before .if2 .left) in
-    (l .inv .0, omega arith, rw (add-one, c .next-point .ensures) (at-next _ (l .p) (l .q) (l .inv .2) h), rw add-one (all-more f _ (l .p) (l .q) (l .inv .2) h e ∙ l .inv .3))
+    let e : f (l .q) ≡ true = holds {a = f (l .q)} (c .before .before .point-fits .ensures) (c .before .if2 .left) in (
+      l .inv .0,
+      omega arith,
+      rw (add-one, c .next-point .ensures) (at-next _ (l .p) (l .q) (l .inv .2) h),
+      rw add-one (all-more f _ (l .p) (l .q) (l .inv .2) h e ∙ l .inv .3),
+    )
 
 returns-3 : tie.Need-returns-3 Inv-loop μ-loop
 returns-3 c =

@@ -1,3 +1,4 @@
+-- `all_even` meets its contract. The loop's invariant: the lower faces of the cells from number k on are all even exactly when every face is. Assumes nothing.
 use mathlib.Core.Path.{_≡_, sym, ap, _∙_}
 use Prim.Native.Nat.{ℕ, suc, _-_, _≤_, _<_}
 use native.Mathlib.Numerals.{add-one}

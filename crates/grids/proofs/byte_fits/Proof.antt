@@ -1,3 +1,5 @@
+-- `byte_fits` meets its contract: at a deep point every edge is inner, so that any byte up to 15 may stand there; elsewhere each mark is looked at.
+-- Assumes nothing.
 use mathlib.Core.Path.{_≡_, refl, sym, _∙_}
 use mathlib.Core.Bool.{Bool, true, false, not, _&&_, _||_}
 use Prim.Native.Nat.{ℕ}

@@ -1,8 +1,6 @@
 -- `clear_signs` meets its contract: a grid without signs is left as it is, and is what it is without them. Assumes nothing.
-use mathlib.Core.Path.{_≡_, _∙_}
-use mathlib.Core.Bool.{true}
+use mathlib.Core.Path.{_∙_}
 use borrow.Author.Needs.{needs}
-use Rattle.rules.specs.Grid.{isGrid}
 use Rattle.grids.proofs.Unsigning.{read-some, read-inside, none-inside, unsigned-same}
 use Rattle.grids.proofs.clear_signs.Statement.{statement}
 use Rattle.grids.proofs.clear_signs.Tie as tie

@@ -1,3 +1,4 @@
+-- `is_between` meets its contract: the two comparisons are the test's two halves. Assumes nothing.
 use Rattle.rules.proofs.Bits.{leb-yes, leb-no}
 use Rattle.grids.proofs.is_between.Statement.{statement}
 use Rattle.grids.proofs.is_between.Tie as tie

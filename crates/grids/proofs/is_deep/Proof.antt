@@ -1,3 +1,4 @@
+-- `is_deep` meets its contract: three coordinates, each tested, the first that fails decides. Assumes nothing.
 use borrow.Author.Needs.{needs}
 use Rattle.lattice.proofs.Tests.{fails, holds}
 use Rattle.grids.proofs.is_deep.Statement.{statement}

@@ -1,3 +1,4 @@
+-- `is_inner` meets its contract: axis by axis, the edge's own coordinate first. Assumes nothing.
 use borrow.Author.Needs.{needs}
 use mathlib.Core.Path.{_∙_}
 use Rattle.grids.proofs.Points.{inner-x, inner-y, inner-z}

@@ -1,3 +1,4 @@
+-- `is_inner_along` meets its contract: its own coordinate from 0, the two others from 1; the first that fails decides. Assumes nothing.
 use borrow.Author.Needs.{needs}
 use Rattle.lattice.proofs.Tests.{fails, holds}
 use Rattle.grids.proofs.is_inner_along.Statement.{statement}

@@ -1,7 +1,6 @@
 -- `keep_marks` meets its contract. The loop's invariant: the bytes from p on are as they came, and with those of the marks written
 -- there the buffer is as with all of them written. Assumes nothing.
 use mathlib.Core.Path.{_≡_, refl, sym, ap, _∙_}
-use mathlib.Core.Bool.{false}
 use mathlib.Core.List.{List, map}
 use Prim.Native.Nat.{ℕ, _-_, _%_, _≤_, _<_}
 use native.Mathlib.Nat.{add-zero}
@@ -12,7 +11,6 @@ use Rattle.rules.specs.Lists.{upto}
 use Rattle.rules.specs.Lattice.{pointCount}
 use Rattle.rules.specs.Grid.{bytes, marks}
 use Rattle.rules.proofs.Numbers.{bytes-length}
-use Rattle.lattice.specs.Byte.{withSign}
 use Rattle.grids.specs.Scans.{unsigned}
 use Rattle.lattice.proofs.Written.{written, write-end, rewrite-kept, rewrite-on}
 use Rattle.grids.proofs.Unsigning.{byteOf, bytes-by-number, low-byte}

@@ -1,3 +1,4 @@
+-- `mark_fits` meets its contract: without a mark there is nothing to ask, with one the edge has to be inner. Assumes nothing.
 use borrow.Author.Needs.{needs}
 use Rattle.lattice.proofs.Tests.{fails, holds}
 use Rattle.grids.proofs.mark_fits.Statement.{statement}

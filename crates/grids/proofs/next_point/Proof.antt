@@ -1,3 +1,4 @@
+-- `next_point` meets its contract: the cases are the order of point numbers, i first, then j, then k. Assumes nothing.
 use borrow.Author.Needs.{needs}
 use borrow.Author.Tests.{lt-ltb, le-ltb}
 use Rattle.grids.specs.Scans.{nextPoint}

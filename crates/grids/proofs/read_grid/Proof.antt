@@ -1,7 +1,7 @@
 -- `read_grid` meets its contract. The loop's invariant: the test of the bytes from p on is that of all of them, and with the points inside from p
 -- on added to those found they are all of them. Assumes nothing.
-use mathlib.Core.Path.{_≡_, sym, ap, ap₂, _∙_}
-use mathlib.Core.Bool.{Bool, true, false, cond}
+use mathlib.Core.Path.{_≡_, sym, ap, _∙_}
+use mathlib.Core.Bool.{Bool, cond}
 use mathlib.Core.List.{List}
 use Prim.Native.Nat.{ℕ, suc, _+_, _-_, _≤_, _<_}
 use native.Mathlib.Omega.{arith}
@@ -12,7 +12,6 @@ use Rattle.rules.specs.declared.Point.{Point}
 use Rattle.rules.specs.Lists.{allOf, count}
 use Rattle.rules.specs.Lattice.{pointCount}
 use Rattle.rules.specs.Grid.{value, saysInside, inside, byteFits, goodByte, isGrid}
-use Rattle.grids.specs.declared.GridRead.{GridRead}
 use Rattle.grids.specs.declared.GridRead.the-variants.{NoGrid, Grid}
 use Rattle.grids.specs.Scans.{insideCount}
 use Rattle.lattice.proofs.Tests.{fails, holds}

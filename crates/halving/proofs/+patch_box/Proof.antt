@@ -81,22 +81,21 @@ patch-box-cut-plane-requires t c κs =
     let o = sym (is-one-cell .ensures) ∙ if1 .left in
     let a = c .before .before .before .longest-axis .ensures in
     let m = c .before .before .middle-of .ensures in
-    (s .pre .1 .0, s .pre .1 .1, s .pre .1 .2, s .pre .1 .3, mid-low _ _ (s .pre .1 .3) o _ _ a m, mid-high _ _ (s .pre .1 .3) o _ _ a m)
+    ((s .pre .1 .0, s .pre .1 .1, s .pre .1 .2), s .pre .1 .3, mid-low _ _ (s .pre .1 .3) o _ _ a m, mid-high _ _ (s .pre .1 .3) o _ _ a m)
 
 patch-box-lower-half-requires : (t : ℕ) → patch-box-lts.Need-lower-half-requires (claims t) (patch-box-at t) patch-box.Post
 patch-box-lower-half-requires t c κs = tt
 
 patch-box-patch-box-requires : (t : ℕ) → patch-box-lts.Need-patch-box-requires (claims t) (patch-box-at t) patch-box.Post
 patch-box-patch-box-requires t c κs =
-    let middle-of = c .before .before .before .before .before .before .before .before .before .before .middle-of in
-    let longest-axis = c .before .before .before .before .before .before .before .before .before .before .before .longest-axis in
-    let if1 = c .before .before .before .before .before .before .before .before .before .before .before .before .before .before .before .if1 in
-    let back = c .before .before .before .before .before .before .before .before .before .before in
-    let is-one-cell = back .before .before .before .before .before .before .is-one-cell in
-    let back = c .before .before .before .before .before .before .before .before .before .before in
-    let s = back .before .before .before .before .before .before .before .before .before in
+    let plane = c .before .before .before .before .before .before .before in
+    let middle-of = plane .before .before .before .middle-of in
+    let longest-axis = plane .before .before .before .before .longest-axis in
+    let if1 = plane .before .before .before .before .before .before .before .before .if1 in
+    let is-one-cell = plane .before .before .before .before .before .before .before .before .before .is-one-cell in
+    let s = plane .before .before .before .before .before .before .before .before .before .before .before .before in
     let o = sym (is-one-cell .ensures) ∙ if1 .left in
-    let k = c .before .before .before .before .before .before .before .cut-plane .kept in
+    let k = plane .cut-plane .kept in
     let h = low-ok _ _ (s .pre .1 .3) o _ _ (longest-axis .ensures) (middle-of .ensures) t _ (s .pre .0) (c .lower-half .ensures) in
     (h .0, (s .pre .1 .0, rw (k .1 .0) (s .pre .1 .1), rw (k .1 .1 .0) (s .pre .1 .2), h .1))
 
@@ -105,56 +104,50 @@ patch-box-upper-half-requires t c κs = tt
 
 patch-box-patch-box-requires-2 : (t : ℕ) → patch-box-lts.Need-patch-box-requires-2 (claims t) (patch-box-at t) patch-box.Post
 patch-box-patch-box-requires-2 t c κs =
-    let back = c .before .before .before .before .before .before .before .before .before .before in
-    let middle-of = back .before .before .before .before .before .before .before .before .middle-of in
-    let longest-axis = back .before .before .before .before .before .before .before .before .before .longest-axis in
-    let back2 = back .before .before .before .before .before .before .before .before .before .before in
-    let if1 = back2 .before .before .before .if1 in
-    let is-one-cell = back2 .before .before .before .before .is-one-cell in
-    let back = c .before .before .before .before .before .before .before .before .before .before in
-    let s = back .before .before .before .before .before .before .before .before .before .before .before .before .before .before .before .before .before in
+    let lower = c .before .before .before .before .before .before .before in
+    let plane = lower .before .before .before .before .before .before .before .before in
+    let middle-of = plane .before .before .before .middle-of in
+    let longest-axis = plane .before .before .before .before .longest-axis in
+    let if1 = plane .before .before .before .before .before .before .before .before .if1 in
+    let is-one-cell = plane .before .before .before .before .before .before .before .before .before .is-one-cell in
+    let s = plane .before .before .before .before .before .before .before .before .before .before .before .before in
     let o = sym (is-one-cell .ensures) ∙ if1 .left in
-    let k = c .before .before .before .before .before .before .before .before .before .before .before .before .before .before .before .cut-plane .kept in
-    let j = c .before .before .before .before .before .before .before .patch-box .kept in
+    let k = plane .cut-plane .kept in
+    let j = lower .patch-box .kept in
     let h = up-ok _ _ (s .pre .1 .3) o _ _ (longest-axis .ensures) (middle-of .ensures) t _ (s .pre .0) (c .upper-half .ensures) in
     (h .0, (s .pre .1 .0, rw (j .1 .0, k .1 .0) (s .pre .1 .1), rw (j .1 .1 .0, k .1 .1 .0) (s .pre .1 .2), h .1))
 
 patch-box-same-length-2 : (t : ℕ) → patch-box-lts.Need-same-length-2 (claims t) (patch-box-at t) patch-box.Post
 patch-box-same-length-2 t c =
-    let patch-box2 = c .before .before .before .before .patch-box2 in
-    let patch-box-told = c .before .before .before .before .before .before .before .before .before .before .before .before .patch-box in
-    let back = c .before .before .before .before .before .before .before .before .before .before in
-    let cut-plane = back .before .before .before .before .before .before .before .before .before .before .cut-plane in
-    patch-box2 .kept .1 .0 ∙ patch-box-told .kept .1 .0 ∙ cut-plane .kept .1 .0
+    let upper = c .before .before .before .before in
+    let lower = upper .before .before .before .before .before .before .before .before in
+    let plane = lower .before .before .before .before .before .before .before .before in
+    upper .patch-box2 .kept .1 .0 ∙ lower .patch-box .kept .1 .0 ∙ plane .cut-plane .kept .1 .0
 
 patch-box-same-length-3 : (t : ℕ) → patch-box-lts.Need-same-length-3 (claims t) (patch-box-at t) patch-box.Post
 patch-box-same-length-3 t c =
-    let patch-box2 = c .before .before .before .before .patch-box2 in
-    let patch-box-told = c .before .before .before .before .before .before .before .before .before .before .before .before .patch-box in
-    let back = c .before .before .before .before .before .before .before .before .before .before in
-    let cut-plane = back .before .before .before .before .before .before .before .before .before .before .cut-plane in
-    patch-box2 .kept .1 .1 .0 ∙ patch-box-told .kept .1 .1 .0 ∙ cut-plane .kept .1 .1 .0
+    let upper = c .before .before .before .before in
+    let lower = upper .before .before .before .before .before .before .before .before in
+    let plane = lower .before .before .before .before .before .before .before .before in
+    upper .patch-box2 .kept .1 .1 .0 ∙ lower .patch-box .kept .1 .1 .0 ∙ plane .cut-plane .kept .1 .1 .0
 
 patch-box-returns-3 : (t : ℕ) → patch-box-lts.Need-returns-3 (claims t) (patch-box-at t) patch-box.Post
 patch-box-returns-3 t c =
-    let upper-half = c .before .before .before .before .before .upper-half in
-    let lower-half = c .before .before .before .before .before .before .before .before .before .before .before .before .before .lower-half in
-    let back = c .before .before .before .before .before .before .before .before .before .before in
-    let back2 = back .before .before .before .before .before .before .before .before .before .before in
-    let middle-of = back2 .before .before .before .middle-of in
-    let longest-axis = back2 .before .before .before .before .longest-axis in
-    let if1 = back2 .before .before .before .before .before .before .before .before .if1 in
-    let is-one-cell = back2 .before .before .before .before .before .before .before .before .before .is-one-cell in
-    let back = c .before .before .before .before .before .before .before .before .before .before in
-    let s = back .before .before .before .before .before .before .before .before .before .before .before .before .before .before .before .before .before .before .before .before .before .before in
+    let upper = c .before .before .before .before in
+    let lower = upper .before .before .before .before .before .before .before .before in
+    let plane = lower .before .before .before .before .before .before .before .before in
+    let middle-of = plane .before .before .before .middle-of in
+    let longest-axis = plane .before .before .before .before .longest-axis in
+    let if1 = plane .before .before .before .before .before .before .before .before .if1 in
+    let is-one-cell = plane .before .before .before .before .before .before .before .before .before .is-one-cell in
+    let s = plane .before .before .before .before .before .before .before .before .before .before .before .before in
     let o = sym (is-one-cell .ensures) ∙ if1 .left in
-    let back = c .before .before .before .before .before .before .before .before .before .before in
-    let k = back .before .before .before .before .before .before .before .before .before .before .cut-plane in
-    let l = c .before .before .before .before .before .before .before .before .before .before .before .before .patch-box in
-    let u = c .before .before .before .before .patch-box2 in
+    let k = plane .cut-plane in
+    let l = lower .patch-box in
+    let u = upper .patch-box2 in
     halves-turn _ _ (s .pre .1 .3) o _ _ (longest-axis .ensures) (middle-of .ensures) (s .args .work .now) (s .args .grid .now)
-    (k .last .1 .1 .0) (k .last .1 .0) (l .last .1 .1 .0) (l .last .1 .0) _ _ _ _ (s .pre .1 .2) (lower-half .ensures) (upper-half .ensures)
-    (k .ensures) (l .ensures) (u .ensures)
+    (k .last .1 .1 .0) (k .last .1 .0) (l .last .1 .1 .0) (l .last .1 .0) _ _ _ _ (s .pre .1 .2) (lower .before .lower-half .ensures)
+    (upper .before .upper-half .ensures) (k .ensures) (l .ensures) (u .ensures)
 
 pub +patch-box-spec : {M : Type 1} → statement M
 +patch-box-spec = close μ-patch-box λ t. patch-box-lts.spec (claims t)

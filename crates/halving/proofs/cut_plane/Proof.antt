@@ -1,15 +1,18 @@
+-- `cut_plane` meets its contract. The loop's invariant: the rows from v on, scanned from the state now, give what the whole plane gives from the start.
+-- Assumes nothing.
 use Rattle.halving.proofs.cut_plane.Tie as tie
 use Rattle.halving.proofs.cut_plane.Statement.{statement}
 use mathlib.Core.Path.{refl, _∙_, ap}
 use Prim.Native.Nat.{_-_, _≤_}
 use native.Mathlib.Omega.{arith}
 use Rattle.rules.specs.Lattice.{coord}
-use Rattle.halving.proofs.Scans.{Planing, planing-on, planing-end}
-use Rattle.halving.proofs.Scans.{fits-coord}
 use Rattle.rules.specs.declared.Axis.{Axis}
+use Rattle.halving.specs.Halving.{scanOf}
+use Rattle.halving.proofs.Scans.{fits-coord}
+use Rattle.halving.proofs.Rows.{Planing, planing-on, planing-end}
 
 abbrev Inv-loop : tie.InvT-loop
-Inv-loop n grid₀ work₀ a m from to end h₀ v₀ grid work h v = Planing n a m from to end (record { unpaired = h₀; grid = grid₀; work = work₀ }) v₀ v h grid work
+Inv-loop n grid₀ work₀ a m from to end h₀ v₀ grid work h v = Planing n a m from to end (scanOf h₀ grid₀ work₀) v₀ v h grid work
 
 abbrev μ-loop : tie.MeasureT-loop
 μ-loop n grid₀ work₀ a m from to end h₀ v₀ grid work h v = end - v
@@ -35,7 +38,7 @@ coordinate-requires-4 c κs = tt
 loop-holds : tie.Need-loop-holds Inv-loop μ-loop
 loop-holds c =
     let start = c .before .before .before .before .before .before .before .before .before .before in
-    record { scan = refl; unpaired = let f = start .pre .3 in omega arith; g-long = refl; w-long = refl }
+    record { scan = refl; unpaired = let f = start .pre .1 in omega arith; g-long = refl; w-long = refl }
 
 pair-row-requires : tie.Need-pair-row-requires Inv-loop μ-loop
 pair-row-requires c κs =
@@ -45,14 +48,12 @@ pair-row-requires c κs =
     let later = c .before .before .before .before .before .before .before .before .later in
     let earlier = c .before .before .before .before .before .before .before .before .before .earlier in
     let start = c .before .before .before .before .before .before .before .before .before .before .before .before .before .before in
-    let f = start .pre .3 in
+    let f = start .pre .1 in
     let x = fits-coord (start .args .n) (start .args .b) (start .args .a) f in
     let e : coordinate3 .result ≤ start .args .n = rw (coordinate3 .ensures) (fits-coord (start .args .n) (start .args .b) (later .result) f) in (
-      start .pre .0,
-      rw (loop-told .inv .g-long) (start .pre .1),
-      rw (loop-told .inv .w-long) (start .pre .2),
-      omega (arith, start .pre .4),
-      omega (arith, start .pre .5),
+      rw (loop-told .inv .g-long, loop-told .inv .w-long) (start .pre .0),
+      omega (arith, start .pre .2),
+      omega (arith, start .pre .3),
       rw (coordinate2 .ensures) (fits-coord (start .args .n) (start .args .b) (earlier .result) f),
       omega (arith, c .before .before .loop-test .taken),
       loop-told .inv .unpaired,
@@ -62,12 +63,11 @@ add-v : tie.Need-add-v Inv-loop μ-loop
 add-v c =
     let loop-test = c .before .before .before .before .before .before .before .loop-test in
     let coordinate3 = c .before .before .before .before .before .before .before .before .before .before .coordinate3 in
-    let later = c .before .before .before .before .before .before .before .before .before .before .before .before .before .later in
-    let back = c .before .before .before .before .before .before .before .before .before .before in
-    let start = back .before .before .before .before .before .before .before .before .before in
-    let f = start .pre .3 in
-    let e : coordinate3 .result ≤ start .args .n = rw (coordinate3 .ensures) (fits-coord (start .args .n) (start .args .b) (later .result) f) in
-    omega (arith, loop-test .taken, start .pre .0)
+    let later = c .before .before .before .before .before .before .before .before .before .before .before .before .before in
+    let start = later .before .before .before .before .before .before in
+    let f = start .pre .1 in
+    let e : coordinate3 .result ≤ start .args .n = rw (coordinate3 .ensures) (fits-coord (start .args .n) (start .args .b) (later .later .result) f) in
+    omega (arith, loop-test .taken, start .pre .0 .0)
 
 loop-less : tie.Need-loop-less Inv-loop μ-loop
 loop-less c = omega (arith, c .before .before .before .before .before .before .before .loop-test .taken)
@@ -92,7 +92,7 @@ returns c =
     let later = c .before .before .before .before .before .before .later in
     let earlier = c .before .before .before .before .before .before .before .earlier in
     let start = c .before .before .before .before .before .before .before .before .before .before .before .before in
-    planing-end _ _ _ _ (start .pre .3) (start .pre .4) (start .pre .5) _ _ (start .pre .2) _ _ _ _ _ _ _ _ _ (c .before .loop .inv)
+    planing-end _ _ _ _ (start .pre .1) (start .pre .2) (start .pre .3) _ _ (start .pre .0 .2) _ _ _ _ _ _ _ _ _ (c .before .loop .inv)
     (c .loop-test .left) (coordinate .ensures ∙ ap (λ (x : Axis). coord x (start .args .b .lo)) (earlier .ensures))
     (coordinate2 .ensures ∙ ap (λ (x : Axis). coord x (start .args .b .hi)) (earlier .ensures))
     (c .before .before .before .coordinate3 .ensures ∙ ap (λ (x : Axis). coord x (start .args .b .hi)) (later .ensures))

@@ -14,7 +14,7 @@ turn-faces-requires : tie.Need-turn-faces-requires
 turn-faces-requires c κs =
     let s = c .before .before .before .before .before .before .before .before in
     let e = c .before .before .before .before .before .number-of .ensures in
-    (s .pre .0, s .pre .2, e .1, flip-edged _ _ (s .pre .3) _ (e .0))
+    (s .pre .0 .0, s .pre .0 .2, e .1, flip-edged _ _ (s .pre .1) _ (e .0))
 
 same-length : tie.Need-same-length
 same-length c = search needs
@@ -28,7 +28,7 @@ returns c =
     let number-of = c .before .before .before .before .before .before .before .before .number-of in
     let s = c .before .before .before .before .before .before .before .before .before .before .before in
     let e = number-of .ensures .0 in
-    (flip-turn _ _ (s .pre .3) _ e _ _ (turn .ensures), flip-works _ _ (s .pre .3) _ e _ _ (c .before .before .turn-faces .ensures))
+    (flip-turn _ _ (s .pre .1) _ e _ _ (turn .ensures), flip-works _ _ (s .pre .1) _ e _ _ (c .before .before .turn-faces .ensures))
 
 pub flip-spec : {M : Type 1} → statement M
 flip-spec =

@@ -1,3 +1,5 @@
+-- `flip_run` meets its contract. The loop's invariant: k edges are left in the row, and flipping them now gives what flipping all gave at the start.
+-- Assumes nothing.
 use Rattle.halving.proofs.flip_run.Tie as tie
 use Rattle.halving.proofs.flip_run.Statement.{statement}
 use mathlib.Core.Path.{_≡_, refl}
@@ -11,15 +13,13 @@ abbrev μ-loop : tie.MeasureT-loop
 μ-loop n grid₀ work₀ b count at₀ k₀ grid work at k = k
 
 loop-holds : tie.Need-loop-holds Inv-loop μ-loop
-loop-holds c = record { run = c .before .before .pre .3; grid = refl; work = refl; g-long = refl; w-long = refl }
+loop-holds c = record { run = c .before .before .pre .1; grid = refl; work = refl; g-long = refl; w-long = refl }
 
 flip-requires : tie.Need-flip-requires Inv-loop μ-loop
 flip-requires c κs =
     let loop-told = c .before .before .before .loop in
     let start = c .before .before .before .before .before .before in (
-      start .pre .0,
-      rw (loop-told .inv .g-long) (start .pre .1),
-      rw (loop-told .inv .w-long) (start .pre .2),
+      rw (loop-told .inv .g-long, loop-told .inv .w-long) (start .pre .0),
       run-edge _ _ _ _ (loop-told .inv .run) (c .before .before .loop-test .taken),
     )
 
@@ -28,7 +28,7 @@ next-edge-requires c κs =
     let loop-test = c .before .before .before .before .before .before .before .loop-test in
     let loop-told = c .before .before .before .before .before .before .before .before .loop in
     let start = c .before .before .before .before .before .before .before .before .before .before .before in
-    (start .pre .0, run-low _ _ _ _ (loop-told .inv .run) (loop-test .taken))
+    (start .pre .0 .0, run-low _ _ _ _ (loop-told .inv .run) (loop-test .taken))
 
 sub-k : tie.Need-sub-k Inv-loop μ-loop
 sub-k c = c .before .before .before .before .before .before .before .before .loop-test .taken

@@ -1,3 +1,4 @@
+-- `join` flips two runs of edges, along the earlier axis of the plane and along the later, which are the rule's path. Assumes nothing.
 use Rattle.halving.proofs.join.Tie as tie
 use borrow.Author.Needs.{needs}
 use Rattle.halving.proofs.join.Statement.{statement}
@@ -31,10 +32,8 @@ flip-run-requires c κs =
     let earlier = c .before .before .before .before .before .before .earlier in
     let start = c .before .before .before .before .before .before .before .before .before in (
       start .pre .0,
-      start .pre .1,
-      start .pre .2,
       join-run (start .args .n) (start .args .a) (start .args .m) (start .args .p) (start .args .q) _ _
-          (earlier .ensures) (later .ensures) _ _ (earlier .ensures) (later .ensures) (start .pre .3) (start .pre .4) (start .pre .5) (start .pre .6) _
+          (earlier .ensures) (later .ensures) _ _ (earlier .ensures) (later .ensures) (start .pre .1) (start .pre .2) (start .pre .3) (start .pre .4) _
           _ _ (least .ensures) (c .before .before .before .most .ensures) (c .before .before .point-at .ensures),
     )
 
@@ -55,18 +54,14 @@ sub-flip-run-2 c = search needs
 
 flip-run-requires-2 : tie.Need-flip-run-requires-2
 flip-run-requires-2 c κs =
-    let least2 = c .before .before .before .before .least2 in
-    let flip-run = c .before .before .before .before .before .before .before .before .before .flip-run in
-    let later = c .before .before .before .before .before .before .before .before .before .before .before .before .before .before .before .later in
-    let back = c .before .before .before .before .before .before .before .before .before .before in
-    let earlier = back .before .before .before .before .before .before .earlier in
-    let start = back .before .before .before .before .before .before .before .before .before in (
-      start .pre .0,
-      rw (flip-run .kept .1 .0) (start .pre .1),
-      rw (flip-run .kept .1 .1 .0) (start .pre .2),
+    let first = c .before .before .before .before .before .before .before .before .before in
+    let later = first .before .before .before .before .before .before .later in
+    let earlier = first .before .before .before .before .before .before .before .earlier in
+    let start = first .before .before .before .before .before .before .before .before .before .before in (
+      rw (first .flip-run .kept .1 .0, first .flip-run .kept .1 .1 .0) (start .pre .0),
       join-run₂ (start .args .n) (start .args .a) (start .args .m) (start .args .p) (start .args .q) _ _ (earlier .ensures) (later .ensures) _ _
-          (earlier .ensures) (later .ensures) (start .pre .3) (start .pre .4) (start .pre .5) (start .pre .6) _ _ _ (least2 .ensures)
-          (c .before .before .before .most2 .ensures) (c .before .before .point-at2 .ensures),
+          (earlier .ensures) (later .ensures) (start .pre .1) (start .pre .2) (start .pre .3) (start .pre .4) _ _ _
+          (c .before .before .before .before .least2 .ensures) (c .before .before .before .most2 .ensures) (c .before .before .point-at2 .ensures),
     )
 
 same-length : tie.Need-same-length
@@ -77,25 +72,23 @@ same-length-2 c = search needs
 
 returns : tie.Need-returns
 returns c =
-    let flip-run2 = c .before .before .before .before .flip-run2 in
-    let point-at2 = c .before .before .before .before .before .before .before .point-at2 in
-    let most2 = c .before .before .before .before .before .before .before .before .most2 in
-    let least2 = c .before .before .before .before .before .before .before .before .before .least2 in
-    let flip-run = c .before .before .before .before .before .before .before .before .before .before .before .before .before .before .flip-run in
-    let back = c .before .before .before .before .before .before .before .before .before .before in
-    let point-at = back .before .before .before .before .before .before .before .point-at in
-    let most = back .before .before .before .before .before .before .before .before .most in
-    let least = back .before .before .before .before .before .before .before .before .before .least in
-    let later = back .before .before .before .before .before .before .before .before .before .before .later in
-    let earlier = back .before .before .before .before .before .before .before .before .before .before .before .earlier in
-    let back2 = back .before .before .before .before .before .before .before .before .before .before in
-    let start = back2 .before .before .before .before in (
+    let second = c .before .before .before .before in
+    let point-at2 = second .before .before .before .point-at2 in
+    let most2 = second .before .before .before .before .most2 in
+    let least2 = second .before .before .before .before .before .least2 in
+    let first = second .before .before .before .before .before .before .before .before .before .before in
+    let point-at = first .before .before .before .point-at in
+    let most = first .before .before .before .before .most in
+    let least = first .before .before .before .before .before .least in
+    let later = first .before .before .before .before .before .before .later in
+    let earlier = first .before .before .before .before .before .before .before .earlier in
+    let start = first .before .before .before .before .before .before .before .before .before .before in (
       join-turns (start .args .n) (start .args .a) (start .args .m) (start .args .p) (start .args .q) _ _ (earlier .ensures) (later .ensures) _ _ _ _ _ _
-          (least .ensures) (most .ensures) (point-at .ensures) (least2 .ensures) (most2 .ensures) (point-at2 .ensures) _ _ _ (flip-run .ensures .0)
-          (flip-run2 .ensures .0),
+          (least .ensures) (most .ensures) (point-at .ensures) (least2 .ensures) (most2 .ensures) (point-at2 .ensures) _ _ _
+          (first .flip-run .ensures .0) (second .flip-run2 .ensures .0),
       join-works (start .args .n) (start .args .a) (start .args .m) (start .args .p) (start .args .q) _ _ (earlier .ensures) (later .ensures) _ _ _ _ _ _
-          (least .ensures) (most .ensures) (point-at .ensures) (least2 .ensures) (most2 .ensures) (point-at2 .ensures) _ _ _ (flip-run .ensures .1)
-          (flip-run2 .ensures .1),
+          (least .ensures) (most .ensures) (point-at .ensures) (least2 .ensures) (most2 .ensures) (point-at2 .ensures) _ _ _
+          (first .flip-run .ensures .1) (second .flip-run2 .ensures .1),
     )
 
 pub join-spec : {M : Type 1} → statement M

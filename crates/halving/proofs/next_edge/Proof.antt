@@ -1,3 +1,4 @@
+-- `next_edge` meets its contract: the same axis, one point further. Assumes nothing.
 use Rattle.halving.proofs.next_edge.Tie as tie
 use borrow.Author.Needs.{needs}
 use Rattle.halving.proofs.next_edge.Statement.{statement}

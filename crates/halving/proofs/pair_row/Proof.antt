@@ -1,29 +1,30 @@
+-- `pair_row` meets its contract. The loop's invariant: the spots from u on, scanned from the state now, give what the row gives from the start.
+-- Assumes nothing.
 use Rattle.halving.proofs.pair_row.Tie as tie
 use Rattle.halving.proofs.pair_row.Statement.{statement}
 use mathlib.Core.Path.{refl}
 use Prim.Native.Nat.{_-_}
 use native.Mathlib.Omega.{arith}
-use Rattle.halving.proofs.Scans.{Rowing, rowing-on, rowing-end}
+use Rattle.halving.specs.Halving.{scanOf}
+use Rattle.halving.proofs.Rows.{Rowing, rowing-on, rowing-end}
 
 abbrev Inv-loop : tie.InvT-loop
-Inv-loop n grid₀ work₀ a m from to v h₀ u₀ grid work h u = Rowing n a m to v (record { unpaired = h₀; grid = grid₀; work = work₀ }) u₀ u h grid work
+Inv-loop n grid₀ work₀ a m from to v h₀ u₀ grid work h u = Rowing n a m to v (scanOf h₀ grid₀ work₀) u₀ u h grid work
 
 abbrev μ-loop : tie.MeasureT-loop
 μ-loop n grid₀ work₀ a m from to v h₀ u₀ grid work h u = to - u
 
 loop-holds : tie.Need-loop-holds Inv-loop μ-loop
-loop-holds c = record { scan = refl; unpaired = c .before .before .pre .7; g-long = refl; w-long = refl }
+loop-holds c = record { scan = refl; unpaired = c .before .before .pre .5; g-long = refl; w-long = refl }
 
 pair-spot-requires : tie.Need-pair-spot-requires Inv-loop μ-loop
 pair-spot-requires c κs =
     let loop-told = c .before .before .before .loop in
     let start = c .before .before .before .before .before .before in (
-      start .pre .0,
-      rw (loop-told .inv .g-long) (start .pre .1),
-      rw (loop-told .inv .w-long) (start .pre .2),
-      start .pre .3,
-      start .pre .4,
-      omega (arith, c .before .before .loop-test .taken, start .pre .5, start .pre .6),
+      rw (loop-told .inv .g-long, loop-told .inv .w-long) (start .pre .0),
+      start .pre .1,
+      start .pre .2,
+      omega (arith, c .before .before .loop-test .taken, start .pre .3, start .pre .4),
       loop-told .inv .unpaired,
     )
 
@@ -31,7 +32,7 @@ add-u : tie.Need-add-u Inv-loop μ-loop
 add-u c =
     let loop-test = c .before .before .before .before .before .before .before .loop-test in
     let start = c .before .before .before .before .before .before .before .before .before .before .before in
-    omega (arith, loop-test .taken, start .pre .5, start .pre .0)
+    omega (arith, loop-test .taken, start .pre .3, start .pre .0 .0)
 
 loop-less : tie.Need-loop-less Inv-loop μ-loop
 loop-less c = omega (arith, c .before .before .before .before .before .before .before .loop-test .taken)

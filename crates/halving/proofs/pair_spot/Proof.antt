@@ -1,3 +1,4 @@
+-- `pair_spot` meets its contract in its three cases: the face is no working face, it waits, or it is joined with the one that waits. Assumes nothing.
 use Rattle.halving.proofs.pair_spot.Tie as tie
 use borrow.Author.Needs.{needs}
 use Rattle.halving.proofs.pair_spot.Statement.{statement}
@@ -11,10 +12,10 @@ point-at-requires c κs = search needs
 member-requires : tie.Need-member-requires
 member-requires c κs =
     let start = c .before .before .before .before in (
-      start .pre .0,
-      start .pre .2,
+      start .pre .0 .0,
+      start .pre .0 .2,
       place-low (start .args .n) (start .args .a) (start .args .m) (start .args .q) (start .args .h)
-          (start .args .grid .now) (start .args .work .now) _ _ (c .before .point-at .ensures) refl (start .pre .4) (start .pre .5),
+          (start .args .grid .now) (start .args .work .now) _ _ (c .before .point-at .ensures) refl (start .pre .2) (start .pre .3),
     )
 
 same-length : tie.Need-same-length
@@ -23,7 +24,7 @@ same-length c = search needs
 returns : tie.Need-returns
 returns c =
     let start = c .before .before .before .before .before .before in
-    (pass-is _ _ _ _ _ _ _ _ _ (c .before .before .before .point-at .ensures) (c .before .member .ensures) (not-true _ (c .if1 .taken)), start .pre .6)
+    (pass-is _ _ _ _ _ _ _ _ _ (c .before .before .before .point-at .ensures) (c .before .member .ensures) (not-true _ (c .if1 .taken)), start .pre .4)
 
 join-requires : tie.Need-join-requires
 join-requires c κs = search needs
@@ -42,8 +43,8 @@ returns-2 c =
     let member = c .before .before .before .before .before .before .before .before .before .before .member in
     let point-at = c .before .before .before .before .before .before .before .before .before .before .before .before .point-at in
     let start = c .before .before .before .before .before .before .before .before .before .before .before .before .before .before .before in (
-      meet-is _ _ _ _ _ _ _ _ _ (point-at .ensures) (member .ensures) (not-false _ (if1 .left)) (if2 .taken) _ _ (join .ensures .0) (join .ensures .1),
-      start .pre .5,
+      meet-is _ _ _ _ _ _ _ _ _ (point-at .ensures) (member .ensures) (not-false _ (if1 .left)) (if2 .taken) _ _ (join .ensures),
+      start .pre .3,
     )
 
 same-length-4 : tie.Need-same-length-4
@@ -53,7 +54,7 @@ returns-3 : tie.Need-returns-3
 returns-3 c =
     let point-at = c .before .before .before .before .point-at in
     let start = c .before .before .before .before .before .before .before in
-    (wait-is _ _ _ _ _ _ _ _ _ (point-at .ensures) (c .before .before .member .ensures) (not-false _ (c .before .if1 .left)) (c .if2 .left), start .pre .5)
+    (wait-is _ _ _ _ _ _ _ _ _ (point-at .ensures) (c .before .before .member .ensures) (not-false _ (c .before .if1 .left)) (c .if2 .left), start .pre .3)
 
 pub pair-spot-spec : {M : Type 1} → statement M
 pair-spot-spec =

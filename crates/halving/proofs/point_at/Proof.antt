@@ -1,3 +1,4 @@
+-- `point_at` meets its contract, axis by axis. Assumes nothing.
 use Rattle.halving.proofs.point_at.Tie as tie
 use borrow.Author.Needs.{needs}
 use Rattle.halving.proofs.point_at.Statement.{statement}

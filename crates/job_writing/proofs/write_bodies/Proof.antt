@@ -42,114 +42,86 @@ point-count-requires c κs = search needs
 all-fit-requires : tie.Need-all-fit-requires
 all-fit-requires c κs = search needs
 
+-- where the sizes are judged: how many bodies there are
+count-is : (c : tie.After-all-fit) →
+    let count = c .before .before .before .before .one .result + c .before .before .before .one2 .result + c .before .before .one3 .result in
+    let s = c .before .before .before .before .before .before .before .before .before in
+    count ≡ length (chosen (s .args .w) (s .args .grid .now) (s .args .triangles .now) (s .args .quads .now))
+count-is c =
+    let x = c .before .before .before .before .one .ensures .0 in
+    let y = c .before .before .before .one2 .ensures .0 in
+    let z = c .before .before .one3 .ensures .0 in
+    let s = c .before .before .before .before .before .before .before .before .before in
+    (λ i. x i + y i + z i)
+    ∙ sym (chosen-count (s .args .w) (s .args .grid .now) (s .args .triangles .now) (s .args .quads .now))
+
+count-most : (c : tie.After-all-fit) →
+    let count = c .before .before .before .before .one .result + c .before .before .before .one2 .result + c .before .before .one3 .result in
+    count ≤ 3
+count-most c =
+    let one = c .before .before .before .before .one in
+    let one2 = c .before .before .before .one2 in
+    omega (arith, one .ensures .1, one2 .ensures .1, c .before .before .one3 .ensures .1)
+
+-- and whether they fit
+fits-is : (c : tie.After-all-fit) →
+    let s = c .before .before .before .before .before .before .before .before .before in
+    let b = chosen (s .args .w) (s .args .grid .now) (s .args .triangles .now) (s .args .quads .now) in
+    c .all-fit .result ≡ fitsFrom (pointCount (s .args .n)) (tableSize (length b)) b
+fits-is c =
+    let s = c .before .before .before .before .before .before .before .before .before in
+    let b = chosen (s .args .w) (s .args .grid .now) (s .args .triangles .now) (s .args .quads .now) in
+    c .all-fit .ensures ∙ (λ i. fitsFrom (c .before .point-count .ensures .0 i) (tableSize (count-is c i)) b)
+
 returns : tie.Need-returns
 returns c =
-    let start = c .before .before .before .before .before .before .before .before .before .before in
-    let w = start .args .w in
-    let g = start .args .grid .now in
-    let t = start .args .triangles .now in
-    let q = start .args .quads .now in
-    let one = c .before .before .before .before .before .one in
-    let one2 = c .before .before .before .before .one2 in
-    let one3 = c .before .before .before .one3 in
-    let b = chosen w g t q in
-    let count : one .result + one2 .result + one3 .result ≡ length b =
-    (λ i. one .ensures .0 i + one2 .ensures .0 i + one3 .ensures .0 i) ∙ sym (chosen-count w g t q) in
-    let fits = c .before .all-fit .ensures ∙ (λ i. fitsFrom (c .before .before .point-count .ensures .0 i) (tableSize (count i)) b) in
-    write-place (start .args .level) (start .args .n) w g t q (start .args .out .now) (fails fits (c .if1 .taken))
+    let a = c .before .before .before .before .before .before .before .before .before .before .args in
+    write-place (a .level) (a .n) (a .w) (a .grid .now) (a .triangles .now) (a .quads .now) (a .out .now) (fails (fits-is (c .before)) (c .if1 .taken))
 
 grid-fits-requires : tie.Need-grid-fits-requires
 grid-fits-requires c κs =
-    let start = c .before .before .before .before .before .before .before .before .before .before in
-    let w = start .args .w in
-    let g = start .args .grid .now in
-    let t = start .args .triangles .now in
-    let q = start .args .quads .now in
-    let one = c .before .before .before .before .before .one in
-    let one2 = c .before .before .before .before .one2 in
-    let one3 = c .before .before .before .one3 in
-    let b = chosen w g t q in
-    let count : one .result + one2 .result + one3 .result ≡ length b =
-    (λ i. one .ensures .0 i + one2 .ensures .0 i + one3 .ensures .0 i) ∙ sym (chosen-count w g t q) in
-    let fits = c .before .all-fit .ensures ∙ (λ i. fitsFrom (c .before .before .point-count .ensures .0 i) (tableSize (count i)) b) in
-    let long = grid-long (pointCount (start .args .n)) (tableSize (length b)) (w .grid) g (keep (w .triangles) 2 t ++ keep (w .quads) 3 q)
-    (holds fits (c .if1 .left)) in
-    (start .pre, λ y. le-of-eq (sym (long y)))
+    let s = c .before .before .before .before .before .before .before .before .before .before in
+    let w = s .args .w in
+    let g = s .args .grid .now in
+    let t = s .args .triangles .now in
+    let q = s .args .quads .now in
+    let long = grid-long (pointCount (s .args .n)) (tableSize (length (chosen w g t q))) (w .grid) g (keep (w .triangles) 2 t ++ keep (w .quads) 3 q)
+    (holds (fits-is (c .before)) (c .if1 .left)) in
+    (s .pre, λ y. le-of-eq (sym (long y)))
 
 returns-2 : tie.Need-returns-2
 returns-2 c =
-    let start = c .before .before .before .before .before .before .before .before .before .before .before .before in
-    let w = start .args .w in
-    let g = start .args .grid .now in
-    let t = start .args .triangles .now in
-    let q = start .args .quads .now in
-    let one = c .before .before .before .before .before .before .before .one in
-    let one2 = c .before .before .before .before .before .before .one2 in
-    let one3 = c .before .before .before .before .before .one3 in
-    let point-count = c .before .before .before .before .point-count in
-    let b = chosen w g t q in
-    let count : one .result + one2 .result + one3 .result ≡ length b =
-    (λ i. one .ensures .0 i + one2 .ensures .0 i + one3 .ensures .0 i) ∙ sym (chosen-count w g t q) in
-    let fits = c .before .before .before .all-fit .ensures ∙ (λ i. fitsFrom (point-count .ensures .0 i) (tableSize (count i)) b) in
-    write-grid (start .args .level) (start .args .n) w g t q (start .args .out .now) (holds fits (c .before .before .if1 .left))
-    (fails (c .before .grid-fits .ensures) (c .if2 .taken))
+    let fit = c .before .before .before in
+    let a = fit .before .before .before .before .before .before .before .before .before .args in
+    write-grid (a .level) (a .n) (a .w) (a .grid .now) (a .triangles .now) (a .quads .now) (a .out .now)
+    (holds (fits-is fit) (c .before .before .if1 .left)) (fails (c .before .grid-fits .ensures) (c .if2 .taken))
 
 end-of-requires : tie.Need-end-of-requires
 end-of-requires c κs =
-    let start = c .before .before .before .before .before .before .before .before .before .before .before .before in
-    let w = start .args .w in
-    let g = start .args .grid .now in
-    let t = start .args .triangles .now in
-    let q = start .args .quads .now in
-    let one = c .before .before .before .before .before .before .before .one in
-    let one2 = c .before .before .before .before .before .before .one2 in
-    let one3 = c .before .before .before .before .before .one3 in
-    let all-fit = c .before .before .before .all-fit in
-    let point-count = c .before .before .before .before .point-count in
-    let sizes = chosen-sizes (point-count .result) _ w g t q (holds (all-fit .ensures) (c .before .before .if1 .left)) in
-    (omega (arith, one .ensures .1, one2 .ensures .1, one3 .ensures .1), sizes)
+    let fit = c .before .before .before in
+    let a = fit .before .before .before .before .before .before .before .before .before .args in
+    let all = holds (fit .all-fit .ensures) (c .before .before .if1 .left) in
+    let sizes = chosen-sizes (fit .before .point-count .result) _ (a .w) (a .grid .now) (a .triangles .now) (a .quads .now) all in
+    (omega (arith, count-most fit), sizes)
 
 returns-3 : tie.Need-returns-3
 returns-3 c =
-    let start = c .before .before .before .before .before .before .before .before .before .before .before .before .before .before in
-    let w = start .args .w in
-    let g = start .args .grid .now in
-    let t = start .args .triangles .now in
-    let q = start .args .quads .now in
-    let out = start .args .out .now in
-    let one = c .before .before .before .before .before .before .before .before .before .one in
-    let one2 = c .before .before .before .before .before .before .before .before .one2 in
-    let one3 = c .before .before .before .before .before .before .before .one3 in
-    let all-fit = c .before .before .before .before .before .all-fit in
-    let point-count = c .before .before .before .before .before .before .point-count in
-    let if1 = c .before .before .before .before .if1 in
-    let b = chosen w g t q in
-    let count : one .result + one2 .result + one3 .result ≡ length b =
-    (λ i. one .ensures .0 i + one2 .ensures .0 i + one3 .ensures .0 i) ∙ sym (chosen-count w g t q) in
-    let fits = all-fit .ensures ∙ (λ i. fitsFrom (point-count .ensures .0 i) (tableSize (count i)) b) in
-    let end = c .before .end-of .ensures ∙ ap (λ (m : ℕ). endFrom (tableSize m) b) count in
-    let short : length out < endFrom (tableSize (length b)) b = omega (arith, end, c .if3 .taken) in
-    write-short (start .args .level) (start .args .n) w g t q out (holds fits (if1 .left))
-    (holds (c .before .before .before .grid-fits .ensures) (c .before .before .if2 .left)) short
+    let fit = c .before .before .before .before .before in
+    let a = fit .before .before .before .before .before .before .before .before .before .args in
+    let b = chosen (a .w) (a .grid .now) (a .triangles .now) (a .quads .now) in
+    let end = c .before .end-of .ensures ∙ ap (λ (m : ℕ). endFrom (tableSize m) b) (count-is fit) in
+    let short : length (a .out .now) < endFrom (tableSize (length b)) b = omega (arith, end, c .if3 .taken) in
+    write-short (a .level) (a .n) (a .w) (a .grid .now) (a .triangles .now) (a .quads .now) (a .out .now)
+    (holds (fits-is fit) (c .before .before .before .before .if1 .left)) (holds (c .before .before .before .grid-fits .ensures) (c .before .before .if2 .left))
+    short
 
 put-file-requires : tie.Need-put-file-requires
 put-file-requires c κs =
-    let start = c .before .before .before .before .before .before .before .before .before .before .before .before .before .before .before in
-    let w = start .args .w in
-    let g = start .args .grid .now in
-    let t = start .args .triangles .now in
-    let q = start .args .quads .now in
-    let one = c .before .before .before .before .before .before .before .before .before .before .one in
-    let one2 = c .before .before .before .before .before .before .before .before .before .one2 in
-    let one3 = c .before .before .before .before .before .before .before .before .one3 in
-    let all-fit = c .before .before .before .before .before .before .all-fit in
-    let point-count = c .before .before .before .before .before .before .before .point-count in
-    let if1 = c .before .before .before .before .before .if1 in
-    let b = chosen w g t q in
-    let sizes = chosen-sizes (point-count .result) _ w g t q (holds (all-fit .ensures) (if1 .left)) in
-    let count : one .result + one2 .result + one3 .result ≡ length b =
-    (λ i. one .ensures .0 i + one2 .ensures .0 i + one3 .ensures .0 i) ∙ sym (chosen-count w g t q) in (
-      (omega (arith, one .ensures .1, one2 .ensures .1, one3 .ensures .1), count, refl),
+    let fit = c .before .before .before .before .before .before in
+    let a = fit .before .before .before .before .before .before .before .before .before .args in
+    let all = holds (fit .all-fit .ensures) (c .before .before .before .before .before .if1 .left) in
+    let sizes = chosen-sizes (fit .before .point-count .result) _ (a .w) (a .grid .now) (a .triangles .now) (a .quads .now) all in (
+      (omega (arith, count-most fit), count-is fit, refl),
       (sizes, omega (arith, c .before .before .end-of .ensures, c .before .if3 .left)),
     )
 
@@ -158,30 +130,17 @@ same-length c = search needs
 
 returns-4 : tie.Need-returns-4
 returns-4 c =
-    let three = c .before .before .before .before .before .before .before .before .before .before .before in
-    let start = three .before .before .before .before .before .before .before in
-    let w = start .args .w in
-    let g = start .args .grid .now in
-    let t = start .args .triangles .now in
-    let q = start .args .quads .now in
-    let out = start .args .out .now in
-    let one = c .before .before .before .before .before .before .before .before .before .before .before .before .before .one in
-    let one2 = c .before .before .before .before .before .before .before .before .before .before .before .before .one2 in
-    let one3 = c .before .before .before .before .before .before .before .before .before .before .before .one3 in
-    let all-fit = c .before .before .before .before .before .before .before .before .before .all-fit in
-    let point-count = c .before .before .before .before .before .before .before .before .before .before .point-count in
     let end-of = c .before .before .before .before .before .end-of in
-    let if3 = c .before .before .before .before .if3 in
-    let if1 = c .before .before .before .before .before .before .before .before .if1 in
-    let grid-fits = c .before .before .before .before .before .before .before .grid-fits in
     let if2 = c .before .before .before .before .before .before .if2 in
-    let b = chosen w g t q in
-    let count : one .result + one2 .result + one3 .result ≡ length b =
-    (λ i. one .ensures .0 i + one2 .ensures .0 i + one3 .ensures .0 i) ∙ sym (chosen-count w g t q) in
-    let fits = all-fit .ensures ∙ (λ i. fitsFrom (point-count .ensures .0 i) (tableSize (count i)) b) in
-    let end = end-of .ensures ∙ ap (λ (m : ℕ). endFrom (tableSize m) b) count in
-    let room : endFrom (tableSize (length b)) b ≤ length out = omega (arith, end, if3 .left) in
-    write-done (start .args .level) (start .args .n) w g t q out (holds fits (if1 .left)) (holds (grid-fits .ensures) (if2 .left))
+    let grid-fits = c .before .before .before .before .before .before .before .grid-fits in
+    let if1 = c .before .before .before .before .before .before .before .before .if1 in
+    let fit = c .before .before .before .before .before .before .before .before .before in
+    let a = fit .before .before .before .before .before .before .before .before .before .args in
+    let b = chosen (a .w) (a .grid .now) (a .triangles .now) (a .quads .now) in
+    let end = end-of .ensures ∙ ap (λ (m : ℕ). endFrom (tableSize m) b) (count-is fit) in
+    let room : endFrom (tableSize (length b)) b ≤ length (a .out .now) = omega (arith, end, c .before .before .before .before .if3 .left) in
+    write-done (a .level) (a .n) (a .w) (a .grid .now) (a .triangles .now) (a .quads .now) (a .out .now)
+    (holds (fits-is fit) (if1 .left)) (holds (grid-fits .ensures) (if2 .left))
     (end-of .result) _ room end (c .before .before .put-file .ensures)
 
 pub write-bodies-spec : {M : Type 1} → statement M

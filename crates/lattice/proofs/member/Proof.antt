@@ -1,3 +1,4 @@
+-- `member` meets its contract: the place's bit stands in the byte of its point's number. Assumes nothing.
 use Rattle.lattice.proofs.member.Tie as tie
 use borrow.Author.Needs.{needs}
 use Rattle.lattice.proofs.member.Statement.{statement}

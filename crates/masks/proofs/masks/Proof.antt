@@ -1,8 +1,7 @@
 -- `masks` gives the first row that applies, and writes the pictures where none does. Assumes nothing.
-use mathlib.Core.Path.{_≡_, sym, ap, ap₂, subst, _∙_}
-use mathlib.Core.Bool.{true, false}
+use mathlib.Core.Path.{_≡_, sym, ap, ap₂, _∙_}
 use mathlib.Core.List.{List}
-use Prim.Native.Nat.{ℕ, suc, _+_, _*_, _≤_, _<_}
+use Prim.Native.Nat.{ℕ, suc, _+_, _*_, _≤_}
 use native.Mathlib.Nat.{mul-le-mul}
 use native.Mathlib.Numerals.{add-one}
 use native.Mathlib.Omega.{arith}
@@ -10,15 +9,15 @@ use borrow.Author.Needs.{needs}
 use borrow.Author.Tests.{lt-ltb, le-ltb}
 use lib.ListN.{length}
 use Rattle.rules.specs.Lists.{each, upto}
-use Rattle.rules.specs.Grid.{marks, inside, isGrid}
+use Rattle.rules.specs.Grid.{inside}
 use Rattle.lattice.specs.declared.level.Level.{Level}
-use Rattle.lattice.specs.Levels.{cellsOf, pointsOf}
+use Rattle.lattice.specs.Levels.{cellsOf}
 use Rattle.lattice.proofs.LevelFacts.{cells-most}
 use Rattle.lattice.proofs.Tests.{fails, holds}
 use Rattle.refusals.proofs.Levels.{read-unknown, read-known}
 use Rattle.text.specs.Text.{Put}
 use Rattle.masks.specs.Mask.{masks, maskAt, maskSize}
-use Rattle.masks.specs.Call.{Outcome, refused, done, masksRows, masksCall}
+use Rattle.masks.specs.Call.{Outcome, done, masksRows, masksCall}
 use Rattle.masks.proofs.Parted.{put-front}
 use Rattle.masks.proofs.Shown.{masks-are, masks-length}
 use Rattle.masks.proofs.masks.Statement.{statement}
@@ -155,11 +154,10 @@ returns-6 c =
     let if1 = c .before .before .before .before .before .before .before .before .before .before .if1 in
     let points = c .before .before .before .before .before .before .before .before .before .before .before .points in
     let cells = c .before .before .before .before .before .before .before .before .before .before .before .before .cells in
-    let l-told = c .before .before .before .before .before .before .before .before .before .before .before .before .before .before .l in
-    let back = c .before .before .before .before .before .before .before .before .before .before in
-    let read = back .before .before .before .before .before .before .read in
-    let start = back .before .before .before .before .before .before .before .before .before in
-    let level = read-known _ _ (sym (read .ensures) ∙ l-told .given .1) in
+    let known = c .before .before .before .before .before .before .before .before .before .before .before .before .before .before in
+    let l-told = known .l in
+    let start = known .before .before .before .before .before in
+    let level = read-known _ _ (sym (known .before .before .read .ensures) ∙ l-told .given .1) in
     let grid = holds (rw (cells .ensures) at (is-grid .ensures)) (if2 .left) in
     let fit = holds (rw (cells .ensures) at (signs-fit .ensures)) (if3 .left) in
     let w = ap (λ (n : ℕ). n + 1) (cells .ensures) in

@@ -1,12 +1,9 @@
 -- `put_mask` meets its contract: the header, and the rows behind it. Assumes nothing.
-use mathlib.Core.Path.{_≡_, ap, _∙_}
-use Prim.Native.Nat.{_+_, _*_, _≤_}
 use native.Mathlib.Omega.{arith}
 use borrow.Author.Needs.{needs}
-use lib.ListN.{length}
-use Rattle.text.specs.Text.{ascii, decimal}
+use Rattle.text.specs.Text.{ascii}
 use Rattle.text.proofs.Texts.{put-both, fields-length}
-use Rattle.masks.specs.Mask.{rowBytes, maskAt}
+use Rattle.masks.specs.Mask.{maskAt}
 use Rattle.masks.proofs.put_mask.Statement.{statement}
 use Rattle.masks.proofs.put_mask.Tie as tie
 

@@ -1,6 +1,6 @@
 -- `put_rows` meets its contract: row by row. Assumes nothing.
-use mathlib.Core.Path.{_≡_, refl, sym, ap, _∙_}
-use Prim.Native.Nat.{ℕ, _+_, _*_, _-_, _≤_, _<_}
+use mathlib.Core.Path.{_≡_, refl, _∙_}
+use Prim.Native.Nat.{_+_, _*_, _-_, _≤_}
 use native.Mathlib.Nat.{le-antisymm, mul-zero, add-zero, add-assoc, mul-comm}
 use native.Mathlib.Omega.{arith}
 use lib.ListN.{length}

@@ -1,11 +1,10 @@
 -- `begins_with` meets its contract. The loop's invariant: what is left of the text is compared with what is left of the bytes. Assumes nothing.
 use Rattle.octets.proofs.begins_with.Statement.{statement}
 use Rattle.octets.proofs.begins_with.Tie as tie
-use Prim.Native.Nat.{ℕ, _+_, _≤_, _-_, suc}
+use Prim.Native.Nat.{_≤_, _-_}
 use native.Mathlib.Omega.{arith}
 use native.Mathlib.Numerals.{add-one}
-use mathlib.Core.Path.{_≡_, refl, sym, _∙_, ap}
-use mathlib.Core.Bool.{true, false}
+use mathlib.Core.Path.{_≡_, refl, sym, _∙_}
 use lib.ListN.{length, drop, drop-of-length-le}
 use borrow.Author.Tests.{eq-eqb, ne-eqb}
 use Rattle.octets.specs.Octets.{begins}

@@ -1,4 +1,4 @@
--- `count_inside` meets its contract. Assumes nothing.
+-- `count_inside` meets its contract. The loop's invariant: those found and those from p on are all. Assumes nothing.
 use mathlib.Core.Path.{_≡_, ap, _∙_}
 use Prim.Native.Nat.{_+_, _-_, _≤_}
 use native.Mathlib.Omega.{arith}
@@ -28,7 +28,8 @@ one-inside-requires c κs = tt
 
 add-found : tie.Need-add-found Inv-loop μ-loop
 add-found c =
-    omega (arith, c .one-inside .ensures .1, c .before .before .before .before .points .ensures, points-most (c .before .before .before .before .before .before .args .l))
+    let s = c .before .before .before .before .before .before in
+    omega (arith, c .one-inside .ensures .1, c .before .before .before .before .points .ensures, points-most (s .args .l))
 
 add-p : tie.Need-add-p Inv-loop μ-loop
 add-p c = omega arith
@@ -39,14 +40,18 @@ loop-less c = omega arith
 loop-again : tie.Need-loop-again Inv-loop μ-loop
 loop-again c =
     let l = c .before .before .before .loop in
-    let o = c .one-inside in (
+    let o = c .one-inside in
+    let s = c .before .before .before .before .before .before in (
       omega arith,
       omega (arith, o .ensures .1),
-      inside-next (c .before .before .before .before .before .before .args .grid .now) (l .p) _ (l .found) (o .result) (c .before .before .loop-test .taken) (o .ensures .0) ∙ l .inv .2,
+      inside-next (s .args .grid .now) (l .p) _ (l .found) (o .result) (c .before .before .loop-test .taken) (o .ensures .0) ∙ l .inv .2,
     )
 
 cast-result : tie.Need-cast-result Inv-loop μ-loop
-cast-result c = omega (arith, c .before .loop .inv .0, c .before .loop .inv .1, c .before .before .points .ensures, points-most (c .before .before .before .before .args .l))
+cast-result c =
+    let i = c .before .loop .inv in
+    let s = c .before .before .before .before in
+    omega (arith, i .0, i .1, c .before .before .points .ensures, points-most (s .args .l))
 
 returns : tie.Need-returns Inv-loop μ-loop
 returns c =

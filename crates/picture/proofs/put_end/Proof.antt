@@ -1,4 +1,4 @@
--- `put_end` meets its contract. Assumes nothing.
+-- `put_end` meets its contract: a line end behind the last point of a row, one more behind the last row of a layer. Assumes nothing.
 use native.Mathlib.Omega.{arith}
 use borrow.Author.Tests.{lt-ltb, le-ltb}
 use Rattle.text.proofs.Texts.{put-none}
@@ -22,9 +22,11 @@ same-length c = search needs
 
 returns-2 : tie.Need-returns-2
 returns-2 c =
-    let a = c .before .before .before .before .before .before .before .before .before .before .args in
     let t = c .before .before .put-text .ensures in
-    (rw (le-ltb (a .p .i) (a .n) (c .before .before .before .before .before .before .before .if1 .left), lt-ltb (a .p .j) (a .n) (c .before .before .before .before .before .if2 .taken)) t, omega (arith, t .place))
+    let row = c .before .before .before .before .before .if2 in
+    let line = c .before .before .before .before .before .before .before .if1 in
+    let a = c .before .before .before .before .before .before .before .before .before .before .args in
+    (rw (le-ltb (a .p .i) (a .n) (line .left), lt-ltb (a .p .j) (a .n) (row .taken)) t, omega (arith, t .place))
 
 slice-aggregate-put-text-2 : tie.Need-slice-aggregate-put-text-2
 slice-aggregate-put-text-2 c = search needs
@@ -37,9 +39,11 @@ same-length-2 c = search needs
 
 returns-3 : tie.Need-returns-3
 returns-3 c =
-    let a = c .before .before .before .before .before .before .before .before .before .before .args in
     let t = c .before .before .put-text2 .ensures in
-    (rw (le-ltb (a .p .i) (a .n) (c .before .before .before .before .before .before .before .if1 .left), le-ltb (a .p .j) (a .n) (c .before .before .before .before .before .if2 .left)) t, omega (arith, t .place))
+    let row = c .before .before .before .before .before .if2 in
+    let line = c .before .before .before .before .before .before .before .if1 in
+    let a = c .before .before .before .before .before .before .before .before .before .before .args in
+    (rw (le-ltb (a .p .i) (a .n) (line .left), le-ltb (a .p .j) (a .n) (row .left)) t, omega (arith, t .place))
 
 pub put-end-spec : {M : Type 1} → statement M
 put-end-spec =

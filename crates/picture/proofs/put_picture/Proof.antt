@@ -1,4 +1,5 @@
--- `put_picture` meets its contract. Assumes nothing.
+-- `put_picture` meets its contract. The loop's invariant: what is put from here on, behind what is put already, is the whole picture. Assumes
+-- nothing.
 use mathlib.Core.Path.{_≡_, refl, sym, _∙_}
 use mathlib.Core.List.{List}
 use Prim.Native.Nat.{ℕ, _*_, _-_, _≤_, _<_}

@@ -1,4 +1,4 @@
--- `quad_listing::list_quads` meets its contract. Assumes nothing.
+-- `quad_listing::list_quads` meets its contract: the list has room for four numbers a quad, or nothing is written. Assumes nothing.
 use borrow.Author.Needs.{needs}
 use borrow.Author.Tests.{lt-ltb, le-ltb}
 use mathlib.Core.Path.{sym, ap}
@@ -31,8 +31,9 @@ same-length c = search needs
 returns-2 : tie.Need-returns-2
 unfolding listed surfaceDone
 returns-2 c =
-    simp (sym (c .before .before .before .before .before .count-quads .ensures .0), le-ltb _ _ (c .before .before .before .before .if1 .left))
-    (ap (λ (l : List ℕ). told (Done (c .before .before .before .before .before .count-quads .result)) l) (rw (c .before .before .before .before .before .count-quads .ensures .0) (c .before .before .write-quads .ensures)))
+    let count-quads = c .before .before .before .before .before .count-quads in
+    simp (sym (count-quads .ensures .0), le-ltb _ _ (c .before .before .before .before .if1 .left))
+    (ap (λ (l : List ℕ). told (Done (count-quads .result)) l) (rw (count-quads .ensures .0) (c .before .before .write-quads .ensures)))
 
 pub list-quads-spec : {M : Type 1} → statement M
 list-quads-spec =

@@ -22,10 +22,16 @@ level-read : (c : tie.After-points) →
     (badLevel (s .args .level) ≡ false) × (levelAt (s .args .level) ≡ c .before .before .before .l .given .0 .0)
 level-read c = read-known _ _ (sym (c .before .before .before .before .before .read .ensures) ∙ c .before .before .before .l .given .1)
 
-grid-long : (c : tie.Else1) → pointsOf (c .before .before .before .before .l .given .0 .0) ≤ length (c .before .before .before .before .before .before .before .before .before .args .grid .now)
+grid-long : (c : tie.Else1) →
+    let l = c .before .before .before .before .l .given .0 .0 in
+    let s = c .before .before .before .before .before .before .before .before .before in
+    pointsOf l ≤ length (s .args .grid .now)
 grid-long c = rw (c .before .points .ensures) at (c .if1 .left)
 
-a-grid : (c : tie.Else2) → isGrid (cellsOf (c .before .before .before .before .before .before .l .given .0 .0)) (c .before .before .before .before .before .before .before .before .before .before .before .args .grid .now) ≡ true
+a-grid : (c : tie.Else2) →
+    let l = c .before .before .before .before .before .before .l .given .0 .0 in
+    let s = c .before .before .before .before .before .before .before .before .before .before .before in
+    isGrid (cellsOf l) (s .args .grid .now) ≡ true
 a-grid c = holds (rw (c .before .before .before .before .cells .ensures) at (c .before .is-grid .ensures)) (c .if2 .left)
 
 fit : (c : tie.Else3) →
@@ -67,16 +73,23 @@ returns-3 c =
     simp (level-read (c .before .before .before) .0, level-read (c .before .before .before) .1, le-ltb _ _ (grid-long (c .before .before)), none)
 
 signs-fit-requires : tie.Need-signs-fit-requires
-signs-fit-requires c κs = rw (c .before .before .before .before .cells .ensures) (cells-most (c .before .before .before .before .before .before .l .given .0 .0), grid-long (c .before .before), a-grid c)
+signs-fit-requires c κs =
+    let cells = c .before .before .before .before .cells in
+    let l = c .before .before .before .before .before .before .l .given .0 .0 in
+    rw (cells .ensures) (cells-most l, grid-long (c .before .before), a-grid c)
 
 returns-4 : tie.Need-returns-4
 unfolding surfaceRows surfaceCall
 returns-4 c =
-    let out = fails (rw (c .before .before .before .before .before .before .cells .ensures) at (c .before .signs-fit .ensures)) (c .if3 .taken) in
-    simp (level-read (c .before .before .before .before .before) .0, level-read (c .before .before .before .before .before) .1, le-ltb _ _ (grid-long (c .before .before .before .before)), a-grid (c .before .before), out)
+    let read = c .before .before .before .before .before in
+    let out = fails (rw (read .before .cells .ensures) at (c .before .signs-fit .ensures)) (c .if3 .taken) in
+    simp (level-read read .0, level-read read .1, le-ltb _ _ (grid-long (c .before .before .before .before)), a-grid (c .before .before), out)
 
 list-quads-requires : tie.Need-list-quads-requires
-list-quads-requires c κs = rw (c .before .before .before .before .before .before .before .cells .ensures) (cells-most (c .before .before .before .before .before .before .before .before .before .l .given .0 .0), grid-long (c .before .before .before .before .before), a-grid (c .before .before .before))
+list-quads-requires c κs =
+    let cells = c .before .before .before .before .before .before .before .cells in
+    let l = c .before .before .before .before .before .before .before .before .before .l .given .0 .0 in
+    rw (cells .ensures) (cells-most l, grid-long (c .before .before .before .before .before), a-grid (c .before .before .before))
 
 same-length : tie.Need-same-length
 same-length c = search needs
@@ -84,8 +97,12 @@ same-length c = search needs
 returns-5 : tie.Need-returns-5
 unfolding listed surfaceRows surfaceCall
 returns-5 c =
-    simp (level-read (c .before .before .before .before .before .before .before .before .before) .0, level-read (c .before .before .before .before .before .before .before .before .before) .1, le-ltb _ _ (grid-long (c .before .before .before .before .before .before .before .before)), a-grid (c .before .before .before .before .before .before), fit (c .before .before .before .before))
-    (rw (c .before .before .before .before .before .before .before .before .before .before .cells .ensures) at (c .before .before .list-quads .ensures))
+    let fits = c .before .before .before .before in
+    let grid = fits .before .before in
+    let long = grid .before .before in
+    let read = long .before in
+    simp (level-read read .0, level-read read .1, le-ltb _ _ (grid-long long), a-grid grid, fit fits)
+    (rw (read .before .cells .ensures) at (c .before .before .list-quads .ensures))
 
 pub surface-spec : {M : Type 1} → statement M
 surface-spec =

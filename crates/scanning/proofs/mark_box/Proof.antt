@@ -1,4 +1,5 @@
--- `mark_box` meets its contract. Assumes nothing.
+-- `mark_box` meets its contract. The loop's invariant: the edges met at the cells of the rows up to here are added; each turn goes on to a
+-- later row. Assumes nothing.
 use mathlib.Core.Path.{refl}
 use Prim.Native.Nat.{_-_, _≤_, zero-le}
 use native.Mathlib.Nat.{not-suc-le-zero}
@@ -9,7 +10,8 @@ use Rattle.meeting.specs.Met.{met}
 use Rattle.corners.specs.Corner.{Keeps}
 use Rattle.meeting.specs.Adding.{Added}
 use Rattle.meeting.proofs.Outside.{met-covered}
-use Rattle.scanning.proofs.Scanning.{rank, passed, Standing, next-standing, next-later, passed-next, passed-start, passed-all, covers-standing, standing-row}
+use Rattle.scanning.proofs.Scanning.{rank, passed, Standing, covers-standing, standing-row, next-standing, next-later}
+use Rattle.scanning.proofs.Scanning.{passed-next, passed-start, passed-all}
 use Rattle.scanning.proofs.mark_box.Statement.{statement}
 use Rattle.scanning.proofs.mark_box.Tie as tie
 
@@ -23,8 +25,13 @@ abbrev μ-loop : tie.MeasureT-loop
 loop-holds : tie.Need-loop-holds Inv-loop μ-loop
 loop-holds c =
     let s = c .before .before in
-    let v = covers-standing (s .args .l) (s .args .t) (s .args .b) (s .pre .0 .1) in
-    (v, zero-le, record { long = refl; axis = λ k h. absurd (not-suc-le-zero h) }, passed-start (cellsOf (s .args .l)) (s .args .b) (cells-most (s .args .l)) v (met (s .args .l) (s .args .t)) (s .args .grid .now))
+    let l = s .args .l in
+    let v = covers-standing l (s .args .t) (s .args .b) (s .pre .0 .1) in (
+      v,
+      zero-le,
+      record { long = refl; axis = λ k h. absurd (not-suc-le-zero h) },
+      passed-start (cellsOf l) (s .args .b) (cells-most l) v (met l (s .args .t)) (s .args .grid .now),
+    )
 
 mark-row-requires : tie.Need-mark-row-requires Inv-loop μ-loop
 mark-row-requires c κs =
@@ -42,23 +49,25 @@ next-row-requires c κs =
 
 loop-less : tie.Need-loop-less Inv-loop μ-loop
 loop-less c =
-    let s = c .before .before .before .before .before .before .before .before .before .before .before in
+    let if1 = c .before .before .before .before .before .before .if1 in
     let l = c .before .before .before .before .before .before .before .before .loop in
-    let h = next-later (cellsOf (s .args .l)) (cells-most (s .args .l)) (s .args .b) (l .c) (l .inv .0) (c .before .before .before .before .before .before .if1 .taken) in
+    let s = c .before .before .before .before .before .before .before .before .before .before .before in
+    let h = next-later (cellsOf (s .args .l)) (cells-most (s .args .l)) (s .args .b) (l .c) (l .inv .0) (if1 .taken) in
     rw (c .next-row .ensures) (omega (arith, h .0, h .1))
 
 loop-again : tie.Need-loop-again Inv-loop μ-loop
 loop-again c =
+    let r = c .before .before .before .mark-row .ensures in
+    let if1 = c .before .before .before .before .before .before .if1 in
+    let l = c .before .before .before .before .before .before .before .before .loop in
     let s = c .before .before .before .before .before .before .before .before .before .before .before in
     let n = cellsOf (s .args .l) in
     let m = cells-most (s .args .l) in
-    let l = c .before .before .before .before .before .before .before .before .loop in
-    let r = c .before .before .before .mark-row .ensures in
     rw (c .next-row .ensures) (
-      next-standing n m (s .args .b) (l .c) (l .inv .0) (c .before .before .before .before .before .before .if1 .taken),
+      next-standing n m (s .args .b) (l .c) (l .inv .0) (if1 .taken),
       r .0,
       r .1,
-      passed-next n m (s .args .b) (l .c) (l .inv .0) (c .before .before .before .before .before .before .if1 .taken) (met (s .args .l) (s .args .t)) (l .inv .3) (r .2),
+      passed-next n m (s .args .b) (l .c) (l .inv .0) (if1 .taken) (met (s .args .l) (s .args .t)) (l .inv .3) (r .2),
     )
 
 same-length : tie.Need-same-length Inv-loop μ-loop

@@ -1,4 +1,4 @@
--- `mark_grid` meets its contract. Assumes nothing.
+-- `mark_grid` meets its contract: a bare box meets no edge, any other is scanned. Assumes nothing.
 use mathlib.Core.Path.{sym, _∙_}
 use native.Mathlib.Omega.{arith}
 use Rattle.rules.specs.declared.Axis.the-variants.{X, Y, Z}
@@ -26,9 +26,11 @@ is-bare-requires c κs =
 returns : tie.Need-returns
 unfolding marked
 returns c =
+    let box-of = c .before .before .box-of in
     let s = c .before .before .before .before in
     let g = s .args .grid .now in
-    let a = bare-none (s .args .l) (s .args .t) (c .before .before .box-of .result) (c .before .before .box-of .ensures) (sym (c .before .is-bare .ensures) ∙ c .if1 .taken) g in
+    let bare = sym (c .before .is-bare .ensures) ∙ c .if1 .taken in
+    let a = bare-none (s .args .l) (s .args .t) (box-of .result) (box-of .ensures) bare g in
     added-written (cellsOf (s .args .l)) (met (s .args .l) (s .args .t)) g g (s .pre .1 .0) (s .pre .1 .1) (s .pre .1 .2) a
 
 mark-box-requires : tie.Need-mark-box-requires
@@ -42,8 +44,9 @@ same-length c = c .before .before .mark-box .ensures .long
 returns-2 : tie.Need-returns-2
 unfolding marked
 returns-2 c =
+    let a = c .before .before .mark-box .ensures in
     let s = c .before .before .before .before .before .before .before .before in
-    added-written (cellsOf (s .args .l)) (met (s .args .l) (s .args .t)) (s .args .grid .now) _ (s .pre .1 .0) (s .pre .1 .1) (s .pre .1 .2) (c .before .before .mark-box .ensures)
+    added-written (cellsOf (s .args .l)) (met (s .args .l) (s .args .t)) (s .args .grid .now) _ (s .pre .1 .0) (s .pre .1 .1) (s .pre .1 .2) a
 
 pub mark-grid-spec : {M : Type 1} → statement M
 mark-grid-spec =

@@ -1,4 +1,4 @@
--- `mark_row` meets its contract. Assumes nothing.
+-- `mark_row` meets its contract. The loop's invariant: the edges met at the cells of the row up to here are added. Assumes nothing.
 use mathlib.Core.Path.{_≡_, refl}
 use Prim.Native.Nat.{_-_, _≤_}
 use native.Mathlib.Nat.{le-refl}
@@ -18,7 +18,8 @@ use Rattle.scanning.proofs.mark_row.Tie as tie
 
 abbrev Inv-loop : tie.InvT-loop
 Inv-loop l grid₀ t kept₀ built b n past c₀ built₀ grid kept c built' =
-    (c₀ .i ≤ c .i) × (c .i ≤ b .hi .i) × (c .j ≡ c₀ .j) × (c .k ≡ c₀ .k) × (built' ≤ 10) × Keeps l t built' kept × Added (cellsOf l) (inRun c₀ (c .i) (met l t)) grid₀ grid
+    (c₀ .i ≤ c .i) × (c .i ≤ b .hi .i) × (c .j ≡ c₀ .j) × (c .k ≡ c₀ .k) × (built' ≤ 10) × Keeps l t built' kept
+    × Added (cellsOf l) (inRun c₀ (c .i) (met l t)) grid₀ grid
 
 abbrev μ-loop : tie.MeasureT-loop
 μ-loop l grid₀ t kept₀ built b n past c₀ built₀ grid kept c built' = b .hi .i - c .i
@@ -31,14 +32,18 @@ loop-holds c =
     let s = c .before .before in
     let x = s .pre .1 .1 X .some in
     let r = s .pre .1 .2 .in-i in
-    (le-refl _, omega arith, refl, refl, s .pre .0 .1, s .pre .0 .2, run-start (cellsOf (s .args .l)) (s .args .c) (met (s .args .l) (s .args .t)) (s .args .grid .now))
+    let none = run-start (cellsOf (s .args .l)) (s .args .c) (met (s .args .l) (s .args .t)) (s .args .grid .now) in
+    (le-refl _, omega arith, refl, refl, s .pre .0 .1, s .pre .0 .2, none)
 
 mark-cell-requires : tie.Need-mark-cell-requires Inv-loop μ-loop
 mark-cell-requires c κs =
+    let l = c .before .before .before .before .loop in
+    let i = l .inv in
     let s = c .before .before .before .before .before .before .before in
-    let i = c .before .before .before .before .loop .inv in
-    let h = row-cell (s .args .l) (s .args .t) (s .args .b) (s .pre .1 .1) (s .args .c) (c .before .before .before .before .loop .c) (s .pre .1 .2) (i .0) (c .before .before .if1 .taken) (i .2) (i .3) in
-    ((s .pre .0 .0, i .4, i .5), (c .before .before .before .before .before .cells .ensures, rw (i .6 .long) (s .pre .1 .0), h .0, covers-reaches (s .args .l) (s .args .t) (s .args .b) (s .pre .1 .1) (c .before .before .before .before .loop .c) (h .1)))
+    let v = s .pre .1 .1 in
+    let h = row-cell (s .args .l) (s .args .t) (s .args .b) v (s .args .c) (l .c) (s .pre .1 .2) (i .0) (c .before .before .if1 .taken) (i .2) (i .3) in
+    let reaches = covers-reaches (s .args .l) (s .args .t) (s .args .b) v (l .c) (h .1) in
+    ((s .pre .0 .0, i .4, i .5), (c .before .before .before .before .before .cells .ensures, rw (i .6 .long) (s .pre .1 .0), h .0, reaches))
 
 add-c : tie.Need-add-c Inv-loop μ-loop
 add-c c =
@@ -52,10 +57,12 @@ loop-less c = omega arith
 
 loop-again : tie.Need-loop-again Inv-loop μ-loop
 loop-again c =
-    let s = c .before .before .before .before .before .before .before .before .before .before .before in
-    let i = c .before .before .before .before .before .before .before .before .loop .inv in
     let m = c .before .before .before .mark-cell .ensures in
-    (omega arith, omega arith, i .2, i .3, m .0, m .1, run-next (s .args .c) (c .before .before .before .before .before .before .before .before .loop .c) (i .0) (i .2) (i .3) (cellsOf (s .args .l)) (met (s .args .l) (s .args .t)) (i .6) (m .2))
+    let l = c .before .before .before .before .before .before .before .before .loop in
+    let i = l .inv in
+    let s = c .before .before .before .before .before .before .before .before .before .before .before in
+    let more = run-next (s .args .c) (l .c) (i .0) (i .2) (i .3) (cellsOf (s .args .l)) (met (s .args .l) (s .args .t)) (i .6) (m .2) in
+    (omega arith, omega arith, i .2, i .3, m .0, m .1, more)
 
 same-length : tie.Need-same-length Inv-loop μ-loop
 same-length c = c .before .before .loop .inv .6 .long

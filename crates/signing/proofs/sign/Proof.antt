@@ -2,7 +2,6 @@
 use mathlib.Core.Path.{_≡_, sym, ap, _∙_}
 use mathlib.Core.Bool.{true, false}
 use Prim.Native.Nat.{_≤_}
-use native.Mathlib.Omega.{arith}
 use borrow.Author.Needs.{needs}
 use borrow.Author.Tests.{lt-ltb, le-ltb}
 use lib.ListN.{length}
@@ -27,13 +26,16 @@ grid-long : (c : tie.Else1) → pointsOf (c .before .before .before .before .l .
     (c .before .before .before .before .before .before .before .before .args .grid .now)
 grid-long c = rw (c .before .points .ensures) at (c .if1 .left)
 
-a-grid : (c : tie.Else2) → isGrid (cellsOf (c .before .before .before .before .before .before .before .l .given .0 .0))
-    (c .before .before .before .before .before .before .before .before .before .before .before .args .grid .now) ≡ true
+a-grid : (c : tie.Else2) →
+    let n = cellsOf (c .before .before .before .before .before .before .before .l .given .0 .0) in
+    let s = c .before .before .before .before .before .before .before .before .before .before .before in
+    isGrid n (s .args .grid .now) ≡ true
 a-grid c = holds (rw (c .before .before .before .before .before .cells .ensures) at (c .before .is-grid .ensures)) (c .if2 .left)
 
 even : (c : tie.Else3) →
     let n = cellsOf (c .before .before .before .before .before .before .before .before .before .before .l .given .0 .0) in
-    evenFaces n (marks n (c .before .before .before .before .before .before .before .before .before .before .before .before .before .before .args .grid .now)) ≡ true
+    let s = c .before .before .before .before .before .before .before .before .before .before .before .before .before .before in
+    evenFaces n (marks n (s .args .grid .now)) ≡ true
 even c = holds (rw (c .before .before .before .before .before .before .before .before .cells .ensures) at (c .before .all-even .ensures)) (c .if3 .left)
 
 read-requires : tie.Need-read-requires

@@ -2,8 +2,7 @@
 use borrow.Author.Needs.{needs}
 use Rattle.stl_call.proofs.read_stl.Statement.{statement}
 use Rattle.stl_call.proofs.read_stl.Tie as tie
-use mathlib.Core.Path.{_≡_, sym, ap, _∙_}
-use Prim.Native.Nat.{_+_, _*_, _≤_}
+use mathlib.Core.Path.{sym, ap, _∙_}
 use native.Mathlib.Omega.{arith}
 use mir.Syntax.{w32}
 use mir.ValLaws.{toZ-ofZ}

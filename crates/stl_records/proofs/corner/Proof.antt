@@ -2,7 +2,7 @@
 use borrow.Author.Needs.{needs}
 use Rattle.stl_records.proofs.corner.Statement.{statement}
 use Rattle.stl_records.proofs.corner.Tie as tie
-use mathlib.Core.Path.{_≡_, ap, _∙_}
+use mathlib.Core.Path.{ap, _∙_}
 use Prim.Native.Nat.{ℕ}
 use Rattle.rounding.specs.Scales.{exponentOf}
 use Rattle.coordinates.specs.Coordinates.{coordOf}

@@ -2,7 +2,7 @@
 use borrow.Author.Needs.{needs}
 use Rattle.stl_records.proofs.normal.Statement.{statement}
 use Rattle.stl_records.proofs.normal.Tie as tie
-use mathlib.Core.Path.{_≡_, sym, ap, _∙_}
+use mathlib.Core.Path.{sym, ap, _∙_}
 use mathlib.Core.Bool.{Bool, true, false, not}
 use lib.Count.{trailingZeros}
 use lib.Dec.{T}

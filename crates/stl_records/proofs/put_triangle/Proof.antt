@@ -38,21 +38,23 @@ add-out-2 c = search needs
 
 slice-write-out-2 : tie.Need-slice-write-out-2
 slice-write-out-2 c =
-    let put-vertex3 = c .before .before .before .before .before .before .put-vertex3 in
-    let put-vertex2 = c .before .before .before .before .before .before .before .before .before .before .put-vertex2 in
-    let put-vertex = c .before .before .before .before .before .before .before .before .before .before .before .before .before .before .put-vertex in
-    let back = c .before .before .before .before .before .before .before .before .before .before in
-    let start = back .before .before .before .before .before .before .before in
-    simp length-set (omega (arith, start .pre, put-vertex .kept, put-vertex2 .kept, put-vertex3 .kept, c .before .before .put-vertex4 .kept))
+    let fourth = c .before .before in
+    let third = fourth .before .before .before .before in
+    let second = third .before .before .before .before in
+    let first = second .before .before .before .before in
+    let start = first .before .before .before in
+    simp length-set
+    (omega (arith, start .pre, first .put-vertex .kept, second .put-vertex2 .kept, third .put-vertex3 .kept, fourth .put-vertex4 .kept))
 
 same-length : tie.Need-same-length
 same-length c =
-    let put-vertex3 = c .before .before .before .before .before .before .put-vertex3 in
-    let put-vertex2 = c .before .before .before .before .before .before .before .before .before .before .put-vertex2 in
-    let put-vertex = c .before .before .before .before .before .before .before .before .before .before .before .before .before .before .put-vertex in
-    let back = c .before .before .before .before .before .before .before .before .before .before in
-    let start = back .before .before .before .before .before .before .before in
-    simp length-set (omega (arith, start .pre, put-vertex .kept, put-vertex2 .kept, put-vertex3 .kept, c .before .before .put-vertex4 .kept))
+    let fourth = c .before .before in
+    let third = fourth .before .before .before .before in
+    let second = third .before .before .before .before in
+    let first = second .before .before .before .before in
+    let start = first .before .before .before in
+    simp length-set
+    (omega (arith, start .pre, first .put-vertex .kept, second .put-vertex2 .kept, third .put-vertex3 .kept, fourth .put-vertex4 .kept))
 
 returns : tie.Need-returns
 returns c =

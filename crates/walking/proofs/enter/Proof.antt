@@ -1,5 +1,5 @@
 -- `enter` writes the byte of a cell entered. Assumes nothing.
-use Rattle.walking.specs.Walks.{lightOf}
+use Rattle.walking.specs.Walks.{seeOf}
 use borrow.Author.Needs.{needs}
 use Rattle.walking.proofs.enter.Statement.{statement}
 use Rattle.walking.proofs.enter.Tie as tie
@@ -20,7 +20,7 @@ same-length : tie.Need-same-length
 same-length c = search needs
 
 returns : tie.Need-returns
-unfolding lightOf
+unfolding seeOf
 returns c = cc
 
 pub enter-spec : {M : Type 1} → statement M

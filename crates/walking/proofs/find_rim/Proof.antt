@@ -5,7 +5,7 @@ use native.Mathlib.Omega.{arith}
 use lib.ListN.{length}
 use Rattle.rules.specs.declared.Point.{Point}
 use Rattle.rules.specs.Lattice.{pointCount}
-use Rattle.walking.specs.Walks.{oddIn, Fine}
+use Rattle.walking.specs.Walks.{oddIn, Fine, withWork}
 use Rattle.lattice.proofs.PointSteps.{cell-grid}
 use Rattle.walking.proofs.Invariant.{Live, left}
 use Rattle.walking.proofs.Stepping.{start-from, step-from, ready}
@@ -13,11 +13,11 @@ use Rattle.walking.proofs.find_rim.Statement.{statement}
 use Rattle.walking.proofs.find_rim.Tie as tie
 
 abbrev Inv-loop : tie.InvT-loop
-Inv-loop n work₀ s₀ work s = (w : List ℕ) (p : Point) → pointCount n ≤ length w → Fine n w → Live n (oddIn n w) w p
-    (record { walk = s₀; work = work₀ }) → Live n (oddIn n w) w p (record { walk = s; work = work })
+Inv-loop n work₀ s₀ work s = (w : List ℕ) (p : Point) → pointCount n ≤ length w → Fine n w → Live n (oddIn n w) w p (withWork s₀ work₀) →
+    Live n (oddIn n w) w p (withWork s work)
 
 abbrev μ-loop : tie.MeasureT-loop
-μ-loop n work₀ s₀ work s = left n (record { walk = s; work = work })
+μ-loop n work₀ s₀ work s = left n (withWork s work)
 
 enter-requires : tie.Need-enter-requires Inv-loop μ-loop
 enter-requires c κs = let s = c .before .before in (s .pre .0, s .pre .1, cell-grid _ _ (s .pre .2), omega arith)

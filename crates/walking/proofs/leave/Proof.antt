@@ -1,5 +1,5 @@
 -- `leave` writes the byte of a cell left for good, and answers the way back. Assumes nothing.
-use Rattle.walking.specs.Walks.{lightOf}
+use Rattle.walking.specs.Walks.{seeOf}
 use borrow.Author.Needs.{needs}
 use Rattle.walking.proofs.leave.Statement.{statement}
 use Rattle.walking.proofs.leave.Tie as tie
@@ -23,7 +23,7 @@ same-length : tie.Need-same-length
 same-length c = search needs
 
 returns : tie.Need-returns
-unfolding lightOf
+unfolding seeOf
 returns c = (cc, cc)
 
 pub leave-spec : {M : Type 1} → statement M

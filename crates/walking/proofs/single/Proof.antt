@@ -1,3 +1,4 @@
+-- `single` meets its contract: a cell's box reaches one further than the cell on each axis. Assumes nothing.
 use Rattle.walking.proofs.single.Tie as tie
 use borrow.Author.Needs.{needs}
 use Rattle.walking.proofs.single.Statement.{statement}

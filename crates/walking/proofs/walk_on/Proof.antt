@@ -2,7 +2,7 @@
 use mathlib.Core.Path.{sym, ap, _∙_, subst}
 use Prim.Native.Nat.{ℕ, _<_}
 use Rattle.lattice.specs.Cells.{Cell}
-use Rattle.walking.specs.Walks.{Inside, acrossOf, opposite}
+use Rattle.walking.specs.Walks.{BetweenCells, acrossOf, opposite}
 use Rattle.lattice.proofs.PointSteps.{cell-grid}
 use Rattle.walking.proofs.Stepping.{cell-at, first-of, open-inside, across-grid, step-push, step-stop, step-pop}
 use borrow.Author.Needs.{needs}
@@ -92,7 +92,7 @@ across-requires-2 c κs =
       s .pre .0,
       s .pre .2,
       c .opposite-face .ensures .1,
-      subst (λ (k : ℕ). Inside (s .args .n) k (s .args .s .cell)) (sym (c .opposite-face .ensures .0 ∙ ap opposite (leave .ensures .0)))
+      subst (λ (k : ℕ). BetweenCells (s .args .n) k (s .args .s .cell)) (sym (c .opposite-face .ensures .0 ∙ ap opposite (leave .ensures .0)))
           (s .pre .5 (c .before .if2 .left) .1),
     )
 

@@ -1,3 +1,4 @@
+-- `widen` meets its contract: the least of the lower and the most of the upper coordinates, on each axis. Assumes nothing.
 use Rattle.walking.proofs.widen.Tie as tie
 use borrow.Author.Needs.{needs}
 use Rattle.walking.proofs.widen.Statement.{statement}

@@ -1,4 +1,5 @@
--- `accepting::placing::place_all` meets its contract. Assumes nothing.
+-- `accepting::placing::place_all` meets its contract. The loop's invariant: the quads from `at` on, placed in the work as it is, give what all
+-- of them gave at the start. Assumes nothing.
 use Rattle.accepting.proofs.Loops.{room, fourAt, fours-step, fours-end, placing-on, placing-off, placing-end}
 use Rattle.accepting.specs.Placing.{placing}
 use Rattle.quad_reading.specs.Read.{Fits}
@@ -8,7 +9,6 @@ use Rattle.rules.specs.Lattice.{pointCount}
 use mathlib.Core.List.{List}
 use borrow.Author.Tests.{not-true, not-false}
 use mathlib.Core.Path.{_≡_, refl, sym, ap, subst, _∙_}
-use mathlib.Core.Bool.{true, false}
 use lib.ListN.{length, drop}
 use Prim.Native.Nat.{ℕ, _+_, _-_, _≤_, _%_}
 use borrow.Author.Needs.{needs}

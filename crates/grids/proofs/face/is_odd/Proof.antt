@@ -1,5 +1,4 @@
 -- `is_odd` tests for one, then for three. Assumes nothing.
-use mathlib.Core.Path.{sym, ap, _∙_}
 use borrow.Author.Tests.{eq-eqb, ne-eqb}
 use Rattle.grids.proofs.face.is_odd.Statement.{statement}
 use Rattle.grids.proofs.face.is_odd.Tie as tie

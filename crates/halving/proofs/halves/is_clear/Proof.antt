@@ -1,3 +1,4 @@
+-- `is_clear` meets its contract. The loop's invariant: the layers from k on are clear exactly when the box is. Assumes nothing.
 use Rattle.halving.proofs.halves.is_clear.Tie as tie
 use Rattle.halving.proofs.halves.is_clear.Statement.{statement}
 use mathlib.Core.Path.{_≡_, refl, sym, _∙_}

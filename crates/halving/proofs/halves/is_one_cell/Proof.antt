@@ -1,3 +1,4 @@
+-- `is_one_cell` meets its contract: the three sides are 1, and the first that is not decides. Assumes nothing.
 use Rattle.halving.proofs.halves.is_one_cell.Tie as tie
 use borrow.Author.Needs.{needs}
 use Rattle.halving.proofs.halves.is_one_cell.Statement.{statement}

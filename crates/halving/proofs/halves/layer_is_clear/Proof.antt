@@ -1,3 +1,4 @@
+-- `layer_is_clear` meets its contract. The loop's invariant: the layer's rows from j on are clear exactly when the layer is. Assumes nothing.
 use Rattle.halving.proofs.halves.layer_is_clear.Tie as tie
 use Rattle.halving.proofs.halves.layer_is_clear.Statement.{statement}
 use mathlib.Core.Path.{_≡_, refl, sym, ap, _∙_}

@@ -1,3 +1,4 @@
+-- `longest_axis` meets its contract: the comparisons are the rule's, the earlier axis where two sides are equal. Assumes nothing.
 use Rattle.halving.proofs.halves.longest_axis.Tie as tie
 use borrow.Author.Needs.{needs}
 use Rattle.halving.proofs.halves.longest_axis.Statement.{statement}

@@ -1,3 +1,4 @@
+-- `lower_half` meets its contract: its upper corner lies in the cut plane. Assumes nothing.
 use Rattle.halving.proofs.halves.lower_half.Tie as tie
 use borrow.Author.Needs.{needs}
 use Rattle.halving.proofs.halves.lower_half.Statement.{statement}

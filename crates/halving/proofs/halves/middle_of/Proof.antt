@@ -1,3 +1,4 @@
+-- `middle_of` meets its contract: the box's lower coordinate is not above its upper one, so that the difference is its side. Assumes nothing.
 use Rattle.halving.proofs.halves.middle_of.Tie as tie
 use borrow.Author.Needs.{needs}
 use Rattle.halving.proofs.halves.middle_of.Statement.{statement}

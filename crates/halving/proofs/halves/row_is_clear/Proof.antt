@@ -1,3 +1,4 @@
+-- `row_is_clear` meets its contract. The loop's invariant: the sum so far is 0 exactly when the bytes so far have no working face. Assumes nothing.
 use Rattle.halving.proofs.halves.row_is_clear.Tie as tie
 use Rattle.halving.proofs.halves.row_is_clear.Statement.{statement}
 use Prim.Native.Nat.{_-_}

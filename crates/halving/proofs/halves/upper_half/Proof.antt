@@ -1,3 +1,4 @@
+-- `upper_half` meets its contract: its lower corner lies in the cut plane. Assumes nothing.
 use Rattle.halving.proofs.halves.upper_half.Tie as tie
 use borrow.Author.Needs.{needs}
 use Rattle.halving.proofs.halves.upper_half.Statement.{statement}

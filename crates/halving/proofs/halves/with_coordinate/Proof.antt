@@ -1,3 +1,4 @@
+-- `with_coordinate` meets its contract, axis by axis. Assumes nothing.
 use Rattle.halving.proofs.halves.with_coordinate.Tie as tie
 use borrow.Author.Needs.{needs}
 use Rattle.halving.proofs.halves.with_coordinate.Statement.{statement}

@@ -1,3 +1,4 @@
+-- `bit` meets its contract, axis by axis. Assumes nothing.
 use Rattle.lattice.proofs.byte.bit.Tie as tie
 use borrow.Author.Needs.{needs}
 use Rattle.lattice.proofs.byte.bit.Statement.{statement}

@@ -1,7 +1,6 @@
 -- `with_sign` meets its contract. Assumes nothing.
 use mathlib.Core.Path.{sym}
 use native.Mathlib.Nat.{add-zero}
-use native.Mathlib.Omega.{arith}
 use borrow.Author.Needs.{needs}
 use Rattle.lattice.proofs.byte.with_sign.Statement.{statement}
 use Rattle.lattice.proofs.byte.with_sign.Tie as tie

@@ -1,3 +1,4 @@
+-- `point_count` meets its contract: (n + 1)^3 is at most 35,937, so that no product wraps. Assumes nothing.
 use borrow.Author.Needs.{needs}
 use native.Mathlib.Omega.{arith}
 use Rattle.lattice.proofs.LevelFacts.{count-is, count-most}

@@ -26,7 +26,8 @@ point-count-requires c κs = c .before .pre .0
 loop-holds : tie.Need-loop-holds Inv-loop μ-loop
 loop-holds c =
     let start = c .before .before in
-    (c .point-count .ensures .0, omega arith, omega arith, zero-add (countFrom (start .args .n) (marks (start .args .n) (start .args .grid .now)) 0) ∙ count-start (start .args .n) (marks (start .args .n) (start .args .grid .now)))
+    let E = marks (start .args .n) (start .args .grid .now) in
+    (c .point-count .ensures .0, omega arith, omega arith, zero-add (countFrom (start .args .n) E 0) ∙ count-start (start .args .n) E)
 
 shared-slice-read-marks-in : tie.Need-shared-slice-read-marks-in Inv-loop μ-loop
 shared-slice-read-marks-in c = omega arith

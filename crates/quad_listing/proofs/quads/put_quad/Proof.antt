@@ -1,4 +1,5 @@
--- `quad_listing::quads::put_quad` meets its contract. Assumes nothing.
+-- `quad_listing::quads::put_quad` meets its contract: the four cells' numbers differ by the steps along the two other axes, and the sign
+-- settles their order. Assumes nothing.
 use borrow.Author.Needs.{needs}
 use mathlib.Core.Path.{refl, ap, _∙_}
 use native.Mathlib.Nat.{add-zero}
@@ -31,17 +32,20 @@ cell-step-requires-2 c κs = search needs
 cell-number-requires : tie.Need-cell-number-requires
 cell-number-requires c κs =
     let start = c .before .before .before .before .before .before .before in
-    (start .pre .0, inner→ (start .args .n) (start .args .a) (start .args .q) (start .pre .1 (holds (c .before .before .before .before .before .bit .ensures) (c .before .before .before .before .if1 .left))) .cell)
+    let mark = holds (c .before .before .before .before .before .bit .ensures) (c .before .before .before .before .if1 .left) in
+    (start .pre .0, inner→ (start .args .n) (start .args .a) (start .args .q) (start .pre .1 mark) .cell)
 
 -- the numbers of the four cells
 numbers : (c : tie.After-cell-number) →
+    let along = c .before .before .before .cell-step .result in
+    let across = c .before .cell-step2 .result in
     let start = c .before .before .before .before .before .before .before .before in
-    Around (start .args .n) (start .args .a) (start .args .q) (c .before .before .before .cell-step .result) (c .before .cell-step2 .result) (c .cell-number .result)
+    Around (start .args .n) (start .args .a) (start .args .q) along across (c .cell-number .result)
 numbers c =
-    let start = c .before .before .before .before .before .before .before .before in
     let next-is = c .before .before .before .before .next .ensures in
-    around (start .args .n) (start .args .a) (start .args .q) _ _ _
-    (start .pre .1 (holds (c .before .before .before .before .before .before .bit .ensures) (c .before .before .before .before .before .if1 .left)))
+    let mark = holds (c .before .before .before .before .before .before .bit .ensures) (c .before .before .before .before .before .if1 .left) in
+    let start = c .before .before .before .before .before .before .before .before in
+    around (start .args .n) (start .args .a) (start .args .q) _ _ _ (start .pre .1 mark)
     (c .before .before .before .cell-step .ensures ∙ ap (cellStep (start .args .n)) next-is)
     (c .before .cell-step2 .ensures ∙ ap (cellStep (start .args .n)) (c .before .before .next2 .ensures ∙ ap next next-is))
     (c .cell-number .ensures)
@@ -56,7 +60,11 @@ sub-first : tie.Need-sub-first
 sub-first c = numbers c .both-fit
 
 put-four-requires : tie.Need-put-four-requires
-put-four-requires c κs = simp (holds (c .before .before .before .before .before .before .before .before .bit .ensures) (c .before .before .before .before .before .before .before .if1 .left), c .before .if2 .taken) at (c .before .before .before .before .before .before .before .before .before .before .pre .2)
+put-four-requires c κs =
+    let if1 = c .before .before .before .before .before .before .before .if1 in
+    let bit = c .before .before .before .before .before .before .before .before .bit in
+    let start = c .before .before .before .before .before .before .before .before .before .before in
+    simp (holds (bit .ensures) (if1 .left), c .before .if2 .taken) at (start .pre .2)
 
 add-result : tie.Need-add-result
 add-result c = search needs
@@ -66,12 +74,20 @@ same-length c = search needs
 
 returns-2 : tie.Need-returns-2
 returns-2 c =
-    let start = c .before .before .before .before .before .before .before .before .before .before .before .before .before in
-    simp (holds (c .before .before .before .before .before .before .before .before .before .before .before .bit .ensures) (c .before .before .before .before .before .before .before .before .before .before .if1 .left), c .before .before .before .before .if2 .taken)
-    (refl, c .before .before .put-four .ensures ∙ ap (sets (start .args .list .now) (start .args .at)) (quad-inside (numbers (c .before .before .before .before .before)) (c .before .before .before .before .before .cell-number .ensures)))
+    let told = c .before .before .before .before .before in
+    let if1 = told .before .before .before .before .before .if1 in
+    let bit = told .before .before .before .before .before .before .bit in
+    let start = told .before .before .before .before .before .before .before .before in
+    let four = quad-inside (numbers told) (told .cell-number .ensures) in
+    simp (holds (bit .ensures) (if1 .left), c .before .before .before .before .if2 .taken)
+    (refl, c .before .before .put-four .ensures ∙ ap (sets (start .args .list .now) (start .args .at)) four)
 
 put-four-requires-2 : tie.Need-put-four-requires-2
-put-four-requires-2 c κs = simp (holds (c .before .before .before .before .before .before .before .before .bit .ensures) (c .before .before .before .before .before .before .before .if1 .left), c .before .if2 .left) at (c .before .before .before .before .before .before .before .before .before .before .pre .2)
+put-four-requires-2 c κs =
+    let if1 = c .before .before .before .before .before .before .before .if1 in
+    let bit = c .before .before .before .before .before .before .before .before .bit in
+    let start = c .before .before .before .before .before .before .before .before .before .before in
+    simp (holds (bit .ensures) (if1 .left), c .before .if2 .left) at (start .pre .2)
 
 add-result-2 : tie.Need-add-result-2
 add-result-2 c = search needs
@@ -81,9 +97,13 @@ same-length-2 c = search needs
 
 returns-3 : tie.Need-returns-3
 returns-3 c =
-    let start = c .before .before .before .before .before .before .before .before .before .before .before .before .before in
-    simp (holds (c .before .before .before .before .before .before .before .before .before .before .before .bit .ensures) (c .before .before .before .before .before .before .before .before .before .before .if1 .left), c .before .before .before .before .if2 .left)
-    (refl, c .before .before .put-four2 .ensures ∙ ap (sets (start .args .list .now) (start .args .at)) (quad-outside (numbers (c .before .before .before .before .before)) (c .before .before .before .before .before .cell-number .ensures)))
+    let told = c .before .before .before .before .before in
+    let if1 = told .before .before .before .before .before .if1 in
+    let bit = told .before .before .before .before .before .before .bit in
+    let start = told .before .before .before .before .before .before .before .before in
+    let four = quad-outside (numbers told) (told .cell-number .ensures) in
+    simp (holds (bit .ensures) (if1 .left), c .before .before .before .before .if2 .left)
+    (refl, c .before .before .put-four2 .ensures ∙ ap (sets (start .args .list .now) (start .args .at)) four)
 
 pub put-quad-spec : {M : Type 1} → statement M
 put-quad-spec =

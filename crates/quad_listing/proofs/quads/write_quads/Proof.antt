@@ -12,6 +12,7 @@ use Rattle.rules.specs.Quads.{quad, quads}
 use Rattle.grids.proofs.Points.{At, at-start, at-grid, at-next}
 use Rattle.lattice.proofs.Written.{written}
 use Rattle.surfacing.specs.Listing.{quadCount}
+use Rattle.surfacing.specs.Call.{surfaceDone}
 use Rattle.surfacing.proofs.Around.{marks-inner-at}
 use Rattle.surfacing.proofs.Quads.{quadsFrom, quads-start, given-end, quads-byte, quads-length, given-written, byte-room}
 use Rattle.quad_listing.proofs.quads.write_quads.Statement.{statement}
@@ -38,8 +39,14 @@ loop-holds c =
     let n = start .args .n in
     let E = marks n (start .args .grid .now) in
     let s = inside n (start .args .grid .now) in
-    let e = quads-start n E s in
-    (c .point-count .ensures .0, omega arith, at-start _, refl, omega (arith, ap length e, quads-length n E s, start .pre .3), ap (sets (start .args .list .now) 0) e)
+    let e = quads-start n E s in (
+      c .point-count .ensures .0,
+      omega arith,
+      at-start _,
+      refl,
+      omega (arith, ap length e, quads-length n E s, start .pre .3),
+      ap (sets (start .args .list .now) 0) e,
+    )
 
 shared-slice-read-put-quads : tie.Need-shared-slice-read-put-quads Inv-loop μ-loop
 shared-slice-read-put-quads c = omega (arith, c .before .before .before .before .before .before .pre .1)
@@ -70,26 +77,38 @@ next-point-requires c κs =
     (start .pre .0, at-grid _ (l .p) (l .q) (l .inv .2) h)
 
 add-p : tie.Need-add-p Inv-loop μ-loop
-add-p c = omega (arith, c .before .before .before .before .before .before .before .before .loop-test .taken, c .before .before .before .before .before .before .before .before .before .before .point-count .ensures .1)
+add-p c =
+    let loop-test = c .before .before .before .before .before .before .before .before .loop-test in
+    let point-count = c .before .before .before .before .before .before .before .before .before .before .point-count in
+    omega (arith, loop-test .taken, point-count .ensures .1)
 
 loop-less : tie.Need-loop-less Inv-loop μ-loop
 loop-less c = omega (arith, c .before .before .before .before .before .before .before .before .loop-test .taken)
 
 loop-again : tie.Need-loop-again Inv-loop μ-loop
 loop-again c =
-    let start = c .before .before .before .before .before .before .before .before .before .before .before .before .before in
+    let is-inside = c .before .before .before .before .before .is-inside in
     let l = c .before .before .before .before .before .before .before .before .before .loop in
+    let start = c .before .before .before .before .before .before .before .before .before .before .before .before .before in
     let n = start .args .n in
     let g = start .args .grid .now in
     let h : l .p < pointCount n = omega (arith, l .inv .0, c .before .before .before .before .before .before .before .before .loop-test .taken) in
-    let e = rw (quads-byte n g (l .p) (l .q) _ (start .pre .1) (start .pre .2) (l .inv .2) h (c .before .before .before .before .before .is-inside .ensures)) at (c .before .before .before .put-quads .ensures) in
-    let w = given-written n (marks n g) (quad n (inside n g)) (l .p) (l .q) (l .inv .2) h (l .at) _ (l .list) _ e (l .inv .4) in
-    (l .inv .0, omega arith, rw (add-one, c .next-point .ensures) (at-next n (l .p) (l .q) (l .inv .2) h), w .0 ∙ l .inv .3, rw add-one (w .1), rw add-one (w .2 ∙ l .inv .5))
+    let byte = quads-byte n g (l .p) (l .q) _ (start .pre .1) (start .pre .2) (l .inv .2) h (is-inside .ensures) in
+    let e = rw byte at (c .before .before .before .put-quads .ensures) in
+    let w = given-written n (marks n g) (quad n (inside n g)) (l .p) (l .q) (l .inv .2) h (l .at) _ (l .list) _ e (l .inv .4) in (
+      l .inv .0,
+      omega arith,
+      rw (add-one, c .next-point .ensures) (at-next n (l .p) (l .q) (l .inv .2) h),
+      w .0 ∙ l .inv .3,
+      rw add-one (w .1),
+      rw add-one (w .2 ∙ l .inv .5),
+    )
 
 same-length : tie.Need-same-length Inv-loop μ-loop
 same-length c = c .before .loop .inv .3
 
 returns : tie.Need-returns Inv-loop μ-loop
+unfolding surfaceDone
 returns c =
     let start = c .before .before .before .before .before in
     let l = c .before .loop in

@@ -3,7 +3,7 @@ use borrow.Author.Needs.{needs}
 use Rattle.stl_triangles.proofs.triangles.first_fault.Statement.{statement}
 use Rattle.stl_triangles.proofs.triangles.first_fault.Tie as tie
 use mathlib.Core.Path.{_≡_, refl, sym, _∙_}
-use Prim.Native.Nat.{ℕ, _+_, _*_, _-_, _≤_}
+use Prim.Native.Nat.{_-_, _≤_}
 use native.Mathlib.Omega.{arith}
 use Rattle.rounding.specs.Pattern.{isNear}
 use Rattle.rounding.specs.Scales.{exponentOf}

@@ -2,7 +2,7 @@
 use borrow.Author.Needs.{needs}
 use Rattle.stl_triangles.proofs.triangles.or_else.Statement.{statement}
 use Rattle.stl_triangles.proofs.triangles.or_else.Tie as tie
-use mathlib.Core.Path.{_≡_, sym, ap}
+use mathlib.Core.Path.{sym, ap}
 use Rattle.stl_reading.specs.declared.vertices.Fault.{Fault}
 use Rattle.stl_reading.specs.File.{orElse}
 

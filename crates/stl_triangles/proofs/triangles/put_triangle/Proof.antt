@@ -2,9 +2,9 @@
 use borrow.Author.Needs.{needs}
 use Rattle.stl_triangles.proofs.triangles.put_triangle.Statement.{statement}
 use Rattle.stl_triangles.proofs.triangles.put_triangle.Tie as tie
-use mathlib.Core.Path.{_≡_, ap, _∙_}
+use mathlib.Core.Path.{ap, _∙_}
 use mathlib.Core.List.{List}
-use Prim.Native.Nat.{_+_, _≤_}
+use Prim.Native.Nat.{_+_}
 use native.Mathlib.Omega.{arith}
 use lib.IntN.{ℤ}
 use lib.Seq.{sets}

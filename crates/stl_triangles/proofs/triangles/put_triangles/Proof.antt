@@ -4,7 +4,7 @@ use Rattle.stl_triangles.proofs.triangles.put_triangles.Statement.{stat
 use Rattle.stl_triangles.proofs.triangles.put_triangles.Tie as tie
 use mathlib.Core.Path.{_≡_, refl, sym, ap, _∙_}
 use mathlib.Core.List.{List}
-use Prim.Native.Nat.{ℕ, _+_, _*_, _-_, _≤_}
+use Prim.Native.Nat.{_+_, _*_, _-_, _≤_}
 use native.Mathlib.Omega.{arith}
 use lib.IntN.{ℤ}
 use lib.ListN.{length}

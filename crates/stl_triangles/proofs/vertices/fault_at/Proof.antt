@@ -2,7 +2,7 @@
 use borrow.Author.Needs.{needs}
 use Rattle.stl_triangles.proofs.vertices.fault_at.Statement.{statement}
 use Rattle.stl_triangles.proofs.vertices.fault_at.Tie as tie
-use mathlib.Core.Path.{_≡_, sym, _∙_}
+use mathlib.Core.Path.{sym, _∙_}
 use Rattle.rounding.specs.Pattern.{isNear}
 use Rattle.rounding.specs.Scales.{exponentOf}
 use Rattle.rounding.proofs.Near.{near-finite}

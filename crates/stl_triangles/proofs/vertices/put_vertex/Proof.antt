@@ -3,7 +3,7 @@ use borrow.Author.Needs.{needs}
 use Rattle.stl_triangles.proofs.vertices.put_vertex.Statement.{statement}
 use Rattle.stl_triangles.proofs.vertices.put_vertex.Tie as tie
 use mathlib.Core.Path.{_≡_, sym, ap, _∙_}
-use Prim.Native.Nat.{ℕ, suc, _+_, _≤_}
+use Prim.Native.Nat.{suc, _+_}
 use native.Mathlib.Omega.{arith}
 use lib.ListN.{set, length-set}
 use mir.Syntax.{w32}

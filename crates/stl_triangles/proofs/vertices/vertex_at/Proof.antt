@@ -2,8 +2,8 @@
 use borrow.Author.Needs.{needs}
 use Rattle.stl_triangles.proofs.vertices.vertex_at.Statement.{statement}
 use Rattle.stl_triangles.proofs.vertices.vertex_at.Tie as tie
-use mathlib.Core.Path.{_≡_, ap, _∙_}
-use Prim.Native.Nat.{ℕ, _+_}
+use mathlib.Core.Path.{ap, _∙_}
+use Prim.Native.Nat.{ℕ}
 use Rattle.lattice.proofs.Tests.{fails, holds}
 use Rattle.rounding.specs.Pattern.{isFinite}
 use Rattle.stl_reading.specs.File.{vertexAt}

@@ -52,29 +52,27 @@ sub-t8 c = on-y (c .before .before .before .before .before .before .before .befo
 
 mul-t9 : tie.Need-mul-t9
 mul-t9 c =
-    let back = c .before .before .before .before .before .before .before .before .before .before in
-    let place = back .before .before .before .before .before .before .before .before .before .before in
-    on-z (place) .first
+    let after-x = c .before .before .before .before .before .before .before .before .before .before .before .before in
+    let start = after-x .before .before .before .before .before .before .before .before in
+    on-z start .first
 
 mul-t10 : tie.Need-mul-t10
 mul-t10 c =
-    let back = c .before .before .before .before .before .before .before .before .before .before in
-    let back2 = back .before .before .before .before .before .before .before .before .before .before in
-    let place = back2 .before .before .before .before in
-    on-z (place) .second
+    let after-x = c .before .before .before .before .before .before .before .before .before .before .before .before .before .before .before .before in
+    let start = after-x .before .before .before .before .before .before .before .before in
+    on-z start .second
 
 sub-t11 : tie.Need-sub-t11
 sub-t11 c =
-    let back = c .before .before .before .before .before .before .before .before .before .before in
-    let back2 = back .before .before .before .before .before .before .before .before .before .before in
-    let place = back2 .before .before .before .before in
-    on-z (place) .both
+    let after-x = c .before .before .before .before .before .before .before .before .before .before .before .before .before .before .before .before in
+    let start = after-x .before .before .before .before .before .before .before .before in
+    on-z start .both
 
 returns : tie.Need-returns
 unfolding cross
 returns c =
-    let back = c .before .before .before .before .before .before .before .before .before .before in
-    let s = back .before .before .before .before .before .before .before .before .before .before .before .before .before .before in
+    let after-x = c .before .before .before .before .before .before .before .before .before .before .before .before .before .before .before .before in
+    let s = after-x .before .before .before .before .before .before .before .before in
     λ i. record { x = on-x s .is i; y = on-y s .is i; z = on-z s .is i }
 
 pub cross-spec : {M : Type 1} → statement M

@@ -1,3 +1,4 @@
+-- `Level::cells` meets its contract, level by level. Assumes nothing.
 use mathlib.Core.Path.{sym, ap}
 use borrow.Author.Needs.{needs}
 use Rattle.lattice.specs.Levels.{cellsOf}

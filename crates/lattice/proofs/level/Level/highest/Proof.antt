@@ -1,3 +1,4 @@
+-- `Level::highest` meets its contract: the lowest coordinate is not above 524,287, so that there is a difference. Assumes nothing.
 use native.Mathlib.Omega.{arith}
 use borrow.Author.Needs.{needs}
 use Rattle.lattice.proofs.LevelFacts.{lowest-most}

@@ -1,3 +1,4 @@
+-- `Level::points` meets its contract: the points of the level's cells. Assumes nothing.
 use borrow.Author.Needs.{needs}
 use mathlib.Core.Path.{ap, _∙_}
 use Rattle.rules.specs.Lattice.{pointCount}

@@ -1,3 +1,4 @@
+-- `Level::read` meets its contract: the four numbers that are levels, and all others. Assumes nothing.
 use borrow.Author.Tests.{ne-eqb}
 use Rattle.lattice.specs.Levels.{levelOf}
 use Rattle.lattice.proofs.level.Level.read.Statement.{statement}

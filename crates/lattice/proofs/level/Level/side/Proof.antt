@@ -1,3 +1,4 @@
+-- `Level::side` meets its contract: the number of cells is not 0, and 2^20 divided by it is the side. Assumes nothing.
 use borrow.Author.Needs.{needs}
 use Rattle.lattice.proofs.LevelFacts.{cells-some, side-is}
 use Rattle.lattice.proofs.level.Level.side.Statement.{statement}
