@@ -37,3 +37,31 @@ compile_copy() { # NAME...
         planted="$planted ${copied#"$work"/}/$part.o"
     done
 }
+
+# The files that second.c takes up, each compiled by itself under second.c's names, so that a fault compiles its own file alone.
+seconds=$(sed -n 's/^#include "\(reference.*\)\.c"$/\1/p' "$root/tests/second.c")
+compile_seconds() {
+    mkdir -p "$work/second"
+    grep '^#define' "$root/tests/second.c" >"$work/second/names.h"
+    for part in $seconds; do
+        # shellcheck disable=SC2086
+        $cc $flags -w -include "$work/second/names.h" -c -o "$work/second/$part.o" "$root/tests/$part.c" || die "$part.c does not compile under second.c's names"
+    done
+}
+
+# Compiles the copy of each of them that an edit names, all of them where it names a header; sets `planted` to the objects of all.
+compile_second() { # EDIT or nothing
+    planted=
+    edited=$([ -z "${1:-}" ] || sed -n 's/^file: //p' "$1")
+    for part in $seconds; do
+        object=second/$part.o
+        case " $(echo $edited) " in
+        *" $part.c "* | *'.h '*)
+            # shellcheck disable=SC2086
+            $cc $flags -w -include "$work/second/names.h" -c -o "$copied/$part.o" "$copied/$part.c" || die "${copied##*/}: the copy does not compile"
+            object=${copied#"$work"/}/$part.o
+            ;;
+        esac
+        planted="$planted $object"
+    done
+}

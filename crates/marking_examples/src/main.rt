@@ -1,6 +1,6 @@
-// Runs open and mark at level 2: examples 8 to 11 of the rules, triangles of no area, numbers at the ends of the range and of
-// i32, lists of other lengths, and inputs to which several numbers apply. It prints the number and the edges marked; `kept`
-// says that nothing of the buffer changed, `rest` that the bytes behind the last point are as they were.
+// Runs mark at level 2: examples 8 to 11 of the rules, triangles of no area, numbers at the ends of the range and of
+// i32, lists of other lengths, and inputs to which several numbers apply. It prints the number and the edges marked; `rest`
+// says that the bytes behind the last point are as they were.
 use marking::MarkAnswer;
 use marking::mark;
 use marking::open;
@@ -19,59 +19,22 @@ const LONG: usize = 130;
 // What every byte holds before a grid is opened, and every byte behind it afterwards.
 const DIRTY: u8 = 90;
 
-// Says a number, and whether the buffer is as dirty as it was.
-fn say_opened(name: &[u8], number: u32, grid: &[u8]) {
-    say_case(b"open, ", name, number);
-    say_if(all_hold(grid, 0, LONG, DIRTY), b", kept");
-}
-
-// Says what open left where it was done.
-fn say_left(number: u32, grid: &[u8]) {
-    if number != 0 {
-        return;
-    }
-    say_if(all_hold(grid, POINTS, LONG, DIRTY), b", rest");
-    say_marks(grid);
-}
-
-// Opens a grid in a buffer that is longer and dirty.
-fn show_open(name: &[u8], level: u32) {
-    let mut grid = [DIRTY; LONG];
-    let mut totals = [0u16; 8];
-    let number = open(level, &mut grid, &mut totals).number();
-    say_opened(name, number, &grid);
-    say_left(number, &grid);
-    say(b"\n");
-}
-
-// Opens a grid in a buffer that is a byte short.
-fn show_open_short() {
-    let mut grid = [DIRTY; 124];
-    let mut totals = [0u16; 8];
-    let number = open(2, &mut grid, &mut totals).number();
-    say_opened(b"a byte short", number, &grid);
-    say(b"\n");
-}
-
-// Opens a grid with a table that is a total short, and marks a triangle in one.
-fn show_short_table() {
-    let mut grid = [DIRTY; LONG];
-    let mut totals = [0u16; 8];
-    let mut short = [0u16; 7];
-    let number = open(2, &mut grid, &mut short).number();
-    say_opened(b"a total short", number, &grid);
-    open(2, &mut grid, &mut totals);
-    let number = mark(2, &mut grid, &[262_144; 9], &mut short).number();
-    say(b"\n");
-    say_marked(b"a total short", number, &grid);
-}
-
 // Says a number, and the marks of the first points.
 fn say_marked(name: &[u8], number: u32, grid: &[u8]) {
     say_case(b"mark, ", name, number);
     say_if(all_hold(grid, POINTS, LONG, DIRTY), b", rest");
     say_marks(grid);
     say(b"\n");
+}
+
+// Marks a triangle in a new grid with a table that is a total short.
+fn show_short_table() {
+    let mut grid = [DIRTY; LONG];
+    let mut totals = [0u16; 8];
+    let mut short = [0u16; 7];
+    open(2, &mut grid, &mut totals);
+    let number = mark(2, &mut grid, &[262_144; 9], &mut short).number();
+    say_marked(b"a total short", number, &grid);
 }
 
 // Marks a triangle in a new grid in which one byte is put; the buffer is longer.
@@ -297,24 +260,11 @@ fn show_no_bytes() {
         b"mark, level 1, no bytes: ",
         mark(1, &mut none, &[262_144; 9], &mut no_totals).number(),
     );
-    say_count(
-        b"\nopen, level 1, no bytes: ",
-        open(1, &mut none, &mut no_totals).number(),
-    );
     say(b"\n");
 }
 
-fn show_opens() {
-    show_open(b"level 2", 2);
-    show_open(b"level 1", 1);
-    show_open(b"level 6", 6);
-    show_open(b"level 3, short", 3);
-    show_open_short();
-    show_short_table();
-}
-
 fn main() {
-    show_opens();
+    show_short_table();
     show_examples();
     show_ends();
     show_byte_sixteen();

@@ -33,7 +33,8 @@ paint-at f (suc k) s i h l = go (ℕ-discrete i k) (λ r. paint-at f k s i r (om
     go : Dec (i ≡ k) → (i < k → getD (paint f k s) i 0 ≡ f (getD s i 0)) → getD (set (paint f k s) k (f (getD s k 0))) i 0 ≡ f (getD s i 0)
     go (yes e) r =
         let n = paint-length f k s in
-        ap (λ (j : ℕ). getD (set (paint f k s) k (f (getD s k 0))) j 0) e ∙ getD-set-same (paint f k s) k (f (getD s k 0)) 0 (omega arith) ∙ ap (λ (j : ℕ). f (getD s j 0)) (sym e)
+        ap (λ (j : ℕ). getD (set (paint f k s) k (f (getD s k 0))) j 0) e ∙ getD-set-same (paint f k s) k (f (getD s k 0)) 0 (omega arith)
+        ∙ ap (λ (j : ℕ). f (getD s j 0)) (sym e)
     go (no e) r = getD-set-other (paint f k s) k i (f (getD s k 0)) 0 e ∙ r (omega arith)
 
 pub paint-read : (f : ℕ → ℕ) (k : ℕ) (s t : List ℕ) → t ≡ paint f k s → getD t k 0 ≡ getD s k 0

@@ -1,5 +1,4 @@
 pub mod Paint
-pub mod Finding
-pub mod Between
+pub mod Inner
 pub mod Call
 pub mod Refused

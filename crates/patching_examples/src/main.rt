@@ -3,8 +3,8 @@
 // faces with one mark and with three, the total of block 0, and the edges marked afterwards; `kept` says that no byte of either buffer
 // changed, `totals kept` that the total of block 0 did not, `clear` that the first P work bytes are 0, `rest` that the bytes behind them and the entry behind the last
 // total are as they were.
+use patch_call::patch;
 use patching::PatchAnswer;
-use patching::patch;
 use showing::all_hold;
 use showing::both_hold;
 use showing::build;

@@ -2,8 +2,8 @@
 // nothing, and the faces with one mark and with three are shown as they came.
 use lattice::level::Level;
 use masks::put_masks;
-use patching::Counts;
-use patching::patch_grid;
+use patch_call::Counts;
+use patch_call::patch_grid;
 use picture::Drawn;
 use picture::count_inside;
 use picture::put_picture;

@@ -1,23 +1,21 @@
 // The calls as C functions, for the slicer to link: an answer is its number, and counts go behind references. Each promise is
 // that of the call it hands on to, read the same way: number, counts and every buffer, for all inputs.
-use accepting::AcceptAnswer;
-use asking::AskAnswer;
-use job_reading::ReadAnswer as ReadJobAnswer;
-use job_writing::WriteAnswer as WriteJobAnswer;
-use list_marking::MarkAllAnswer;
-use marking::MarkAnswer;
-use masks::MasksAnswer;
-use patching::PatchAnswer;
+use file_telling::tell_masks;
+use file_telling::tell_read_job;
+use file_telling::tell_read_stl;
+use file_telling::tell_write_job;
+use file_telling::tell_write_stl;
+use mark_telling::tell_ask;
+use mark_telling::tell_mark;
+use mark_telling::tell_mark_all;
+use repair_telling::tell_accept;
+use repair_telling::tell_patch;
+use repair_telling::tell_surface;
 use rules::Point;
-use stl_reading::ReadAnswer;
-use stl_writing::WriteAnswer;
-use surfacing::SurfaceAnswer;
 ghost use mathlib.Core.Path.{_≡_};
-ghost use mathlib.Core.List.{List};
-ghost use Prim.Native.Nat.{ℕ};
 ghost use Rattle.marking.specs.Outcome.{Outcome as OpenOutcome};
 ghost use Rattle.marking.specs.Open.{openCall};
-ghost use Rattle.marking.specs.Mark.{Outcome as MarkOutcome, told, markCall};
+ghost use Rattle.marking.specs.Mark.{Outcome as MarkOutcome, markCall};
 ghost use Rattle.list_marking.specs.Call.{markAllCall};
 ghost use Rattle.patching.specs.Call.{Outcome as PatchOutcome, patchCall};
 ghost use Rattle.signing.specs.Call.{Outcome as SignOutcome, signCall};
@@ -28,36 +26,16 @@ ghost use Rattle.job_reading.specs.Read.{Numbers as JobNumbers, numbersOf, read
 ghost use Rattle.job_writing.specs.Write.{Outcome as WriteJobOutcome, writeCall as writeJobCall};
 ghost use Rattle.accepting.specs.Call.{Outcome as AcceptOutcome, acceptCall};
 ghost use Rattle.masks.specs.Call.{Outcome as MasksOutcome, masksCall};
-ghost use Rattle.asking.specs.Call.{Outcome as AskOutcome, Counted, told as askTold, anyCall, trueCall, countCall};
+ghost use Rattle.asking.specs.Call.{Outcome as AskOutcome, Counted, anyCall, trueCall, countCall};
 
 // Open (level, grid, totals): the P bytes become 0, and so does the total of each block.
 #[no_mangle]
 pub extern "C" fn omphirun_open(level: u32, grid: &mut [u8], totals: &mut [u16]) -> u32
-    ensures { λ r. ⌜ _≡_ {A = OpenOutcome} (record { number = r; grid = now (grid .exit); totals = now (totals .exit) }) (openCall level (now (grid .entry)) (now (totals .entry))) ⌝ }
+    ensures { λ r. ⌜ _≡_ {A = OpenOutcome}
+        (record { number = r; grid = now (grid .exit); totals = now (totals .exit) })
+        (openCall level (now (grid .entry)) (now (totals .entry))) ⌝ }
 {
     marking::open(level, grid, totals).number()
-}
-
-// Tells what mark answers: the number, and of the first bad coordinate the place and the axis, both 0 in other answers.
-fn tell_mark(r: MarkAnswer, place: &mut u32, axis: &mut u32) -> u32
-    ensures { λ n. ⌜ ((g t : List ℕ) → _≡_ {A = MarkOutcome} (record { number = n; place = now (place .exit); axis = now (axis .exit); grid = g; totals = t }) (told r g t)) ⌝ }
-{
-    *place = 0;
-    *axis = 0;
-    match r {
-        MarkAnswer::Done => 0,
-        MarkAnswer::Refused(why) => why.number(),
-        MarkAnswer::Below { place: p, axis: a } => {
-            *place = p;
-            *axis = a;
-            4
-        }
-        MarkAnswer::Above { place: p, axis: a } => {
-            *place = p;
-            *axis = a;
-            24
-        }
-    }
 }
 
 // Mark (level, grid, triangle as nine i32, totals): the marks of edges met are added; none is removed; every total is true afterwards. Of the first
@@ -71,7 +49,9 @@ pub extern "C" fn omphirun_mark(
     place: &mut u32,
     axis: &mut u32,
 ) -> u32
-    ensures { λ r. ⌜ _≡_ {A = MarkOutcome} (record { number = r; place = now (place .exit); axis = now (axis .exit); grid = now (grid .exit); totals = now (totals .exit) }) (markCall level (now (grid .entry)) (now (triangle .entry)) (now (totals .entry))) ⌝ }
+    ensures { λ r. ⌜ _≡_ {A = MarkOutcome}
+        (record { number = r; place = now (place .exit); axis = now (axis .exit); grid = now (grid .exit); totals = now (totals .exit) })
+        (markCall level (now (grid .entry)) (now (triangle .entry)) (now (totals .entry))) ⌝ }
 {
     tell_mark(marking::mark(level, grid, triangle, totals), place, axis)
 }
@@ -86,7 +66,9 @@ pub extern "C" fn omphirun_mark_tree(
     place: &mut u32,
     axis: &mut u32,
 ) -> u32
-    ensures { λ r. ⌜ _≡_ {A = MarkOutcome} (record { number = r; place = now (place .exit); axis = now (axis .exit); grid = now (grid .exit); totals = now (totals .exit) }) (markCall level (now (grid .entry)) (now (triangle .entry)) (now (totals .entry))) ⌝ }
+    ensures { λ r. ⌜ _≡_ {A = MarkOutcome}
+        (record { number = r; place = now (place .exit); axis = now (axis .exit); grid = now (grid .exit); totals = now (totals .exit) })
+        (markCall level (now (grid .entry)) (now (triangle .entry)) (now (totals .entry))) ⌝ }
 {
     tell_mark(
         marking::mark_tree(level, grid, triangle, totals),
@@ -110,22 +92,11 @@ pub extern "C" fn omphirun_mark_all(
         (record { number = r; place = now (place .exit); axis = now (axis .exit); grid = now (grid .exit); totals = now (totals .exit) })
         (markAllCall level (now (grid .entry)) (now (triangles .entry)) (now (totals .entry))) ⌝ }
 {
-    *place = 0;
-    *axis = 0;
-    match list_marking::mark_all(level, grid, triangles, totals) {
-        MarkAllAnswer::Done => 0,
-        MarkAllAnswer::Refused(why) => why.number(),
-        MarkAllAnswer::Below { place: p, axis: a } => {
-            *place = p;
-            *axis = a;
-            4
-        }
-        MarkAllAnswer::Above { place: p, axis: a } => {
-            *place = p;
-            *axis = a;
-            24
-        }
-    }
+    tell_mark_all(
+        list_marking::mark_all(level, grid, triangles, totals),
+        place,
+        axis,
+    )
 }
 
 // Patch (level, grid, work buffer, totals): the grid is patched, every total is true afterwards, and the number of rims, of flips, and of faces with
@@ -141,42 +112,26 @@ pub extern "C" fn omphirun_patch(
     ones: &mut u32,
     threes: &mut u32,
 ) -> u32
-    ensures { λ r. ⌜ _≡_ {A = PatchOutcome} (record { number = r; rims = now (rims .exit); flips = now (flips .exit); ones = now (ones .exit); threes = now (threes .exit); grid = now (grid .exit); work = now (work .exit); totals = now (totals .exit) }) (patchCall level (now (grid .entry)) (now (work .entry)) (now (totals .entry))) ⌝ }
+    ensures { λ r. ⌜ _≡_ {A = PatchOutcome}
+        (record {
+          number = r;
+          rims = now (rims .exit);
+          flips = now (flips .exit);
+          ones = now (ones .exit);
+          threes = now (threes .exit);
+          grid = now (grid .exit);
+          work = now (work .exit);
+          totals = now (totals .exit);
+        })
+        (patchCall level (now (grid .entry)) (now (work .entry)) (now (totals .entry))) ⌝ }
 {
-    *rims = 0;
-    *flips = 0;
-    *ones = 0;
-    *threes = 0;
-    match patching::patch(level, grid, work, totals) {
-        PatchAnswer::Done {
-            rims: r,
-            flips: f,
-            ones: o,
-            threes: t,
-        } => {
-            *rims = r;
-            *flips = f;
-            *ones = o;
-            *threes = t;
-            0
-        }
-        PatchAnswer::Refused(why) => why.number(),
-    }
-}
-
-// Tells what a question about the table of totals answers: the number, and 1 for yes, 0 for no and in a refusal.
-fn tell_ask(r: AskAnswer, said: &mut u32) -> u32
-    ensures { λ n. ⌜ _≡_ {A = AskOutcome} (record { number = n; yes = now (said .exit) }) (askTold r) ⌝ }
-{
-    *said = 0;
-    match r {
-        AskAnswer::Yes => {
-            *said = 1;
-            0
-        }
-        AskAnswer::No => 0,
-        AskAnswer::Refused(why) => why.number(),
-    }
+    tell_patch(
+        patch_call::patch(level, grid, work, totals),
+        rims,
+        flips,
+        ones,
+        threes,
+    )
 }
 
 // Any mark (level, grid, totals, lowest and highest point of a box, both in it): whether the box has a mark, from the table for blocks wholly inside
@@ -194,7 +149,11 @@ pub extern "C" fn omphirun_any_mark(
     high_k: u32,
     any: &mut u32,
 ) -> u32
-    ensures { λ r. ⌜ _≡_ {A = AskOutcome} (record { number = r; yes = now (any .exit) }) (anyCall level (now (grid .entry)) (now (totals .entry)) (record { i = «low_i»; j = «low_j»; k = «low_k» }) (record { i = «high_i»; j = «high_j»; k = «high_k» })) ⌝ }
+    ensures { λ r. ⌜ _≡_ {A = AskOutcome}
+        (record { number = r; yes = now (any .exit) })
+        (anyCall level (now (grid .entry)) (now (totals .entry))
+        (record { i = «low_i»; j = «low_j»; k = «low_k» })
+        (record { i = «high_i»; j = «high_j»; k = «high_k» })) ⌝ }
 {
     let low = Point {
         i: low_i as usize,
@@ -246,16 +205,11 @@ pub extern "C" fn omphirun_surface(
     list: &mut [u16],
     quads: &mut u32,
 ) -> u32
-    ensures { λ r. ⌜ _≡_ {A = SurfaceOutcome} (record { number = r; quads = now (quads .exit); list = now (list .exit) }) (surfaceCall level (now (grid .entry)) (now (list .entry))) ⌝ }
+    ensures { λ r. ⌜ _≡_ {A = SurfaceOutcome}
+        (record { number = r; quads = now (quads .exit); list = now (list .exit) })
+        (surfaceCall level (now (grid .entry)) (now (list .entry))) ⌝ }
 {
-    *quads = 0;
-    match quad_listing::surface(level, grid, list) {
-        SurfaceAnswer::Done { quads: q } => {
-            *quads = q;
-            0
-        }
-        SurfaceAnswer::Refused(why) => why.number(),
-    }
+    tell_surface(quad_listing::surface(level, grid, list), quads)
 }
 
 // Read binary STL (file, e, list of i32): the triangles go to the front of the list, each coordinate times 2^e and rounded, and their
@@ -268,21 +222,11 @@ pub extern "C" fn omphirun_read_stl(
     triangles: &mut u32,
     axis: &mut u32,
 ) -> u32
-    ensures { λ r. ⌜ _≡_ {A = ReadOutcome} (record { number = r; triangles = now (triangles .exit); axis = now (axis .exit); list = now (list .exit) }) (readCall e (now (file .entry)) (now (list .entry))) ⌝ }
+    ensures { λ r. ⌜ _≡_ {A = ReadOutcome}
+        (record { number = r; triangles = now (triangles .exit); axis = now (axis .exit); list = now (list .exit) })
+        (readCall e (now (file .entry)) (now (list .entry))) ⌝ }
 {
-    *triangles = 0;
-    *axis = 0;
-    match stl_call::read_stl(file, e, list) {
-        ReadAnswer::Done { triangles: n } => {
-            *triangles = n;
-            0
-        }
-        ReadAnswer::NotFinite { axis: a } => {
-            *axis = a;
-            12
-        }
-        ReadAnswer::Refused(why) => why.number(),
-    }
+    tell_read_stl(stl_call::read_stl(file, e, list), triangles, axis)
 }
 
 // Write binary STL (level, grid, e, file): each quad as two triangles; the number of bytes written is returned.
@@ -294,16 +238,11 @@ pub extern "C" fn omphirun_write_stl(
     file: &mut [u8],
     bytes: &mut usize,
 ) -> u32
-    ensures { λ r. ⌜ _≡_ {A = WriteOutcome} (record { number = r; bytes = now (bytes .exit); file = now (file .exit) }) (writeCall level (now (grid .entry)) e (now (file .entry))) ⌝ }
+    ensures { λ r. ⌜ _≡_ {A = WriteOutcome}
+        (record { number = r; bytes = now (bytes .exit); file = now (file .exit) })
+        (writeCall level (now (grid .entry)) e (now (file .entry))) ⌝ }
 {
-    *bytes = 0;
-    match stl_writing::write_stl(level, grid, e, file) {
-        WriteAnswer::Done { bytes: k } => {
-            *bytes = k;
-            0
-        }
-        WriteAnswer::Refused(why) => why.number(),
-    }
+    tell_write_stl(stl_writing::write_stl(level, grid, e, file), bytes)
 }
 
 // Read a job file: its level, the kinds of its bodies, as 1 for a grid, 2 for triangles and 4 for quads, added, and where they lie. What
@@ -332,29 +271,16 @@ pub extern "C" fn omphirun_read_job(
         })
         (numbersOf (readJobCall (now (file .entry)))) ⌝ }
 {
-    *level = 0;
-    *kinds = 0;
-    *grid_at = 0;
-    *triangles_at = 0;
-    *triangles_len = 0;
-    *quads_at = 0;
-    *quads_len = 0;
-    match job_reading::read_job(file) {
-        ReadJobAnswer::Done(c) => {
-            let grid = c.grid;
-            let triangles = c.triangles;
-            let quads = c.quads;
-            *level = c.level;
-            *kinds = grid.weight(1) + triangles.weight(2) + quads.weight(4);
-            *grid_at = grid.place();
-            *triangles_at = triangles.place();
-            *triangles_len = triangles.size();
-            *quads_at = quads.place();
-            *quads_len = quads.size();
-            0
-        }
-        ReadJobAnswer::Refused(why) => why.number(),
-    }
+    tell_read_job(
+        job_reading::read_job(file),
+        level,
+        kinds,
+        grid_at,
+        triangles_at,
+        triangles_len,
+        quads_at,
+        quads_len,
+    )
 }
 
 // Write a job file (level, kinds, grid, triangles, quads, file): the bodies that kinds ask for, as they are, behind their table of
@@ -373,14 +299,10 @@ pub extern "C" fn omphirun_write_job(
         (record { number = r; bytes = now (bytes .exit); file = now (file .exit) })
         (writeJobCall level kinds (now (grid .entry)) (now (triangles .entry)) (now (quads .entry)) (now (file .entry))) ⌝ }
 {
-    *bytes = 0;
-    match job_writing::write_job(level, kinds, grid, triangles, quads, file) {
-        WriteJobAnswer::Done { bytes: n } => {
-            *bytes = n;
-            0
-        }
-        WriteJobAnswer::Refused(why) => why.number(),
-    }
+    tell_write_job(
+        job_writing::write_job(level, kinds, grid, triangles, quads, file),
+        bytes,
+    )
 }
 
 // Accept (level, list of u16, grid, work buffer): 1 for a list that is the surface of a grid of signs with nothing inside on its outer points, the order
@@ -393,30 +315,19 @@ pub extern "C" fn omphirun_accept(
     work: &mut [u8],
     yes: &mut u32,
 ) -> u32
-    ensures { λ r. ⌜ _≡_ {A = AcceptOutcome} (record { number = r; yes = now (yes .exit); grid = now (grid .exit); work = now (work .exit) }) (acceptCall level (now (list .entry)) (now (grid .entry)) (now (work .entry))) ⌝ }
+    ensures { λ r. ⌜ _≡_ {A = AcceptOutcome}
+        (record { number = r; yes = now (yes .exit); grid = now (grid .exit); work = now (work .exit) })
+        (acceptCall level (now (list .entry)) (now (grid .entry)) (now (work .entry))) ⌝ }
 {
-    *yes = 0;
-    match accepting::accept(level, list, grid, work) {
-        AcceptAnswer::Yes => {
-            *yes = 1;
-            0
-        }
-        AcceptAnswer::No => 0,
-        AcceptAnswer::Refused(why) => why.number(),
-    }
+    tell_accept(accepting::accept(level, list, grid, work), yes)
 }
 
 // Masks (level, grid, bytes): writes a picture of each layer of points, one behind another, and returns the number of bytes.
 #[no_mangle]
 pub extern "C" fn omphirun_masks(level: u32, grid: &[u8], out: &mut [u8], size: &mut usize) -> u32
-    ensures { λ r. ⌜ _≡_ {A = MasksOutcome} (record { number = r; bytes = now (size .exit); out = now (out .exit) }) (masksCall level (now (grid .entry)) (now (out .entry))) ⌝ }
+    ensures { λ r. ⌜ _≡_ {A = MasksOutcome}
+        (record { number = r; bytes = now (size .exit); out = now (out .exit) })
+        (masksCall level (now (grid .entry)) (now (out .entry))) ⌝ }
 {
-    *size = 0;
-    match masks::masks(level, grid, out) {
-        MasksAnswer::Done { bytes: written } => {
-            *size = written;
-            0
-        }
-        MasksAnswer::Refused(why) => why.number(),
-    }
+    tell_masks(masks::masks(level, grid, out), size)
 }

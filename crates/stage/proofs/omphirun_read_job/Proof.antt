@@ -1,6 +1,5 @@
--- `omphirun_read_job` meets its contract: what the call tells, in numbers. Assumes nothing.
+-- `omphirun_read_job` hands on to the call and tells its answer. Assumes nothing.
 use mathlib.Core.Path.{ap, _∙_}
-use Prim.Native.Nat.{_+_}
 use borrow.Author.Needs.{needs}
 use Rattle.job_reading.specs.Read.{numbersOf}
 use Rattle.stage.proofs.omphirun_read_job.Statement.{statement}
@@ -9,89 +8,11 @@ use Rattle.stage.proofs.omphirun_read_job.Tie as tie
 read-job-requires : tie.Need-read-job-requires
 read-job-requires c κs = search needs
 
-enum-known-c : tie.Need-enum-known-c
-enum-known-c c = search needs
-
-weight-requires : tie.Need-weight-requires
-weight-requires c κs = search needs
-
-weight-requires-2 : tie.Need-weight-requires-2
-weight-requires-2 c κs = search needs
-
-add-kinds : tie.Need-add-kinds
-add-kinds c = search needs
-
-weight-requires-3 : tie.Need-weight-requires-3
-weight-requires-3 c κs = search needs
-
-add-kinds-2 : tie.Need-add-kinds-2
-add-kinds-2 c = search needs
-
-place-requires : tie.Need-place-requires
-place-requires c κs = search needs
-
-place-requires-2 : tie.Need-place-requires-2
-place-requires-2 c κs = search needs
-
-size-requires : tie.Need-size-requires
-size-requires c κs = search needs
-
-place-requires-3 : tie.Need-place-requires-3
-place-requires-3 c κs = search needs
-
-size-requires-2 : tie.Need-size-requires-2
-size-requires-2 c κs = search needs
-
-enum-known-why : tie.Need-enum-known-why
-enum-known-why c = search needs
-
-number-requires : tie.Need-number-requires
-number-requires c κs = search needs
+tell-read-job-requires : tie.Need-tell-read-job-requires
+tell-read-job-requires c κs = search needs
 
 returns : tie.Need-returns
-returns c =
-    let known = c .before .before .before .before .before .before .before .before .before in
-    let weight = c .before .before .before .before .before .before .before .weight in
-    let weight2 = c .before .before .before .before .before .before .weight2 in
-    let weight3 = c .before .before .before .before .before .weight3 in
-    let place = c .before .before .before .before .place in
-    let place2 = c .before .before .before .place2 in
-    let size = c .before .before .size in
-    let place3 = c .before .place3 in
-    (λ i. record {
-      number = 0;
-      level = known .c .given .0 .0 .level;
-      kinds = weight .ensures .0 i + weight2 .ensures .0 i + weight3 .ensures .0 i;
-      gridAt = place .ensures i;
-      trianglesAt = place2 .ensures i;
-      trianglesSize = size .ensures i;
-      quadsAt = place3 .ensures i;
-      quadsSize = c .size2 .ensures i;
-    })
-    ∙ ap numbersOf (rw (known .c .given .1) at (known .before .before .read-job .ensures))
-
-returns-2 : tie.Need-returns-2
-returns-2 c =
-    let read-job = c .before .before .before .before .read-job in
-    rw (c .number .ensures) (ap numbersOf (rw (c .before .before .why .given .1) at (read-job .ensures)))
+returns c = c .tell-read-job .ensures ∙ ap numbersOf (c .before .before .before .before .before .before .before .before .read-job .ensures)
 
 pub omphirun-read-job-spec : {M : Type 1} → statement M
-omphirun-read-job-spec =
-    tie.close
-    (tie.spec
-    read-job-requires
-    enum-known-c
-    weight-requires
-    weight-requires-2
-    add-kinds
-    weight-requires-3
-    add-kinds-2
-    place-requires
-    place-requires-2
-    size-requires
-    place-requires-3
-    size-requires-2
-    enum-known-why
-    number-requires
-    returns
-    returns-2)
+omphirun-read-job-spec = tie.close (tie.spec read-job-requires tell-read-job-requires returns)

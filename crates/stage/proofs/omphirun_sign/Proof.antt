@@ -1,3 +1,4 @@
+-- `omphirun_sign` meets its contract. Assumes nothing.
 use borrow.Author.Needs.{needs}
 use Rattle.stage.proofs.omphirun_sign.Statement.{statement}
 use Rattle.stage.proofs.omphirun_sign.Tie as tie
