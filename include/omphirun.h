@@ -41,8 +41,8 @@
    OMPHIRUN_STACK bytes of stack. Where it is refused it stops earlier.
 
      open                       1                                   the table
-     mark                       1, and 1 where there are signs      the cells in the triangle's box, and the blocks that it reaches
-     mark_tree                  1, and 1 where there are signs      the cells near the triangle, and the blocks that its box reaches
+     mark                       1, and 1 where there are signs      the cells in the triangle's box, and the blocks near the triangle
+     mark_tree                  1, and 1 where there are signs      the cells and the blocks near the triangle
      mark_all                   2, and 1 where there are signs      the list twice, for each triangle the fewer of these cells
      patch                      5                                   the cells in the box of each rim, some times
      sign                       3
@@ -51,7 +51,7 @@
      masks                      3                                   the bytes of the pictures
      accept                     6                                   the list once
      totals_true, count_totals  1                                   the table
-     any_mark                   0                                   the blocks that the box reaches, and the bytes of those it cuts
+     any_mark                   0                                   the blocks wholly inside the box, and the other bytes of it
      read_stl                   0                                   the file twice
      read_job                   1                                   the table of contents; no other body
      write_job                  2                                   the other bodies once

@@ -59,3 +59,11 @@ pub record Fits (n : ℕ) (b : Box) : Type 0 where
   pub x : b .hi .i ≤ suc n
   pub y : b .hi .j ≤ suc n
   pub z : b .hi .k ≤ suc n
+
+-- a point of a box has a mark
+abbrev pub anyMarked : ℕ → List ℕ → Box → Bool
+anyMarked n g b = anyOf (marked n g) (boxPoints b)
+
+-- the entry of a block, one of m blocks and one more along each axis, is not 0
+abbrev pub entrySome : ℕ → List ℕ → Point → Bool
+entrySome m t c = not (eqb (getD t (pointNumber m c) 0) 0)

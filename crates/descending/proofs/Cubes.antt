@@ -94,7 +94,7 @@ module _ (n : ℕ) (c : Cube) (one : c .side ≡ 1) where
   single-cell h = let f = h .fits in omega arith
 
   -- its cells are the one
-  one-cell : (p : Point) → samePoint (c .at) p ≡ cellIn (boxOf c) p
+  pub one-cell : (p : Point) → samePoint (c .at) p ≡ cellIn (boxOf c) p
   one-cell p = same-test _ _ there back
     where
       there : samePoint (c .at) p ≡ true → cellIn (boxOf c) p ≡ true
@@ -203,7 +203,7 @@ module _ (c : Cube) (even : c .side ≡ c .side / 2 + c .side / 2) where
       let d = digits (x .digit) (y .digit) (z .digit) (x .small) (y .small) (z .small) in
       first-has 8 k p (d .3) (inBox← (boxOf (eighthOf c k)) false false false p (rw (d .0) (x .there), rw (d .1) (y .there), rw (d .2) (z .there)))
 
-  all-eighths : (p : Point) → inFirst c 8 p ≡ cellIn (boxOf c) p
+  pub all-eighths : (p : Point) → inFirst c 8 p ≡ cellIn (boxOf c) p
   all-eighths p = same-test _ _ (first-in 8 p) (λ e. has-eighth p (inBox→ (boxOf c) false false false p e))
 
   -- the edges of the first eighths, and of one more

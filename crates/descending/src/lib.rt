@@ -73,7 +73,7 @@ fn sum(x: i64, y: i64, z: i64) -> i64
 }
 
 // Answers how far a cube of one cell reaches on an axis from its lowest corner, down and up.
-fn reach_of(n: Vector) -> Span
+pub fn reach_of(n: Vector) -> Span
     requires { ⌜ Each (Size termMost) n ⌝ }
     ensures { λ r. ⌜ r ≡ reachOf n ⌝ }
 {
@@ -122,7 +122,7 @@ fn keep_all(l: Level, t: Triangle, kept: &mut [i64; NUMBERS], reach: &mut [i64; 
 }
 
 // Answers whether an axis separates a cube of cells from the triangle: one dot product, that of its lowest corner, gives its span.
-fn misses(a: Kept, r: Span, p: Vector, side: i64) -> bool
+pub fn misses(a: Kept, r: Span, p: Vector, side: i64) -> bool
     requires { ⌜ ReachFits (a .axis) r p side ⌝ }
     ensures { λ x. ⌜ x ≡ apart (a .span) (reachSpan (a .axis) r p side) ⌝ }
 {
@@ -162,7 +162,7 @@ fn shares(i: usize, w: usize, lo: usize, hi: usize) -> bool
 }
 
 // Answers whether a cube has a cell of a box. On the unit vectors this tells whether one of them separates it.
-fn touches(b: Box, c: Cube) -> bool
+pub fn touches(b: Box, c: Cube) -> bool
     requires { ⌜ CubeOf 32 c ⌝ }
     ensures { λ r. ⌜ r ≡ touchesOf b c ⌝ }
 {
@@ -208,7 +208,7 @@ fn shifted(i: usize, h: usize, digit: usize) -> usize
 }
 
 // Answers one of the eight cubes of half the side: k's binary digits choose the upper half on x, y and z.
-fn eighth(c: Cube, k: usize) -> Cube
+pub fn eighth(c: Cube, k: usize) -> Cube
     requires { ⌜ CubeOf 32 c ⌝ }
     ensures { λ r. ⌜ r ≡ eighthOf c k ⌝ }
 {
@@ -283,10 +283,10 @@ pub fn mark_cubed(l: Level, grid: &mut [u8], t: Triangle)
 }
 
 // Up to so many cells of the triangle's box the scan takes less time than the descent.
-const SCANNED: usize = 2048;
+pub const SCANNED: usize = 2048;
 
 // Answers the number of cells of a box.
-fn cells_in(b: Box) -> usize
+pub fn cells_in(b: Box) -> usize
     requires { ⌜ OfGrid 32 (b .hi) × (b .lo .i ≤ b .hi .i) × (b .lo .j ≤ b .hi .j) × (b .lo .k ≤ b .hi .k) ⌝ }
     ensures { λ r. ⌜ r ≡ (b .hi .i - b .lo .i) * ((b .hi .j - b .lo .j) * (b .hi .k - b .lo .k)) ⌝ }
 {

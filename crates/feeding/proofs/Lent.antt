@@ -9,7 +9,7 @@ use Rattle.lattice.specs.declared.level.Level.{Level}
 use Rattle.lattice.specs.Levels.{cellsOf}
 use Rattle.refusals.specs.Columns.{shortTable}
 use Rattle.totals.specs.Totals.{blockCount}
-use Rattle.marking.proofs.Recount.{blocks-most}
+use Rattle.marking.proofs.Calls.{blocks-most}
 use Rattle.feeding.specs.Lent.{lentTotals}
 
 pub lent-room : (l : Level) → blockCount (cellsOf l) ≤ length lentTotals

@@ -1,58 +1,14 @@
-// The calls open and mark, and mark once more by the descent.
+// The range of coordinates, and what mark answers. What the calls open and mark promise, and what holds of it, stands in specs and proofs.
 pub mod range;
 
-use crate::range::first_out;
 use crate::range::is_below;
-use crate::range::triangle_of;
-use descending::mark_cubed;
-use grids::GridRead;
-use grids::clear_signs;
-use lattice::clear;
 use lattice::level::Level;
-use lattice::level::LevelRead;
-use lattice::level::point_count;
-use meeting::box_of;
-use refusals::Answer;
 use refusals::Refusal;
-use scanning::mark_grid;
-use totals::clear_totals;
-use totals::read_held;
-use totals::recount_box;
-use totals::store;
-use triangles::Triangle;
 ghost use mathlib.Core.Path.{_≡_};
-ghost use mathlib.Core.Bool.{true};
 ghost use mathlib.Core.List.{List, []};
-ghost use Prim.Native.Nat.{ℕ, _≤_, _<_};
-ghost use lib.ListN.{length};
-ghost use Rattle.rules.specs.Grid.{isGrid, Unsigned};
-ghost use Rattle.lattice.specs.Levels.{cellsOf, pointsOf};
-ghost use Rattle.meeting.specs.Within.{TriangleWithin};
-ghost use Rattle.meeting.specs.Met.{marked};
-ghost use Rattle.marking.specs.Outcome.{told};
-ghost use Rattle.marking.specs.Open.{openCall};
+ghost use Prim.Native.Nat.{ℕ, _<_};
 ghost use Rattle.marking.specs.OutOfRange.{outNumber};
-ghost use Rattle.marking.specs.Mark.{refusedAt, told as markTold, markCall, markPassed};
-
-// The call open: makes an empty grid of the level in the buffer's first P bytes, and the table of its totals.
-pub fn open(level: u32, grid: &mut [u8], totals: &mut [u16]) -> Answer
-    ensures { λ r. ⌜ told r (now (grid .exit)) (now (totals .exit)) ≡ openCall level (now (grid .entry)) (now (totals .entry)) ⌝ }
-{
-    let LevelRead::Known(l) = Level::read(level) else {
-        return Answer::Refused(Refusal::BadLevel);
-    };
-    let count = l.points();
-    if grid.len() < count {
-        return Answer::Refused(Refusal::ShortBuffer);
-    }
-    let n = l.cells();
-    if totals.len() < point_count(n / 4) {
-        return Answer::Refused(Refusal::ShortTable);
-    }
-    clear(count, grid);
-    clear_totals(n, totals);
-    Answer::Done
-}
+ghost use Rattle.marking.specs.Mark.{refusedAt, told as markTold};
 
 // What mark answers. Of the coordinates out of the level's range the first is told: its place in the order of the nine, its axis,
 // and whether it lies below the range or above.
@@ -88,86 +44,4 @@ pub fn out_of_range(l: Level, place: usize, v: i32) -> MarkAnswer
         return MarkAnswer::Below { place: p, axis: a };
     }
     MarkAnswer::Above { place: p, axis: a }
-}
-
-// How the edges that a triangle meets are looked for: cell by cell through the triangle's box, or down the tree of cubes. The two
-// leave the same buffer and give the same answer.
-pub enum Way {
-    Scan,
-    Tree,
-}
-
-// The call mark: adds the marks of the edges that a triangle of nine numbers meets, clears all signs, and makes every total true. It looks at
-// every byte of the grid, to see that it is one; `descending::mark_fast` is for callers that know it, and need no table.
-pub fn mark(level: u32, grid: &mut [u8], triangle: &[i32], totals: &mut [u16]) -> MarkAnswer
-    ensures { λ r. ⌜ markTold r (now (grid .exit)) (now (totals .exit)) ≡ markCall level (now (grid .entry)) (now (triangle .entry)) (now (totals .entry)) ⌝ }
-{
-    mark_by(level, grid, triangle, totals, Way::Scan)
-}
-
-// The call mark, by the descent: the promise is mark's own.
-pub fn mark_tree(level: u32, grid: &mut [u8], triangle: &[i32], totals: &mut [u16]) -> MarkAnswer
-    ensures { λ r. ⌜ markTold r (now (grid .exit)) (now (totals .exit)) ≡ markCall level (now (grid .entry)) (now (triangle .entry)) (now (totals .entry)) ⌝ }
-{
-    mark_by(level, grid, triangle, totals, Way::Tree)
-}
-
-// Adds the marks of the edges that a triangle meets to a buffer that is known to be a grid without signs, either way.
-fn mark_edges(l: Level, grid: &mut [u8], t: Triangle, w: Way)
-    requires { ⌜ TriangleWithin l t ⌝ }
-    requires { ⌜ (pointsOf l ≤ length (now grid)) × (isGrid (cellsOf l) (now grid) ≡ true) × Unsigned (cellsOf l) (now grid) ⌝ }
-    ensures { λ _. ⌜ now (grid .exit) ≡ marked l t (now (grid .entry)) ⌝ }
-{
-    match w {
-        Way::Scan => mark_grid(l, grid, t),
-        Way::Tree => mark_cubed(l, grid, t),
-    }
-}
-
-// Room for the totals of any level.
-fn no_totals() -> [u16; 729]
-    ensures { λ r. ⌜ length r ≡ 729 ⌝ }
-{
-    [0u16; 729]
-}
-
-// What is left of mark for a triangle in range. The totals are counted in the scan that reads the grid, and held until nothing can be refused;
-// then only the blocks that the triangle's own box touches are counted anew.
-fn mark_passed(l: Level, grid: &mut [u8], t: Triangle, totals: &mut [u16], w: Way) -> MarkAnswer
-    requires { ⌜ TriangleWithin l t × (pointsOf l ≤ length (now grid)) ⌝ }
-    ensures { λ r. ⌜ markTold r (now (grid .exit)) (now (totals .exit)) ≡ markPassed l t (now (grid .entry)) (now (totals .entry)) ⌝ }
-{
-    let n = l.cells();
-    let mut held = no_totals();
-    let GridRead::Grid { inside } = read_held(n, grid, &mut held) else {
-        return MarkAnswer::Refused(Refusal::NoGrid);
-    };
-    if totals.len() < point_count(n / 4) {
-        return MarkAnswer::Refused(Refusal::ShortTable);
-    }
-    clear_signs(n, grid, inside);
-    store(n, &held, totals);
-    mark_edges(l, grid, t, w);
-    recount_box(n, grid, totals, box_of(l, t));
-    MarkAnswer::Done
-}
-
-// The call mark, either way.
-fn mark_by(level: u32, grid: &mut [u8], triangle: &[i32], totals: &mut [u16], w: Way) -> MarkAnswer
-    ensures { λ r. ⌜ markTold r (now (grid .exit)) (now (totals .exit)) ≡ markCall level (now (grid .entry)) (now (triangle .entry)) (now (totals .entry)) ⌝ }
-{
-    let LevelRead::Known(l) = Level::read(level) else {
-        return MarkAnswer::Refused(Refusal::BadLevel);
-    };
-    if grid.len() < l.points() {
-        return MarkAnswer::Refused(Refusal::ShortBuffer);
-    }
-    if triangle.len() != 9 {
-        return MarkAnswer::Refused(Refusal::NotNine);
-    }
-    let place = first_out(l, triangle);
-    if place < 9 {
-        return out_of_range(l, place, triangle[place]);
-    }
-    mark_passed(l, grid, triangle_of(triangle), totals, w)
 }

@@ -1,9 +1,9 @@
 // Runs mark at level 2: examples 8 to 11 of the rules, triangles of no area, numbers at the ends of the range and of
 // i32, lists of other lengths, and inputs to which several numbers apply. It prints the number and the edges marked; `rest`
 // says that the bytes behind the last point are as they were.
+use mark_calls::mark;
+use mark_calls::open;
 use marking::MarkAnswer;
-use marking::mark;
-use marking::open;
 use showing::all_hold;
 use showing::put;
 use showing::say;

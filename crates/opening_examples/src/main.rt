@@ -1,7 +1,7 @@
 // Runs open at level 2, in buffers that are longer, a byte short or empty, with a table that is long enough or a total short, and at levels
 // that there are not. It prints the number and the edges marked; `kept` says that nothing of the buffer changed, `rest` that the bytes behind
 // the last point are as they were.
-use marking::open;
+use mark_calls::open;
 use showing::all_hold;
 use showing::say;
 use showing::say_case;

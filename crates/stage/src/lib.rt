@@ -35,7 +35,7 @@ pub extern "C" fn omphirun_open(level: u32, grid: &mut [u8], totals: &mut [u16])
         (record { number = r; grid = now (grid .exit); totals = now (totals .exit) })
         (openCall level (now (grid .entry)) (now (totals .entry))) ⌝ }
 {
-    marking::open(level, grid, totals).number()
+    mark_calls::open(level, grid, totals).number()
 }
 
 // Mark (level, grid, triangle as nine i32, totals): the marks of edges met are added; none is removed; every total is true afterwards. Of the first
@@ -53,7 +53,7 @@ pub extern "C" fn omphirun_mark(
         (record { number = r; place = now (place .exit); axis = now (axis .exit); grid = now (grid .exit); totals = now (totals .exit) })
         (markCall level (now (grid .entry)) (now (triangle .entry)) (now (totals .entry))) ⌝ }
 {
-    tell_mark(marking::mark(level, grid, triangle, totals), place, axis)
+    tell_mark(mark_calls::mark(level, grid, triangle, totals), place, axis)
 }
 
 // The same by the descent through cubes, for triangles that reach through much of the grid: the promise is mark's own.
@@ -71,7 +71,7 @@ pub extern "C" fn omphirun_mark_tree(
         (markCall level (now (grid .entry)) (now (triangle .entry)) (now (totals .entry))) ⌝ }
 {
     tell_mark(
-        marking::mark_tree(level, grid, triangle, totals),
+        mark_calls::mark_tree(level, grid, triangle, totals),
         place,
         axis,
     )
@@ -165,7 +165,7 @@ pub extern "C" fn omphirun_any_mark(
         j: high_j as usize,
         k: high_k as usize,
     };
-    tell_ask(asking::any_mark(level, grid, totals, low, high), any)
+    tell_ask(table_calls::any_mark(level, grid, totals, low, high), any)
 }
 
 // Totals true (level, grid, totals): whether every total is true.
@@ -178,7 +178,7 @@ pub extern "C" fn omphirun_totals_true(
 ) -> u32
     ensures { λ r. ⌜ _≡_ {A = AskOutcome} (record { number = r; yes = now (yes .exit) }) (trueCall level (now (grid .entry)) (now (totals .entry))) ⌝ }
 {
-    tell_ask(asking::totals_true(level, grid, totals), yes)
+    tell_ask(table_calls::totals_true(level, grid, totals), yes)
 }
 
 // Count totals (level, grid, totals): makes every total true for the bytes as they are.
@@ -186,7 +186,7 @@ pub extern "C" fn omphirun_totals_true(
 pub extern "C" fn omphirun_count_totals(level: u32, grid: &[u8], totals: &mut [u16]) -> u32
     ensures { λ r. ⌜ _≡_ {A = Counted} (record { number = r; totals = now (totals .exit) }) (countCall level (now (grid .entry)) (now (totals .entry))) ⌝ }
 {
-    asking::count_totals(level, grid, totals).number()
+    table_calls::count_totals(level, grid, totals).number()
 }
 
 // Sign (level, grid): writes the signs of the P points and leaves the marks.

@@ -1,4 +1,4 @@
 pub mod Sums
 pub mod Blocks
 pub mod Held
-pub mod Anew
+pub mod Marks

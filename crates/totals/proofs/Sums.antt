@@ -33,6 +33,17 @@ module _ (f : ℕ → ℕ) (c : ℕ) where
       let m : sumOf f (upto p (c - p)) ≡ 0 = ap (λ (k : ℕ). sumOf f (upto p k)) (let r : c - p ≡ 0 = omega arith in r) in
       omega arith
 
+-- four numbers that follow each other
+pub sum-four : (f : ℕ → ℕ) (p a b c d : ℕ) → a ≡ f p → b ≡ f (p + 1) → c ≡ f (p + 2) → d ≡ f (p + 3) → (a + b) + (c + d) ≡ sumOf f (upto p 4)
+sum-four f p a b c d u v w x =
+    let k : p + 1 ≡ suc p = omega arith in
+    let l : p + 2 ≡ suc (suc p) = omega arith in
+    let m : p + 3 ≡ suc (suc (suc p)) = omega arith in
+    let q = v ∙ ap f k in
+    let r = w ∙ ap f l in
+    let s = x ∙ ap f m in
+    omega (arith, u, q, r, s)
+
 -- ---- the points of a box
 -- a sum over points, along one axis after the other
 pub nested-sum : (f : Point → ℕ) (A B C : List ℕ) → sumOf f (each (λ z. each (λ y. map (λ x. record { i = x; j = y; k = z }) A) B) C)

@@ -1,16 +1,16 @@
 -- How marks are counted: those of a box row by row and layer by layer, those of all blocks in one scan of the points. Assumes nothing.
-use mathlib.Core.List.{List, [], _∷_}
+use mathlib.Core.List.{List}
 use mathlib.Core.Path.{_≡_}
 use Prim.Native.Nat.{ℕ, _+_, _/_, _≤_}
 use lib.ListN.{length, getD, set, drop}
-use Rattle.rules.specs.declared.Axis.the-variants.{X, Y, Z}
+use Rattle.rules.specs.declared.Axis.the-variants.{X, Y}
 use Rattle.rules.specs.declared.Point.{Point}
 use Rattle.rules.specs.declared.Box.{Box}
 use Rattle.rules.specs.Lists.{upto, sumOf}
 use Rattle.rules.specs.Lattice.{pointNumber, samePoint, OfGrid}
 use Rattle.rules.specs.Grid.{byteMarks, value}
 use Rattle.rules.specs.Patch.{side, extent}
-use Rattle.totals.specs.Totals.{boxPoints, blockCount, blockBox, totalOf}
+use Rattle.totals.specs.Totals.{boxPoints, blockCount, blockBox}
 
 -- ---- a box
 -- the marks of count bytes from one on
@@ -62,34 +62,3 @@ pub record Held (n : ℕ) (f : Point → ℕ) (left : List Point) (t h : List �
   pub long : length h ≡ length t
   pub past : drop (blockCount n) h ≡ drop (blockCount n) t
   pub counts : (c : Point) → OfGrid (n / 4) c → getD h (pointNumber (n / 4) c) 0 + sumOf (share f c) left ≡ sumOf f (boxPoints (blockBox n c))
-
--- ---- some blocks anew
--- a step for each number of a list, one after the other
-unfoldable pub over : (ℕ → List ℕ → List ℕ) → List ℕ → List ℕ → List ℕ
-over step [] t = t
-over step (x ∷ l) t = over step l (step x t)
-
--- a block's entry written anew
-unfoldable pub blockAnew : ℕ → List ℕ → Point → List ℕ → List ℕ
-blockAnew n g c t = set t (pointNumber (n / 4) c) (totalOf n g c)
-
--- those of a box of blocks: of its row (j, k), of its layer k, all
-unfoldable pub rowAnew : ℕ → List ℕ → Box → ℕ → ℕ → List ℕ → List ℕ
-rowAnew n g b k j = over (λ i. blockAnew n g (record { i = i; j = j; k = k })) (extent b X)
-
-unfoldable pub layerAnew : ℕ → List ℕ → Box → ℕ → List ℕ → List ℕ
-layerAnew n g b k = over (rowAnew n g b k) (extent b Y)
-
-unfoldable pub boxAnew : ℕ → List ℕ → Box → List ℕ → List ℕ
-boxAnew n g b = over (layerAnew n g b) (extent b Z)
-
--- the blocks that have a point of a box of points
-abbrev pub blocksOf : Box → Box
-blocksOf b = record {
-  lo = blockOf (b .lo);
-  hi = record { i = (b .hi .i + 3) / 4; j = (b .hi .j + 3) / 4; k = (b .hi .k + 3) / 4 };
-}
-
--- a box of blocks of the grid
-abbrev pub OfBlocks : ℕ → Box → Type 0
-OfBlocks n b = (b .hi .i ≤ n / 4 + 1) × (b .hi .j ≤ n / 4 + 1) × (b .hi .k ≤ n / 4 + 1)

@@ -20,7 +20,6 @@ ghost use Rattle.rules.specs.Grid.{byteMarks, isGrid};
 ghost use Rattle.grids.specs.Scans.{readOf};
 ghost use Rattle.totals.specs.Totals.{marksIn, blockCount, blockBox, trued};
 ghost use Rattle.totals.specs.Counting.{rowMarks, layerMarks, Small, blockAt, heldWith};
-ghost use Rattle.totals.specs.Counting.{blockAnew, rowAnew, layerAnew, boxAnew, blocksOf, OfBlocks};
 
 // The number of marks of a byte.
 fn marks_of(b: u8) -> u16
@@ -30,11 +29,24 @@ fn marks_of(b: u8) -> u16
     k as u16
 }
 
+// The marks of four bytes: a row of most blocks.
+fn four_marks(grid: &[u8], from: usize) -> u16
+    requires { ⌜ (from ≤ 35937) × (from + 4 ≤ length (now grid)) ⌝ }
+    ensures { λ r. ⌜ (r ≡ rowMarks (now (grid .entry)) from 4) × (r ≤ 12) ⌝ }
+{
+    let first = marks_of(grid[from]) + marks_of(grid[from + 1]);
+    let last = marks_of(grid[from + 2]) + marks_of(grid[from + 3]);
+    first + last
+}
+
 // The marks of a row of points, by the number of its first.
 fn row_marks(grid: &[u8], from: usize, count: usize) -> u16
     requires { ⌜ (count ≤ 4) × (from ≤ 35937) × (from + count ≤ length (now grid)) ⌝ }
     ensures { λ r. ⌜ (r ≡ rowMarks (now (grid .entry)) from count) × (r ≤ 12) ⌝ }
 {
+    if count == 4 {
+        return four_marks(grid, from);
+    }
     let end = from + count;
     let mut held: u16 = 0;
     let mut p = from;
@@ -183,70 +195,4 @@ pub fn read_held(n: usize, grid: &[u8], table: &mut [u16]) -> GridRead
         p += 1;
     }
     GridRead::Grid { inside: found }
-}
-
-// Counts a block anew.
-fn recount(n: usize, grid: &[u8], table: &mut [u16], c: Point)
-    requires { ⌜ (n ≤ 32) × (pointCount n ≤ length (now grid)) × (blockCount n ≤ length (now table)) × OfGrid (n / 4) c ⌝ }
-    ensures { λ _. ⌜ now (table .exit) ≡ blockAnew n (now (grid .entry)) c (now (table .entry)) ⌝ }
-{
-    let q = number_of(n / 4, c);
-    table[q] = box_marks(n, grid, block_box(n, c));
-}
-
-// Counts the row (j, k) of a box of blocks anew.
-fn recount_row(n: usize, grid: &[u8], table: &mut [u16], b: Box, k: usize, j: usize)
-    requires { ⌜ (n ≤ 32) × (pointCount n ≤ length (now grid)) × (blockCount n ≤ length (now table)) × OfBlocks n b × (k ≤ n / 4) × (j ≤ n / 4) ⌝ }
-    ensures { λ _. ⌜ now (table .exit) ≡ rowAnew n (now (grid .entry)) b k j (now (table .entry)) ⌝ }
-{
-    let past = b.hi.i;
-    let mut i = b.lo.i;
-    while i < past {
-        recount(n, grid, table, Point { i: i, j: j, k: k });
-        i += 1;
-    }
-}
-
-// Counts the layer k of a box of blocks anew.
-fn recount_layer(n: usize, grid: &[u8], table: &mut [u16], b: Box, k: usize)
-    requires { ⌜ (n ≤ 32) × (pointCount n ≤ length (now grid)) × (blockCount n ≤ length (now table)) × OfBlocks n b × (k ≤ n / 4) ⌝ }
-    ensures { λ _. ⌜ now (table .exit) ≡ layerAnew n (now (grid .entry)) b k (now (table .entry)) ⌝ }
-{
-    let past = b.hi.j;
-    let mut j = b.lo.j;
-    while j < past {
-        recount_row(n, grid, table, b, k, j);
-        j += 1;
-    }
-}
-
-// Counts a box of blocks anew.
-fn recount_blocks(n: usize, grid: &[u8], table: &mut [u16], b: Box)
-    requires { ⌜ (n ≤ 32) × (pointCount n ≤ length (now grid)) × (blockCount n ≤ length (now table)) × OfBlocks n b ⌝ }
-    ensures { λ _. ⌜ now (table .exit) ≡ boxAnew n (now (grid .entry)) b (now (table .entry)) ⌝ }
-{
-    let past = b.hi.k;
-    let mut k = b.lo.k;
-    while k < past {
-        recount_layer(n, grid, table, b, k);
-        k += 1;
-    }
-}
-
-// Counts anew the blocks that have a point of a box of points, and no others.
-pub fn recount_box(n: usize, grid: &[u8], table: &mut [u16], b: Box)
-    requires { ⌜ (n ≤ 32) × (pointCount n ≤ length (now grid)) × (blockCount n ≤ length (now table)) × OfGrid n (b .hi) ⌝ }
-    ensures { λ _. ⌜ now (table .exit) ≡ boxAnew n (now (grid .entry)) (blocksOf b) (now (table .entry)) ⌝ }
-{
-    let lo = Point {
-        i: b.lo.i / 4,
-        j: b.lo.j / 4,
-        k: b.lo.k / 4,
-    };
-    let hi = Point {
-        i: (b.hi.i + 3) / 4,
-        j: (b.hi.j + 3) / 4,
-        k: (b.hi.k + 3) / 4,
-    };
-    recount_blocks(n, grid, table, Box { lo: lo, hi: hi });
 }

@@ -19,13 +19,19 @@ Inv-loop grid from count end held₀ p₀ held p =
 abbrev μ-loop : tie.MeasureT-loop
 μ-loop grid from count end held₀ p₀ held p = end - p
 
+four-marks-requires : tie.Need-four-marks-requires Inv-loop μ-loop
+four-marks-requires c κs = let s = c .before .before in (s .pre .1, omega (arith, s .pre .2, c .if1 .taken))
+
+returns : tie.Need-returns Inv-loop μ-loop
+returns c = rw (c .before .if1 .taken) (c .four-marks .ensures)
+
 add-end : tie.Need-add-end Inv-loop μ-loop
 add-end c = omega arith
 
 loop-holds : tie.Need-loop-holds Inv-loop μ-loop
 unfolding rowMarks
 loop-holds c =
-    let s = c .before in
+    let s = c .before .before in
     let e : s .args .from + s .args .count - s .args .from ≡ s .args .count = omega arith in (
       omega arith,
       omega arith,
@@ -53,7 +59,7 @@ loop-less c = omega arith
 loop-again : tie.Need-loop-again Inv-loop μ-loop
 loop-again c =
     let q = c .before .before .before .loop in
-    let s = c .before .before .before .before .before in
+    let s = c .before .before .before .before .before .before in
     let f : ℕ → ℕ = λ i. byteMarks (getD (s .args .grid .now) i 0) in
     let m = c .marks-of .ensures in (
       omega arith,
@@ -63,10 +69,10 @@ loop-again c =
       rw (m .0) (sum-on f (s .args .from + s .args .count) (q .held) (q .p) _ (omega arith) (q .inv .4)),
     )
 
-returns : tie.Need-returns Inv-loop μ-loop
-returns c =
+returns-2 : tie.Need-returns-2 Inv-loop μ-loop
+returns-2 c =
     let q = c .before .loop in
-    let s = c .before .before .before in
+    let s = c .before .before .before .before in
     (sum-end (λ i. byteMarks (getD (s .args .grid .now) i 0)) (s .args .from + s .args .count) (q .held) (q .p) _ (omega arith) (q .inv .4), omega arith)
 
 pub row-marks-spec : {M : Type 1} → statement M
@@ -75,6 +81,8 @@ row-marks-spec =
     (tie.spec
     Inv-loop
     μ-loop
+    four-marks-requires
+    returns
     add-end
     loop-holds
     shared-slice-read-marks-of
@@ -83,4 +91,4 @@ row-marks-spec =
     add-p
     loop-less
     loop-again
-    returns)
+    returns-2)

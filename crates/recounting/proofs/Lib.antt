@@ -1,0 +1,3 @@
+pub mod Anew
+pub mod Cubes
+pub mod Plane

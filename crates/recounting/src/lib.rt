@@ -1,0 +1,192 @@
+// The totals after marks were added: blocks counted anew, where a triangle can have added one. The cubes of the descent are made of
+// blocks down to a side of four cells, whose lowest corners are the points of one block; a block in a cube that an axis separates
+// from the triangle got no mark. One axis is enough here, the normal of the triangle's plane: the others would spare few blocks.
+use corners::numbers_of;
+use descending::Cube;
+use descending::SCANNED;
+use descending::cells_in;
+use descending::eighth;
+use descending::misses;
+use descending::reach_of;
+use descending::touches;
+use lattice::level::Level;
+use lattice::number_of;
+use meeting::box_of;
+use meeting::signed;
+use rules::Box;
+use rules::Point;
+use totals::block_box;
+use totals::box_marks;
+use triangles::Kept;
+use triangles::Span;
+use triangles::Triangle;
+ghost use mathlib.Core.Path.{_≡_};
+ghost use mathlib.Core.Bool.{true, false};
+ghost use Prim.Native.Nat.{_/_, _≤_};
+ghost use lib.ListN.{length};
+ghost use Rattle.rules.specs.Lattice.{pointCount, OfGrid};
+ghost use Rattle.lattice.specs.Levels.{cellsOf, pointsOf};
+ghost use Rattle.triangles.specs.declared.Triangle.{Triangle};
+ghost use Rattle.triangles.specs.Meets.{Inside};
+ghost use Rattle.triangles.specs.Keeping.{laterAxes};
+ghost use Rattle.meeting.specs.Within.{TriangleWithin};
+ghost use Rattle.meeting.specs.Met.{met};
+ghost use Rattle.meeting.specs.Covered.{Covers};
+ghost use Rattle.descending.specs.Cubes.{CubeOf, noneDrops};
+ghost use Rattle.totals.specs.Totals.{blockCount};
+ghost use Rattle.recounting.specs.Anew.{blockAnew, rowAnew, layerAnew, boxAnew, blocksOf, OfBlocks, Recounted, fourfold};
+ghost use Rattle.recounting.specs.Plane.{Plane, SomePlane, CubeRecounted};
+
+// Counts a block anew.
+fn recount(n: usize, grid: &[u8], table: &mut [u16], c: Point)
+    requires { ⌜ (n ≤ 32) × (pointCount n ≤ length (now grid)) × (blockCount n ≤ length (now table)) × OfGrid (n / 4) c ⌝ }
+    ensures { λ _. ⌜ now (table .exit) ≡ blockAnew n (now (grid .entry)) c (now (table .entry)) ⌝ }
+{
+    let q = number_of(n / 4, c);
+    table[q] = box_marks(n, grid, block_box(n, c));
+}
+
+// Counts the row (j, k) of a box of blocks anew.
+fn recount_row(n: usize, grid: &[u8], table: &mut [u16], b: Box, k: usize, j: usize)
+    requires { ⌜ (n ≤ 32) × (pointCount n ≤ length (now grid)) × (blockCount n ≤ length (now table)) × OfBlocks n b × (k ≤ n / 4) × (j ≤ n / 4) ⌝ }
+    ensures { λ _. ⌜ now (table .exit) ≡ rowAnew n (now (grid .entry)) b k j (now (table .entry)) ⌝ }
+{
+    let past = b.hi.i;
+    let mut i = b.lo.i;
+    while i < past {
+        recount(n, grid, table, Point { i: i, j: j, k: k });
+        i += 1;
+    }
+}
+
+// Counts the layer k of a box of blocks anew.
+fn recount_layer(n: usize, grid: &[u8], table: &mut [u16], b: Box, k: usize)
+    requires { ⌜ (n ≤ 32) × (pointCount n ≤ length (now grid)) × (blockCount n ≤ length (now table)) × OfBlocks n b × (k ≤ n / 4) ⌝ }
+    ensures { λ _. ⌜ now (table .exit) ≡ layerAnew n (now (grid .entry)) b k (now (table .entry)) ⌝ }
+{
+    let past = b.hi.j;
+    let mut j = b.lo.j;
+    while j < past {
+        recount_row(n, grid, table, b, k, j);
+        j += 1;
+    }
+}
+
+// Counts a box of blocks anew.
+fn recount_blocks(n: usize, grid: &[u8], table: &mut [u16], b: Box)
+    requires { ⌜ (n ≤ 32) × (pointCount n ≤ length (now grid)) × (blockCount n ≤ length (now table)) × OfBlocks n b ⌝ }
+    ensures { λ _. ⌜ now (table .exit) ≡ boxAnew n (now (grid .entry)) b (now (table .entry)) ⌝ }
+{
+    let past = b.hi.k;
+    let mut k = b.lo.k;
+    while k < past {
+        recount_layer(n, grid, table, b, k);
+        k += 1;
+    }
+}
+
+// Counts anew the blocks that have a point of a box of points, and no others.
+fn recount_box(n: usize, grid: &[u8], table: &mut [u16], b: Box)
+    requires { ⌜ (n ≤ 32) × (pointCount n ≤ length (now grid)) × (blockCount n ≤ length (now table)) × OfGrid n (b .hi) ⌝ }
+    ensures { λ _. ⌜ now (table .exit) ≡ boxAnew n (now (grid .entry)) (blocksOf b) (now (table .entry)) ⌝ }
+{
+    let lo = Point {
+        i: b.lo.i / 4,
+        j: b.lo.j / 4,
+        k: b.lo.k / 4,
+    };
+    let hi = Point {
+        i: (b.hi.i + 3) / 4,
+        j: (b.hi.j + 3) / 4,
+        k: (b.hi.k + 3) / 4,
+    };
+    recount_blocks(n, grid, table, Box { lo: lo, hi: hi });
+}
+
+// The cells whose lowest corners are the points of a cube of blocks.
+fn cells_of(c: Cube) -> Cube
+    requires { ⌜ CubeOf 8 c ⌝ }
+    ensures { λ r. ⌜ r ≡ fourfold c ⌝ }
+{
+    let at = Point {
+        i: 4 * c.at.i,
+        j: 4 * c.at.j,
+        k: 4 * c.at.k,
+    };
+    Cube {
+        at: at,
+        side: 4 * c.side,
+    }
+}
+
+// Whether a cube of cells lies beside the triangle's plane.
+fn is_beside(l: Level, plane: Kept, reach: Span, c: Cube) -> bool
+    requires { ⌜ SomePlane l plane reach × CubeOf (cellsOf l) c ⌝ }
+    ensures { λ r. ⌜ (r ≡ true → (t : Triangle) → Plane l t plane reach → noneDrops (laterAxes t) l t c ≡ false) ⌝ }
+{
+    misses(plane, reach, numbers_of(c.at), signed(c.side))
+}
+
+// Counts anew the blocks of a cube of blocks, but for those in a cube without a cell of the triangle's box b, or beside its plane: these
+// got no mark.
+fn recount_cube(
+    l: Level,
+    n: usize,
+    grid: &[u8],
+    table: &mut [u16],
+    plane: Kept,
+    reach: Span,
+    b: Box,
+    c: Cube,
+)
+    requires { ⌜ (n ≡ cellsOf l) × (pointsOf l ≤ length (now grid)) × (blockCount (cellsOf l) ≤ length (now table)) ⌝ }
+    requires { ⌜ CubeOf (cellsOf l / 4) c × SomePlane l plane reach ⌝ }
+    ensures { λ _. ⌜ CubeRecounted l plane reach b c (now (grid .entry)) (now (table .entry)) (now (table .exit)) ⌝ }
+{
+    let cells = cells_of(c);
+    if !touches(b, cells) {
+        return;
+    }
+    if is_beside(l, plane, reach, cells) {
+        return;
+    }
+    if c.side == 1 {
+        recount(n, grid, table, c.at);
+        return;
+    }
+    let mut k: usize = 0;
+    while k < 8 {
+        recount_cube(l, n, grid, table, plane, reach, b, eighth(c, k));
+        k += 1;
+    }
+}
+
+// Counts anew the blocks that a triangle can have added a mark to, down from all blocks as one cube. The blocks cut off got none.
+fn recount_cubes(l: Level, grid: &[u8], t: Triangle, table: &mut [u16], b: Box)
+    requires { ⌜ Inside t × Covers l t b × (pointsOf l ≤ length (now grid)) × (blockCount (cellsOf l) ≤ length (now table)) ⌝ }
+    ensures { λ _. ⌜ Recounted (cellsOf l) (now (grid .entry)) (met l t) (now (table .entry)) (now (table .exit)) ⌝ }
+{
+    let plane = t.kept(0, signed(l.side()));
+    let reach = reach_of(plane.axis);
+    let n = l.cells();
+    let origin = Point { i: 0, j: 0, k: 0 };
+    let whole = Cube {
+        at: origin,
+        side: n / 4,
+    };
+    recount_cube(l, n, grid, table, plane, reach, b, whole);
+}
+
+// Counts anew blocks of a grid to which the marks of the edges that a triangle meets were added, so that every total is true that was so
+// before. A triangle's box of few cells has few blocks, and all of them are counted.
+pub fn recount_met(l: Level, grid: &[u8], t: Triangle, table: &mut [u16])
+    requires { ⌜ TriangleWithin l t × (pointsOf l ≤ length (now grid)) × (blockCount (cellsOf l) ≤ length (now table)) ⌝ }
+    ensures { λ _. ⌜ Recounted (cellsOf l) (now (grid .entry)) (met l t) (now (table .entry)) (now (table .exit)) ⌝ }
+{
+    let b = box_of(l, t);
+    if cells_in(b) <= SCANNED {
+        recount_box(l.cells(), grid, table, b);
+        return;
+    }
+    recount_cubes(l, grid, t, table, b);
+}

@@ -1,0 +1,128 @@
+// The calls that ask a table of totals, or make it true: any_mark, totals_true, count_totals.
+use asking::AskAnswer;
+use grids::next_point;
+use lattice::level::Level;
+use lattice::level::LevelRead;
+use lattice::level::point_count;
+use looking::table_says;
+use refusals::Answer;
+use refusals::Refusal;
+use rules::Point;
+use totals::block_box;
+use totals::box_marks;
+use totals::count_held;
+ghost use mathlib.Core.Path.{_≡_};
+ghost use Prim.Native.Nat.{_≤_};
+ghost use lib.ListN.{length};
+ghost use Rattle.rules.specs.Lattice.{pointCount};
+ghost use Rattle.totals.specs.Totals.{blockCount};
+ghost use Rattle.asking.specs.Ask.{isTrue};
+ghost use Rattle.asking.specs.Call.{said, told, badAlong, badBox, anyCall, trueCall, countTold, countCall};
+
+// Answers yes or no.
+fn answer(b: bool) -> AskAnswer
+    ensures { λ r. ⌜ told r ≡ said b ⌝ }
+{
+    if b {
+        return AskAnswer::Yes;
+    }
+    AskAnswer::No
+}
+
+// Whether there is no number from l to h, or h lies beyond the grid.
+fn is_bad_along(n: usize, l: usize, h: usize) -> bool
+    ensures { λ r. ⌜ r ≡ badAlong n l h ⌝ }
+{
+    if h < l {
+        return true;
+    }
+    n < h
+}
+
+// Whether a box is empty or leaves the grid.
+fn is_bad(n: usize, low: Point, high: Point) -> bool
+    ensures { λ r. ⌜ r ≡ badBox n low high ⌝ }
+{
+    if is_bad_along(n, low.i, high.i) {
+        return true;
+    }
+    if is_bad_along(n, low.j, high.j) {
+        return true;
+    }
+    is_bad_along(n, low.k, high.k)
+}
+
+// The call any mark: whether a box of points, given by its lowest and highest point, has any mark. It refuses an unknown level, a grid
+// buffer shorter than P, a box that is empty or leaves the grid, and a short table.
+pub fn any_mark(level: u32, grid: &[u8], totals: &[u16], low: Point, high: Point) -> AskAnswer
+    ensures { λ r. ⌜ told r ≡ anyCall level (now (grid .entry)) (now (totals .entry)) low high ⌝ }
+{
+    let LevelRead::Known(l) = Level::read(level) else {
+        return AskAnswer::Refused(Refusal::BadLevel);
+    };
+    let n = l.cells();
+    if grid.len() < l.points() {
+        return AskAnswer::Refused(Refusal::ShortBuffer);
+    }
+    if is_bad(n, low, high) {
+        return AskAnswer::Refused(Refusal::BadBox);
+    }
+    if totals.len() < point_count(n / 4) {
+        return AskAnswer::Refused(Refusal::ShortTable);
+    }
+    answer(table_says(n, grid, totals, low, high))
+}
+
+// Whether every total is true: each block is counted, up to the first whose total is not.
+fn is_true(n: usize, grid: &[u8], totals: &[u16]) -> bool
+    requires { ⌜ (n ≤ 32) × (pointCount n ≤ length (now grid)) × (blockCount n ≤ length (now totals)) ⌝ }
+    ensures { λ r. ⌜ r ≡ isTrue n (now (grid .entry)) (now (totals .entry)) ⌝ }
+{
+    let last = n / 4;
+    let count = point_count(last);
+    let mut c = Point { i: 0, j: 0, k: 0 };
+    let mut q: usize = 0;
+    while q < count {
+        if totals[q] != box_marks(n, grid, block_box(n, c)) {
+            return false;
+        }
+        c = next_point(last, c);
+        q += 1;
+    }
+    true
+}
+
+// The call totals true: whether the table is true. It refuses an unknown level, a grid buffer shorter than P, and a short table.
+pub fn totals_true(level: u32, grid: &[u8], totals: &[u16]) -> AskAnswer
+    ensures { λ r. ⌜ told r ≡ trueCall level (now (grid .entry)) (now (totals .entry)) ⌝ }
+{
+    let LevelRead::Known(l) = Level::read(level) else {
+        return AskAnswer::Refused(Refusal::BadLevel);
+    };
+    let n = l.cells();
+    if grid.len() < l.points() {
+        return AskAnswer::Refused(Refusal::ShortBuffer);
+    }
+    if totals.len() < point_count(n / 4) {
+        return AskAnswer::Refused(Refusal::ShortTable);
+    }
+    answer(is_true(n, grid, totals))
+}
+
+// The call count totals: makes the table true for the bytes as they are, whatever they are, and clears nothing in them.
+pub fn count_totals(level: u32, grid: &[u8], totals: &mut [u16]) -> Answer
+    ensures { λ r. ⌜ countTold r (now (totals .exit)) ≡ countCall level (now (grid .entry)) (now (totals .entry)) ⌝ }
+{
+    let LevelRead::Known(l) = Level::read(level) else {
+        return Answer::Refused(Refusal::BadLevel);
+    };
+    let n = l.cells();
+    if grid.len() < l.points() {
+        return Answer::Refused(Refusal::ShortBuffer);
+    }
+    if totals.len() < point_count(n / 4) {
+        return Answer::Refused(Refusal::ShortTable);
+    }
+    count_held(n, grid, totals);
+    Answer::Done
+}
