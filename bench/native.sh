@@ -1,4 +1,4 @@
-# Functions for bench/run, read after tests/build.sh and tests/compile.sh: what is timed, made by rt. The kit compiles for x86-64. On another
+# Functions for bench/run and bench/owners, read after tests/build.sh and tests/compile.sh: what is timed, made by rt. The kit compiles for x86-64. On another
 # machine an emulator would run that, and its times mean nothing; so there the intermediate code that rt hands to the kit's compiler, one
 # module with all proved crates in it, is kept and compiled once more: by the same compiler, with the same flags, for the machine itself.
 
@@ -66,18 +66,19 @@ timed_library() {
     fi
 }
 
-# The program to time. One that rt has made is not made again while rt still has its stamp.
-timed_program() {
+# A program to time, of the repository at `root`: the command is left in `timed`. One that rt has made is not made again while rt still has its stamp.
+timed_program() { # NAME
     find_kit
     if [ "$machine" = x86_64 ]; then
-        build_program repair
-        repair="$loader --library-path $tools/lib $root/target/bin/repair"
+        build_program "$1"
+        timed="$loader --library-path $tools/lib $root/target/bin/$1"
         return 0
     fi
-    ! stale "$root/target/bench/repair.bc" || rm -f "$root/target/stamp/repair"
-    make_alike "$root/target/bench/repair" check repair
-    $cc -o "$root/target/bench/repair" "$root/target/bench/repair.o" || die "repair does not link"
-    repair=$root/target/bench/repair
+    ! stale "$root/target/bench/$1.bc" || rm -f "$root/target/stamp/$1"
+    make_alike "$root/target/bench/$1" check "$1"
+    # shellcheck disable=SC2086
+    $cc $flags -o "$root/target/bench/$1" "$root/target/bench/$1.o" "$root/bench/arguments.c" || die "$1 does not link"
+    timed=$root/target/bench/$1
 }
 
 # One function of an earlier library under another name: of a file, or of a commit, which is proved in a clone of its own.

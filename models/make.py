@@ -7,6 +7,8 @@ coordinates at the end. Walls are more than one and a half cells thick: thinner 
 usage: models/make.py [FOLDER]                          writes every model into the folder (this one when none is given)
        models/make.py --whole FOLDER                    writes models without damage, one of which has rims all the same, and a bowl of one sheet
        models/make.py --lampshade TRIANGLES LEVEL FILE  writes a whole lampshade of about so many triangles
+       models/make.py --owners FOLDER                   writes models as owners have them: binary STL files, in units and at a place of their own
+       models/make.py --stl TRIANGLES FILE              writes a whole lampshade of about so many triangles as binary STL
 """
 import math
 import os
@@ -162,9 +164,13 @@ def soup():
     return [tuple(tuple(c + draw.uniform(-0.03, 0.03) for c in corner) for corner in t) for t in left]
 
 
+def ball_depth(p):
+    return BALL - from_middle(p)
+
+
 def soup_depth(p):
     """Near the skin so much is missing that only what lies one and a half cells further off is known."""
-    depth = BALL - from_middle(p)
+    depth = ball_depth(p)
     return math.copysign(max(abs(depth) - 1.5, 0), depth)
 
 
@@ -222,6 +228,95 @@ WHOLE = {
 }
 
 
+# What owners bring, as binary STL: a cell above is UNIT of theirs, and the model stands at a place of its own. Each has its depth as above, how far
+# from its skin so much is missing that nothing is known, its volume in cells, and whether the method can do it.
+UNIT, PLACE = 1.1, (-20.0, 35.0, 7.5)
+
+
+def owned(corner):
+    return tuple(UNIT * (c + p) for c, p in zip(corner, PLACE))
+
+
+def disowned(corner):
+    return tuple(c / UNIT - p for c, p in zip(corner, PLACE))
+
+
+def moved(triangles, by):
+    return [tuple(tuple(c + d for c, d in zip(corner, by)) for corner in t) for t in triangles]
+
+
+def ball_volume(radius):
+    return 4 / 3 * math.pi * radius ** 3
+
+
+def frustum_volume(foot, top):
+    return math.pi / 3 * (TOP[1] - FOOT[1]) * (foot * foot + foot * top + top * top)
+
+
+def ball_lacking_a_third():
+    """A third of all triangles are missing, at random."""
+    whole = sphere(48, 24, BALL)
+    return random.Random(7).sample(whole, k=len(whole) - len(whole) // 3)
+
+
+CAVITY = 6.0
+
+
+def ball_with_cavity():
+    return sphere(48, 24, BALL) + sphere(32, 16, CAVITY)
+
+
+def ball_with_cavity_depth(p):
+    return min(BALL - from_middle(p), from_middle(p) - CAVITY)
+
+
+BODY, OTHER, SMALL = ((3.0, 10.0, 8.0), (13.0, 22.0, 24.0)), (6.0, 0.0, 0.0), 6.0
+
+
+def two_bodies():
+    """A box, and a ball beside it."""
+    return box(*BODY) + moved(sphere(32, 16, SMALL), OTHER)
+
+
+def two_bodies_depth(p):
+    return max(box_depth(p, *BODY), SMALL - math.dist(p, tuple(MIDDLE + c for c in OTHER)))
+
+
+def box_volume(low, high):
+    return math.prod(h - l for l, h in zip(low, high))
+
+
+ON_PLANES = 20 / UNIT, 12 / UNIT, 18 / UNIT  # even numbers of the owner's units: fitted, the sides lie next to grid planes
+OVERLAP = tuple(map(max, ONE[0], TWO[0])), tuple(map(min, ONE[1], TWO[1]))
+SHELL, THIN = ((4.3, 4.3, 4.3), (27.7, 27.7, 27.7)), 0.5
+HOLLOW = tuple(c + THIN for c in SHELL[0]), tuple(c - THIN for c in SHELL[1])
+
+# Name: triangles, depth, what is not known of it, volume, whether the method can do it.
+OWNERS = {
+    "lampshade_lacking_a_triangle": (lampshade, lampshade_depth, 0, frustum_volume(FOOT[0], TOP[0]) - frustum_volume(FOOT[0] - WALL, TOP[0] - WALL), True),
+    "ball_lacking_a_third": (ball_lacking_a_third, ball_depth, 1.5, ball_volume(BALL), True),
+    "ball_with_cavity": (ball_with_cavity, ball_with_cavity_depth, 0, ball_volume(BALL) - ball_volume(CAVITY), True),
+    "box_on_planes": (lambda: box((0.0,) * 3, ON_PLANES), lambda p: box_depth(p, (0.0,) * 3, ON_PLANES), 0, box_volume((0.0,) * 3, ON_PLANES), True),
+    "two_bodies": (two_bodies, two_bodies_depth, 0, box_volume(*BODY) + ball_volume(SMALL), True),
+    "soup": (soup, ball_depth, 1.5, ball_volume(BALL), True),
+    "overlapping_boxes": (overlapping_boxes, lambda p: max(box_depth(p, *ONE), box_depth(p, *TWO)), 0,
+                          box_volume(*ONE) + box_volume(*TWO) - box_volume(*OVERLAP), False),
+    "box_of_thin_walls": (lambda: box(*SHELL) + box(*HOLLOW), lambda p: min(box_depth(p, *SHELL), -box_depth(p, *HOLLOW)), 0,
+                          box_volume(*SHELL) - box_volume(*HOLLOW), False),
+}
+
+
+def stl_of(triangles):
+    """A binary STL file with zeros for header, normals and attributes, which no reader needs."""
+    records = [bytes(12) + struct.pack("<9f", *(c for corner in t for c in corner)) + bytes(2) for t in triangles]
+    return bytes(80) + struct.pack("<I", len(records)) + b"".join(records)
+
+
+def write_bytes(path, data):
+    with open(path, "wb") as file:
+        file.write(data)
+
+
 def write(path, level, triangles):
     with open(path, "wb") as file:
         file.write(stream_of(level, triangles))
@@ -230,6 +325,11 @@ def write(path, level, triangles):
 def main(words):
     if len(words) == 4 and words[0] == "--lampshade" and words[1].isdigit() and words[2] in ("2", "3", "4", "5"):
         write(words[3], int(words[2]), fitted_lampshade(int(words[1]), int(words[2])))
+    elif len(words) == 3 and words[0] == "--stl" and words[1].isdigit():
+        write_bytes(words[2], stl_of([tuple(map(owned, t)) for t in fitted_lampshade(int(words[1]), 5)]))
+    elif len(words) == 2 and words[0] == "--owners" and os.path.isdir(words[1]):
+        for name, (make, *_) in OWNERS.items():
+            write_bytes(os.path.join(words[1], name + ".stl"), stl_of([tuple(map(owned, t)) for t in make()]))
     elif len(words) == 2 and words[0] == "--whole" and os.path.isdir(words[1]):
         for name, make in WHOLE.items():
             write(os.path.join(words[1], name + ".bin"), 5, make())
@@ -238,7 +338,7 @@ def main(words):
         for name, (level, make, _) in MODELS.items():
             write(os.path.join(folder, name + ".bin"), level, make())
     else:
-        sys.exit("usage: models/make.py [FOLDER] | --whole FOLDER | --lampshade TRIANGLES LEVEL FILE")
+        sys.exit("usage: models/make.py [FOLDER] | --whole FOLDER | --lampshade TRIANGLES LEVEL FILE | --owners FOLDER | --stl TRIANGLES FILE")
 
 
 if __name__ == "__main__":

@@ -33,14 +33,16 @@ find_kit() {
 
 # ---- the end, and signals
 
-room='' rt_room='' beside='' beside_job='' busy=''
+room='' rt_room='' beside='' beside_job='' beside_out='' busy=''
 
 # A folder for what is temporary.
 make_room() {
     [ -n "$room" ] || room=$(mktemp -d 2>/dev/null) || die "cannot make a temporary folder in ${TMPDIR:-/tmp}"
 }
 
-finish() { rm -rf ${room:+"$room"} ${rt_room:+"$rt_room"} ${beside:+"$beside"} ${beside_job:+"$beside_job"}; }
+finish() {
+    rm -rf ${room:+"$room"} ${rt_room:+"$rt_room"} ${beside:+"$beside"} ${beside_job:+"$beside_job"} ${beside_out:+"$beside_out"}
+}
 
 # Ends the command that is awaited, with its group where it has one, and waits until the group is gone, two seconds at most.
 end_awaited() {
@@ -155,7 +157,10 @@ find_library() { # FILE or nothing
     make_by_rt "$library" staticlib stage
 }
 
-# Runs a program that rt linked, under the kit's loader and C library as rt does.
+# Runs a program that rt linked, under the kit's loader and C library as rt does; the second in the place of the shell.
 run_proved() { # PROGRAM ARGUMENT...
     ${emulator:+"$emulator"} "$loader" --library-path "$tools/lib" "$@"
+}
+exec_proved() { # PROGRAM ARGUMENT...
+    exec ${emulator:+"$emulator"} "$loader" --library-path "$tools/lib" "$@"
 }

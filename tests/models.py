@@ -1,5 +1,6 @@
 #!/usr/bin/env python3
-"""Holds the repaired sample models to their truth. usage: tests/models.py LISTINGS (a folder with NAME.txt for each model)
+"""Holds the repaired sample models to their truth. usage: tests/models.py LISTINGS (a folder with NAME.txt for each model, and a folder `owners` in it
+with NAME.stl, as ./repair has written it, and NAME.report for each owner's model)
 
 Each listing must be closed (each step from cell to cell as often as its reverse), every quad must run counterclockwise seen
 from outside, and grid points further than a quarter of a cell from the true surface must lie on the right side of it. The box whose sides
@@ -15,6 +16,7 @@ import sys
 ROOT = os.path.dirname(os.path.dirname(os.path.abspath(__file__)))
 sys.path.insert(0, os.path.join(ROOT, "models"))
 import make  # noqa: E402
+import models_owners  # noqa: E402
 
 AWAY = 0.25  # cells from the surface; the facets of a turned shape lie up to a tenth of a cell under it
 UNITS = ((1, 0, 0), (0, 1, 0), (0, 0, 1))
@@ -177,7 +179,13 @@ def main(words):
     if gap == 0 or whole != 0:
         failed += 1
         print("lampshade: DOES NOT HOLD: the sample no longer shows the slip")
-    print(f"tests/models: {len(make.MODELS) + len(make.WHOLE)} models, {failed} failures")
+    for name in make.OWNERS:
+        try:
+            print(f"{name}.stl: {models_owners.check(name, os.path.join(words[0], 'owners'))}")
+        except (AssertionError, OSError, AttributeError) as fault:
+            failed += 1
+            print(f"{name}.stl: DOES NOT HOLD: {fault}")
+    print(f"tests/models: {len(make.MODELS) + len(make.WHOLE)} models, {len(make.OWNERS)} STL files of owners, {failed} failures")
     sys.exit(1 if failed else 0)
 
 

@@ -161,6 +161,8 @@ def masks():
         none = os.path.join(folder, "none")
         hold(run(["--masks", none, "-"], input=b"")[0] == 1 and not os.path.exists(none), "a refused stream has no masks")
         hold(sorted(os.listdir(folder)) == ["a new", "layer_00.pbm", "small"], "nothing is left beside the masks")
+        model = shutil.copy(os.path.join(ROOT, "models", "bowl.bin"), os.path.join(small, "layer_30.pbm"))
+        hold("is the file that is read" in fails("a model where a mask has to be", ["--force", "--masks", small, model]), "the input is kept")
         for words in (["--masks"], ["--masks", ""], ["--masks", "--quads"], ["--masks", none, "--masks", small], ["--force"],
                       ["--masks", "/dev/null"], ["--masks", "/dev/null/folder"]):
             fails("a folder that is none", words)
@@ -179,7 +181,7 @@ def refusals():
                8: many_quads(), 9: b"\2" + POINT * (MOST_TRIANGLES + 1)}
     for number, stream in streams.items():
         status, out, said = run(["--quads", "-"], input=stream)
-        hold((status, said) == (1, "") and re.match(rf"^standard input: refused {number}: .+\n$", out), f"refused by {number}: {status} {out!r}")
+        hold((status, out) == (1, "") and re.match(rf"^standard input: refused {number}: .+\n$", said), f"refused by {number}: {status} {said!r}")
 
 
 def bad_coordinates():
@@ -192,7 +194,7 @@ def bad_coordinates():
             least = 1 << (19 - level)
             words = (f"standard input: refused {number}: a coordinate lies {side} the level's range: {'xyz'[place % 3]} of corner {'ABC'[place // 3]} "
                      f"of triangle {place + 1} is {bad}, the range is {least} to {524287 - least}\n")
-            hold((status, out, said) == (1, words, ""), f"place {place}: {out!r}")
+            hold((status, out, said) == (1, "", words), f"place {place}: {said!r}")
 
 
 def without_end():
@@ -205,8 +207,8 @@ def without_end():
                 file.write(begin)
                 file.truncate(3 << 30)
             began = time.monotonic()
-            status, out, _ = run([path])
-            hold(status == 1 and f"refused {number}" in out, f"3 GB are refused by {number}")
+            status, _, said = run([path])
+            hold(status == 1 and f"refused {number}" in said, f"3 GB are refused by {number}")
             hold(time.monotonic() - began < SOON / 2, "3 GB are refused at once")
 
 
@@ -221,7 +223,7 @@ def what_goes_wrong():
     fails("closed output", [], preexec_fn=lambda: os.close(1))
     with open("/dev/full", "w") as full:
         fails("a full disk", [], stdout=full)
-        fails("a full disk", ["/dev/zero"], stdout=full)
+        hold(run(["/dev/zero"], stdout=full)[0] == 1, "a refusal needs no room on standard output")
     fails("no temporary folder", [], room="/nonexistent")
     fails("no room in the temporary folder", [], preexec_fn=small_files)
     fails("no room for the listing", ["-"], input=many_quads()[:100 * 36 + 1], preexec_fn=small_files)
@@ -292,8 +294,13 @@ def hold_all(tests):
 if __name__ == "__main__":
     import script_build
     import script_job
-    failures = hold_all((reports, gaps_and_membranes, options, masks, refusals, bad_coordinates, without_end, what_goes_wrong, early_reader, symlinks, interrupts))
+    import script_many
+    import script_stl
+    failures = hold_all((reports, gaps_and_membranes, options, masks, refusals, bad_coordinates, without_end, what_goes_wrong, early_reader, symlinks,
+                         interrupts))
     failures += hold_all(script_job.TESTS)
+    failures += hold_all(script_stl.TESTS)
+    failures += hold_all(script_many.TESTS)
     failures += hold_all(script_build.TESTS)
     print(f"tests/script: ./repair in {runs + script_build.runs()} runs, {failures} failures")
     sys.exit(1 if failures else 0)

@@ -43,6 +43,7 @@ class Repository:
         for name in (self.folder + "/tests", self.folder + "/include", self.folder + "/models", self.folder + "/crates/rules",
                      self.kit + "/bin", self.kit + "/on/" + os.uname().machine, self.room):
             os.makedirs(name)
+        shutil.copytree(os.path.join(ROOT, "repairing"), os.path.join(self.folder, "repairing"))
         for name in ("repair", "crates.txt", "tests/build.sh", "include/omphirun.h", "models/lampshade.bin"):
             shutil.copy(os.path.join(ROOT, name), os.path.join(self.folder, name))
         for name, text in (("bin/rt", RT), ("KIT-ID", "pretended\n")):

@@ -141,11 +141,11 @@ def job_refusals():
         for number, data in cases:
             none = os.path.join(folder, "none")
             status, out, said = run(["--job", none, write(os.path.join(folder, "a.job"), data)])
-            hold((status, said) == (1, "") and re.match(rf"^a\.job: refused {number}: .+\n$", out), f"refused by {number}: {status} {out!r}")
+            hold((status, out) == (1, "") and re.match(rf"^a\.job: refused {number}: .+\n$", said), f"refused by {number}: {status} {said!r}")
             hold(os.listdir(folder) == ["a.job"], "a job that is refused is not written again")
         for bodies in ({}, {GRID: bytes(125)}, {GRID: bytes(125), QUADS: quad}):
             answer = run([write(os.path.join(folder, "a.job"), job_of(2, bodies))])
-            hold(answer == (1, "a.job: no triangles: the job has none to repair\n", ""), f"no triangles: {answer}")
+            hold(answer == (1, "", "a.job: no triangles: the job has none to repair\n"), f"no triangles: {answer}")
     hold("larger than" in fails("a job without end", ["--kind", "job", "/dev/zero"]), "no more is read than 64 MB")
     hold(run(["--kind", "job", "-"], input=b"")[0] == 1, "no job on standard input")
 
@@ -193,7 +193,7 @@ def files_kept():
         big = os.path.join(folder, "big.job")
         fails("no room", ["--job", big, "-"], input=b"\4" + POINT, preexec_fn=small_files)
         hold(sorted(os.listdir(folder)) == ["a.job", "folder", "link", "model"], f"nothing is left beside the jobs: {os.listdir(folder)}")
-        for words in (["--job"], ["--job", ""], ["--job", "--quads"], ["--job", big, "--job", big], ["--kind"], ["--kind", "stl"], ["--kind", ""]):
+        for words in (["--job"], ["--job", ""], ["--job", "--quads"], ["--job", big, "--job", big], ["--kind"], ["--kind", "text"], ["--kind", ""]):
             fails("a wrong command", words)
 
 
@@ -219,9 +219,9 @@ def planted():
     with script_build.repository() as r:
         hold(r.run()[0] == 0, "the repository's copy repairs")
         job = write(os.path.join(r.folder, "a.job"), job_of(2, {TRIANGLES: LINE * 2}))
-        out, path = os.path.join(r.folder, "out.job"), os.path.join(r.folder, "repair")
+        out, path, part = (os.path.join(r.folder, name) for name in ("out.job", "repair", "repairing/streams.sh"))
         env = dict(PATH=r.kit + "/bin:" + os.environ["PATH"], FAKE=r.kit, REAL=ROOT, RATTLE_HOME=r.kit)
-        words, text = ["--job", out, job], read(path).decode()
+        words, text = ["--job", out, job], read(part).decode()
         hold(run(words, script=path, env=env)[0] == 0 and len(read(out)) == 29 + 125 + 2 * 36 + 6 * 8, "and writes a job")
         os.remove(out)
         pack, unpack = 'run_on pack "$room/stream" "$room/packed"', 'run_on unpack "$room/job" "$room/stream"'
@@ -229,7 +229,7 @@ def planted():
                                   (unpack, 'truncate -s -36 "$room/stream"', "stream is cut short"), (unpack, ': >"$room/stream"', "something else"),
                                   (unpack, 'echo refuse >"$room/stream"', "something else")):
             hold(text.count(call) == 1, f"{call} stands in the script once")
-            write(path, text.replace(call, f"{call}; {fault}").encode())
+            write(part, text.replace(call, f"{call}; {fault}").encode())
             hold(said in fails(fault, words, script=path, env=env) and not os.path.exists(out), f"{fault} is found, and nothing is written")
 
 

@@ -18,6 +18,9 @@ make_streams() {
     done
 }
 
+# The front of a file's first line, as far as it can be printed.
+front() { head -n 1 "$1" | head -c 60 | tr -cd ' -~'; } # FILE
+
 ran=0 differ=0
 # Holds a program's output on standard input to the expected one, with status 0 and nothing on standard error; says what differs.
 hold() { # NAME EXPECTED COMMAND...
@@ -27,7 +30,7 @@ hold() { # NAME EXPECTED COMMAND...
     status=0
     "$@" >"$work/printed" 2>"$work/said" || status=$?
     [ "$status" = 0 ] && [ ! -s "$work/said" ] && cmp -s "$work/printed" "$expected" && return 0
-    echo "difference at $what: expected '$(head -n 1 "$expected")' and so on, got '$(head -n 1 "$work/printed")', status $status"
+    echo "difference at $what: expected '$(front "$expected")' and so on, got '$(front "$work/printed")', status $status"
     differ=$((differ + 1))
     return 1
 }

@@ -50,7 +50,7 @@ const HALF_POWERS: [f32; 41] = [
 ];
 
 // Half of 2^-e, with s for e + 20.
-fn half_power(s: u32) -> f32
+pub fn half_power(s: u32) -> f32
     requires { ⌜ s ≤ 40 ⌝ }
     ensures { λ r. ⌜ r ≡ halfPower s ⌝ }
 {

@@ -3,12 +3,12 @@ use mathlib.Core.Path.{_≡_}
 use mathlib.Core.Bool.{true}
 use mathlib.Core.List.{List, _++_}
 use Prim.Native.Nat.{ℕ, _-_, _%_, _≤_, _<_}
+use lib.IntN.{ℤ}
 use lib.ListN.{length}
 use Rattle.rules.specs.Grid.{isGrid, Unsigned}
 use Rattle.lattice.specs.declared.level.Level.{Level}
 use Rattle.lattice.specs.Levels.{numberOf, cellsOf, pointsOf}
 use Rattle.marking.specs.Mark.{markCall}
-use Rattle.text.specs.Words.{numbers}
 use Rattle.feeding.specs.Lent.{lentTotals}
 use Rattle.feeding.specs.declared.Fed.{Fed}
 use Rattle.feeding.specs.declared.Fed.the-variants.{Marked, Refused}
@@ -20,10 +20,10 @@ pub record Ready (l : Level) (g : List ℕ) : Type 0 where
   pub grid : isGrid (cellsOf l) g ≡ true
   pub unsigned : Unsigned (cellsOf l) g
 
--- the number and the grid are those of mark, for the triangle of the bytes s
-pub record Marking (l : Level) (s : List ℕ) (number : ℕ) (g g′ : List ℕ) : Type 0 where
-  pub number-is : number ≡ markCall (numberOf l) g (numbers s) lentTotals .number
-  pub grid-is : g′ ≡ markCall (numberOf l) g (numbers s) lentTotals .grid
+-- the number and the grid are those of mark, for the triangle of the numbers c
+pub record Marking (l : Level) (c : List ℤ) (number : ℕ) (g g′ : List ℕ) : Type 0 where
+  pub number-is : number ≡ markCall (numberOf l) g c lentTotals .number
+  pub grid-is : g′ ≡ markCall (numberOf l) g c lentTotals .grid
   pub ready : Ready l g′
 
 -- a block has whole triangles, unless it is the stream's last

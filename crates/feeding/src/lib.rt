@@ -5,8 +5,10 @@ use marking::out_of_range;
 use marking::range::first_out;
 use marking::range::triangle_of;
 use text::words::numbers_at;
+ghost use mathlib.Core.Path.{_≡_};
 ghost use Prim.Native.Nat.{_+_, _≤_};
 ghost use lib.ListN.{length, drop};
+ghost use Rattle.text.specs.Words.{numbers};
 ghost use Rattle.feeding.specs.Feed.{Ready, Marking, Feeding};
 
 // The bytes of a triangle: nine numbers of four bytes.
@@ -21,19 +23,26 @@ pub enum Fed {
     Refused { number: u32 },
 }
 
-// Marks the triangle whose bytes begin at a place, and answers 0; where a coordinate is out of the level's range, answers the number that
-// mark refuses it by.
-fn mark_at(l: Level, grid: &mut [u8], block: &[u8], at: usize) -> u32
-    requires { ⌜ (at + 36 ≤ length (now block)) × Ready l (now grid) ⌝ }
-    ensures { λ r. ⌜ Marking l (drop at (now (block .entry))) r (now (grid .entry)) (now (grid .exit)) ⌝ }
+// Marks the triangle of nine numbers, and answers 0; where a coordinate is out of the level's range, answers the number that mark refuses it by.
+pub fn mark_numbers(l: Level, grid: &mut [u8], c: &[i32]) -> u32
+    requires { ⌜ (length (now c) ≡ 9) × Ready l (now grid) ⌝ }
+    ensures { λ r. ⌜ Marking l (now (c .entry)) r (now (grid .entry)) (now (grid .exit)) ⌝ }
 {
-    let c = numbers_at(block, at);
-    let place = first_out(l, &c);
+    let place = first_out(l, c);
     if place < 9 {
         return out_of_range(l, place, c[place]).number();
     }
-    mark_fast(l, grid, triangle_of(&c));
+    mark_fast(l, grid, triangle_of(c));
     0
+}
+
+// Marks the triangle whose bytes begin at a place, and answers 0, or the number that mark refuses it by.
+fn mark_at(l: Level, grid: &mut [u8], block: &[u8], at: usize) -> u32
+    requires { ⌜ (at + 36 ≤ length (now block)) × Ready l (now grid) ⌝ }
+    ensures { λ r. ⌜ Marking l (numbers (drop at (now (block .entry)))) r (now (grid .entry)) (now (grid .exit)) ⌝ }
+{
+    let c = numbers_at(block, at);
+    mark_numbers(l, grid, &c)
 }
 
 // Marks the triangles of a block of a stream, after so many that have come before. Refusals come in stream order: any byte after

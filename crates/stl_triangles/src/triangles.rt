@@ -23,7 +23,7 @@ fn or_else(first: Fault, second: Fault) -> Fault
 }
 
 // The first fault of the triangle whose vertices begin at a place.
-fn triangle_fault(file: &[u8], at: usize, s: u32) -> Fault
+pub fn triangle_fault(file: &[u8], at: usize, s: u32) -> Fault
     requires { ⌜ (at + 36 ≤ length (now file)) × (s ≤ 40) ⌝ }
     ensures { λ r. ⌜ r ≡ triangleFault (isNear (exponentOf s)) (now (file .entry)) at ⌝ }
 {
@@ -56,7 +56,7 @@ pub fn first_fault(file: &[u8], s: u32, count: usize) -> Fault
 }
 
 // Puts the nine numbers of the triangle whose vertices begin at `from`, which has no fault, into the list.
-fn put_triangle(file: &[u8], from: usize, s: u32, list: &mut [i32], at: usize)
+pub fn put_triangle(file: &[u8], from: usize, s: u32, list: &mut [i32], at: usize)
     requires { ⌜ (from + 36 ≤ length (now file)) × (s ≤ 40) × (at + 9 ≤ length (now list)) ⌝ }
     requires { ⌜ triangleFault (isNear (exponentOf s)) (now file) from ≡ Fault.Clear ⌝ }
     ensures { λ _. ⌜ now (list .exit) ≡ sets (now (list .entry)) at (triangleNumbers (roundTimes (exponentOf s)) (now (file .entry)) from) ⌝ }

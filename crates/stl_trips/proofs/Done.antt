@@ -40,7 +40,7 @@ unfolding facings quads
 quads-are n E s = each-map (λ f. each (λ c. cellNumber n c ∷ []) (f .cells)) (facing s) (keep (isIn E) (places (suc n)))
 
 -- ---- they lie in the lattice, and a u32 counts their triangles
-quads-in : (v : Level) (g : List ℕ) (s : Point → Bool) → All (InLattice (sideOf v)) (facings (cellsOf v) (marks (cellsOf v) g) s)
+pub quads-in : (v : Level) (g : List ℕ) (s : Point → Bool) → All (InLattice (sideOf v)) (facings (cellsOf v) (marks (cellsOf v) g) s)
 unfolding facings
 quads-in v g s =
     all-map (InLattice (sideOf v)) (facing s) edges (all-weaken _ _ one edges (all-kept (isIn (marks n g)) (places (suc n))))
@@ -65,7 +65,7 @@ three-each : (l : List Point) → length (each placesAt l) ≡ 3 * length l
 three-each [] = refl
 three-each (p ∷ l) = let e = three-each l in omega arith
 
-quads-few : (n : ℕ) (E : Set) (s : Point → Bool) → n ≤ 32 → 2 * length (facings n E s) < 4294967296
+pub quads-few : (n : ℕ) (E : Set) (s : Point → Bool) → n ≤ 32 → 2 * length (facings n E s) < 4294967296
 unfolding quadCount
 quads-few n E s h =
     let a = facings-count n E s in

@@ -1,7 +1,8 @@
 -- Laws of a stream's beginning and end: what open makes of the bytes lent, and what is printed. Assumes nothing.
 use mathlib.Core.Path.{_≡_, refl, sym, ap, subst, _∙_}
+use mathlib.Core.Bool.{false, true≢false}
 use mathlib.Core.List.{List, [], _∷_, _++_}
-use Prim.Native.Nat.{ℕ, _+_, _-_}
+use Prim.Native.Nat.{ℕ, _+_, _-_, _≤_}
 use native.Mathlib.Omega.{arith}
 use lib.ListN.{length, drop, replicate, length-replicate, replicate-append-replicate}
 use lib.Seq.{drop-at}
@@ -18,13 +19,15 @@ use Rattle.marking.specs.Open.{opened, openRows, openCall}
 use Rattle.text.specs.Listing.{refusedLine}
 use Rattle.picture.proofs.Inside.{points-most}
 use Rattle.streaming.specs.declared.Wanted.{Wanted}
+use Rattle.streaming.specs.declared.Wanted.the-variants.{Listing, Layers, Masks, Faces, Surface}
 use Rattle.feeding.specs.declared.Fed.the-variants.{Marked, Refused}
 use Rattle.feeding.specs.Taken.{taken, mostTriangles}
 use Rattle.reporting.specs.Report.{lentBytes}
 use Rattle.reporting.proofs.Lent.{bytes-long}
 use Rattle.streaming.specs.Stream.{shown, printedTaken, printed}
 use Rattle.feeding.specs.Feed.{Ready}
-use Rattle.streaming.specs.Read.{Streamed}
+use Rattle.filing.proofs.Filed.{file-long}
+use Rattle.streaming.specs.Read.{isFile, Room, Streamed}
 use Rattle.feeding.specs.Lent.{lentTotals}
 use Rattle.feeding.proofs.Lent.{lent-long}
 use Rattle.feeding.proofs.Marked.{known}
@@ -88,3 +91,18 @@ module _ (w : Wanted) (s : List ℕ) where
   pub printed-level : (l : Level) → printedTaken w (numberOf l) (taken (numberOf l) mostTriangles s 0 lentBytes) ≡ printed w (numberOf l ∷ s)
   unfolding printed
   printed-level l = rw (open-done l)
+
+-- ---- the room that is lent
+pub room-some : (w : Wanted) (out : List ℕ) → Room w out → 106 ≤ length out
+room-some Listing out h = omega arith
+room-some Layers out h = omega arith
+room-some Masks out h = omega arith
+room-some Faces out h = omega arith
+room-some Surface out h = rw (h, file-long) (omega arith)
+
+pub room-text : (w : Wanted) (out : List ℕ) → isFile w ≡ false → 213098 ≤ length out → Room w out
+room-text Listing out e h = h
+room-text Layers out e h = h
+room-text Masks out e h = h
+room-text Faces out e h = h
+room-text Surface out e h = absurd (true≢false e)

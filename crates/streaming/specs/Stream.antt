@@ -7,16 +7,18 @@ use Rattle.text.specs.Listing.{refusedLine}
 use Rattle.feeding.specs.Lent.{lentTotals}
 use Rattle.feeding.specs.Taken.{mostTriangles, Taken, marked, refusedBy, taken}
 use Rattle.reporting.specs.Report.{lentBytes, unless, closed, surfaced, layered, masked, faced}
+use Rattle.filing.specs.File.{filed}
 use Rattle.streaming.specs.declared.Wanted.{Wanted}
-use Rattle.streaming.specs.declared.Wanted.the-variants.{Listing, Layers, Masks, Faces}
+use Rattle.streaming.specs.declared.Wanted.the-variants.{Listing, Layers, Masks, Faces, Surface}
 
--- the program prints the listing; its companions `layers`, `masking` and `gaps` print the layers of points, their masks, and where faces have
--- one mark or three
+-- the program prints the listing; its companions `layers`, `masking`, `gaps` and `surfaced` print the layers of points, their masks, where
+-- faces have one mark or three, and the surface as binary STL
 abbrev pub shown : Wanted → ℕ → ℕ → List ℕ → List ℕ
 shown Listing level t g = closed level g (surfaced level t)
 shown Layers level t g = closed level g (layered level)
 shown Masks level t g = closed level g (masked level)
 shown Faces level t g = faced level g
+shown Surface level t g = closed level g (filed level)
 
 abbrev pub printedTaken : Wanted → ℕ → Taken → List ℕ
 printedTaken w level (marked t g) = shown w level t g

@@ -10,6 +10,19 @@ use Rattle.text.specs.Text.{ascii, field, fields}
 unfoldable pub refusedLine : ℕ → List ℕ
 refusedLine n = field "refused " n ++ ascii "\n"
 
+-- what else is said alone: there is nothing to print, or why not
+unfoldable pub noTriangles : List ℕ
+noTriangles = ascii "no triangles\n"
+
+unfoldable pub tooLarge : List ℕ
+tooLarge = ascii "too large\n"
+
+unfoldable pub badWord : List ℕ
+badWord = ascii "bad word\n"
+
+unfoldable pub notAFile : List ℕ
+notAFile = ascii "not a file\n"
+
 -- the number of faces with one mark and with three, on a line of its own
 unfoldable pub facesLine : ℕ → ℕ → List ℕ
 facesLine ones threes = fields "ones " ones " threes " threes ++ ascii "\n"

@@ -6,6 +6,7 @@ use Prim.Native.Char.{code}
 use Prim.Native.Nat.{ℕ, zero, suc, _+_, _/_, _%_}
 use Prim.Native.String.{String, [] as empty, _∷_ as _then_}
 use lib.Dec.{ltb}
+use lib.IntN.{ℤ, pos, negsuc}
 use lib.ListN.{length, take, drop}
 
 -- a text's bytes, in ASCII
@@ -28,6 +29,11 @@ digits (suc k) n =
 unfoldable pub decimal : ℕ → List ℕ
 decimal n = digits (suc n) n
 
+-- a whole number in decimal, with a minus sign where it is negative; negsuc k is -(k + 1)
+unfoldable pub signedDecimal : ℤ → List ℕ
+signedDecimal (pos n) = decimal n
+signedDecimal (negsuc k) = ascii "-" ++ decimal (suc k)
+
 -- a text was put behind the first `at` bytes of a buffer and ends before `next`; the bytes from there on are as they were
 pub record Put (before : List ℕ) (at : ℕ) (text after : List ℕ) (next : ℕ) : Type 0 where
   pub place : next ≡ at + length text
@@ -41,3 +47,7 @@ field t n = ascii t ++ decimal n
 -- two texts, each with a number behind it
 abbrev pub fields : String → ℕ → String → ℕ → List ℕ
 fields t n u m = field t n ++ field u m
+
+-- a text and a whole number behind it
+abbrev pub signedField : String → ℤ → List ℕ
+signedField t z = ascii t ++ signedDecimal z

@@ -3,10 +3,13 @@ pub mod listing;
 pub mod words;
 
 ghost use mathlib.Core.Path.{_≡_};
+ghost use mathlib.Core.Bool.{true};
 ghost use mathlib.Core.List.{_++_};
 ghost use Prim.Native.Nat.{_≤_, _<_, _+_};
+ghost use lib.IntN.{pos, natAbs};
 ghost use lib.ListN.{length};
-ghost use Rattle.text.specs.Text.{decimal, digit, Put};
+ghost use lib.Signed.{ltZ};
+ghost use Rattle.text.specs.Text.{decimal, signedDecimal, digit, Put};
 
 // Puts a text at a place, and answers the place behind it.
 pub fn put_text(out: &mut [u8], at: usize, text: &[u8]) -> usize
@@ -44,12 +47,40 @@ fn put_number(out: &mut [u8], at: usize, n: u32) -> usize
 }
 
 // Puts a text and a number in decimal behind it at a place, and answers the place behind both.
-pub(crate) fn put_field(out: &mut [u8], at: usize, text: &[u8], n: u32) -> usize
+pub fn put_field(out: &mut [u8], at: usize, text: &[u8], n: u32) -> usize
     requires { ⌜ at + length (now text ++ decimal n) ≤ length (now out) ⌝ }
     ensures { λ r. ⌜ Put (now (out .entry)) at (now (text .entry) ++ decimal n) (now (out .exit)) r ⌝ }
 {
     let next = put_text(out, at, text);
     put_number(out, next, n)
+}
+
+// The size of a number below zero: one less is never beyond what an i32 can hold.
+fn minus(z: i32) -> u32
+    requires { ⌜ ltZ z (pos 0) ≡ true ⌝ }
+    ensures { λ r. ⌜ r ≡ natAbs z ⌝ }
+{
+    ((-1 - z) as u32) + 1
+}
+
+// Puts a whole number in decimal at a place, with a minus sign where it is negative, and answers the place behind it.
+fn put_signed(out: &mut [u8], at: usize, z: i32) -> usize
+    requires { ⌜ at + length (signedDecimal z) ≤ length (now out) ⌝ }
+    ensures { λ r. ⌜ Put (now (out .entry)) at (signedDecimal z) (now (out .exit)) r ⌝ }
+{
+    if z < 0 {
+        return put_field(out, at, b"-", minus(z));
+    }
+    put_number(out, at, z as u32)
+}
+
+// Puts a text and a whole number behind it at a place, and answers the place behind both.
+pub fn put_signed_field(out: &mut [u8], at: usize, text: &[u8], z: i32) -> usize
+    requires { ⌜ at + length (now text ++ signedDecimal z) ≤ length (now out) ⌝ }
+    ensures { λ r. ⌜ Put (now (out .entry)) at (now (text .entry) ++ signedDecimal z) (now (out .exit)) r ⌝ }
+{
+    let next = put_text(out, at, text);
+    put_signed(out, next, z)
 }
 
 // Puts two texts, each with a number behind it, at a place, and answers the place behind all.

@@ -13,13 +13,13 @@ use Rattle.refusals.specs.declared.Refusal.{Refusal}
 use Rattle.refusals.specs.Reasons.{numberOf}
 use Rattle.refusals.specs.Columns.{badLevel}
 use Rattle.refusals.proofs.Reasons.{refusal-some}
-use Rattle.text.specs.Listing.{refusedLine}
+use Rattle.text.specs.Listing.{refusedLine, noTriangles}
 use Rattle.job_format.specs.declared.Part.the-variants.{Absent, Present}
 use Rattle.job_reading.specs.declared.Contents.{Contents}
 use Rattle.job_reading.specs.declared.ReadAnswer.the-variants.{Done, Refused}
 use Rattle.job_reading.specs.Read.{Outcome, told, readCall}
 use Rattle.job_trips.proofs.Right.{read-right}
-use Rattle.unpacking.specs.Stream.{noTriangles, streamOf}
+use Rattle.unpacking.specs.Stream.{streamOf}
 use Rattle.unpacking.specs.Read.{alone, Unpacks}
 
 -- a level that is known fits a byte

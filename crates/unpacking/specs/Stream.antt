@@ -3,16 +3,11 @@ use mathlib.Core.Bool.{cond}
 use mathlib.Core.List.{List, _∷_}
 use Prim.Native.Nat.{ℕ}
 use lib.Dec.{eqb}
-use Rattle.text.specs.Text.{ascii}
-use Rattle.text.specs.Listing.{refusedLine}
+use Rattle.text.specs.Listing.{refusedLine, noTriangles}
 use Rattle.job_format.specs.Table.{there, bytesOf}
 use Rattle.job_reading.specs.Read.{Outcome, readCall}
 
--- a job without triangles is told as such
-unfoldable pub noTriangles : List ℕ
-noTriangles = ascii "no triangles\n"
-
--- the level byte, and the triangles as they stand in the file
+-- the level byte, and the triangles as they stand in the file; a job without triangles is told as such
 abbrev pub streamed : List ℕ → Outcome → List ℕ
 streamed file o = cond (there (o .triangles)) (o .level ∷ bytesOf file (o .triangles)) noTriangles
 

@@ -1,9 +1,9 @@
 -- `repair_at` meets its contract. Assumes nothing.
 use mathlib.Core.Path.{_∙_}
 use native.Mathlib.Omega.{arith}
-use Rattle.streaming.specs.declared.Wanted.the-variants.{Listing, Layers, Masks, Faces}
+use Rattle.streaming.specs.declared.Wanted.the-variants.{Listing, Layers, Masks, Faces, Surface}
 use Rattle.reporting.proofs.Lent.{bytes-lent, list-lent}
-use Rattle.streaming.proofs.Opened.{lent-ready, printed-done, printed-refused}
+use Rattle.streaming.proofs.Opened.{lent-ready, printed-done, printed-refused, room-some}
 use borrow.Author.Needs.{needs}
 use Rattle.streaming.proofs.repair_at.Statement.{statement}
 use Rattle.streaming.proofs.repair_at.Tie as tie
@@ -40,11 +40,19 @@ slice-aggregate-report-3 c = search needs
 
 report-requires : tie.Need-report-requires
 report-requires c κs =
+    let c6 = c .before .before .before .before .before .before in
+    let c12 = c6 .before .before .before .before .before .before in
     let empty-list = c .before .before .before .before .empty-list in
-    let empty-grid2 = c .before .before .before .before .before .before .before .empty-grid2 in
-    let feed-all = c .before .before .before .before .before .before .before .before .before .before .before .before .feed-all in
-    let start = c .before .before .before .before .before .before .before .before .before .before .before .before .before .before .before .before in
-    (start .pre .0, feed-all .ensures .ready, empty-grid2 .ensures ∙ bytes-lent, empty-list .ensures ∙ list-lent, start .pre .1)
+    let empty-grid2 = c6 .before .empty-grid2 in
+    let feed-all = c12 .feed-all in
+    let start = c12 .before .before .before .before in (
+      start .pre .0,
+      feed-all .ensures .ready,
+      empty-grid2 .ensures ∙ bytes-lent,
+      empty-list .ensures ∙ list-lent,
+      rw
+          (c .before .before .before .before .before .enum-told .given .1) at (start .pre .1),
+    )
 
 enum-told-2 : tie.Need-enum-told-2
 enum-told-2 c = search needs
@@ -60,7 +68,7 @@ show-requires c κs =
     let empty-grid2 = c .before .before .before .before .before .empty-grid2 in
     let feed-all = c .before .before .before .before .before .before .before .before .before .before .feed-all in
     let start = c .before .before .before .before .before .before .before .before .before .before .before .before .before .before in
-    (feed-all .ensures .ready, empty-grid2 .ensures ∙ bytes-lent, omega (arith, start .pre .1))
+    (feed-all .ensures .ready, empty-grid2 .ensures ∙ bytes-lent, omega (arith, rw (c .before .before .before .enum-told2 .given .1) at (start .pre .1)))
 
 enum-told-3 : tie.Need-enum-told-3
 enum-told-3 c = search needs
@@ -76,7 +84,7 @@ show-masks-requires c κs =
     let empty-grid2 = c .before .before .before .before .before .empty-grid2 in
     let feed-all = c .before .before .before .before .before .before .before .before .before .before .feed-all in
     let start = c .before .before .before .before .before .before .before .before .before .before .before .before .before .before in
-    (feed-all .ensures .ready, empty-grid2 .ensures ∙ bytes-lent, omega (arith, start .pre .1))
+    (feed-all .ensures .ready, empty-grid2 .ensures ∙ bytes-lent, omega (arith, rw (c .before .before .before .enum-told3 .given .1) at (start .pre .1)))
 
 enum-told-4 : tie.Need-enum-told-4
 enum-told-4 c = search needs
@@ -88,13 +96,36 @@ show-faces-requires : tie.Need-show-faces-requires
 show-faces-requires c κs =
     let feed-all = c .before .before .before .before .before .before .before .before .before .feed-all in
     let start = c .before .before .before .before .before .before .before .before .before .before .before .before .before in
-    (feed-all .ensures .ready, omega (arith, start .pre .1))
+    (feed-all .ensures .ready, omega (arith, rw (c .before .before .enum-told4 .given .1) at (start .pre .1)))
+
+enum-told-5 : tie.Need-enum-told-5
+enum-told-5 c = search needs
+
+slice-aggregate-write-surface : tie.Need-slice-aggregate-write-surface
+slice-aggregate-write-surface c = search needs
+
+slice-aggregate-write-surface-2 : tie.Need-slice-aggregate-write-surface-2
+slice-aggregate-write-surface-2 c = search needs
+
+write-surface-requires : tie.Need-write-surface-requires
+write-surface-requires c κs =
+    let c6 = c .before .before .before .before .before .before in
+    let c12 = c6 .before .before .before .before .before .before in
+    let start = c12 .before .before in (
+      start .pre .0,
+      c6 .before .before .before .before .feed-all .ensures .ready,
+      c .before .before .before .before .before .empty-grid2 .ensures
+          ∙ bytes-lent,
+      rw (c .before .before .before .enum-told5 .given .1) at (start .pre .1),
+    )
 
 enum-known-number : tie.Need-enum-known-number
 enum-known-number c = search needs
 
 put-refusal-requires : tie.Need-put-refusal-requires
-put-refusal-requires c κs = search needs
+put-refusal-requires c κs =
+    let c6 = c .before .before .before .before .before .before in
+    room-some (c6 .before .before .before .args .wanted) _ (c6 .before .before .before .pre .1)
 
 same-length : tie.Need-same-length
 same-length c = search needs
@@ -169,6 +200,25 @@ same-length-5 c = search needs
 
 returns-5 : tie.Need-returns-5
 returns-5 c =
+    let c6 = c .before .before .before .before .before .before in
+    let c12 = c6 .before .before .before .before .before .before in
+    let c18 = c12 .before .before .before .before .before .before in
+    let start = c18 .before in
+    let s = rw (c12 .triangles .given .1, c12 .before .before .before .before .before .empty-grid .ensures ∙ bytes-lent) at
+    (c12 .before .before .before .feed-all .ensures) in
+    let p = c .before .before .before .before .write-surface .ensures in
+    rw (c6 .before .before .enum-told5 .given .1)
+    (record {
+      bytes = s .bytes;
+      fits = p .1;
+      text = p .0 ∙ rw (start .pre .0) (printed-done Surface (start .args .l) _ (c12 .triangles .given .0 .0) s);
+    })
+
+same-length-6 : tie.Need-same-length-6
+same-length-6 c = search needs
+
+returns-6 : tie.Need-returns-6
+returns-6 c =
     let number = c .before .before .before .before .before .number in
     let feed-all = c .before .before .before .before .before .before .before .before .feed-all in
     let empty-grid = c .before .before .before .before .before .before .before .before .before .before .empty-grid in
@@ -207,6 +257,10 @@ repair-at-spec =
     enum-told-4
     slice-aggregate-show-faces
     show-faces-requires
+    enum-told-5
+    slice-aggregate-write-surface
+    slice-aggregate-write-surface-2
+    write-surface-requires
     enum-known-number
     put-refusal-requires
     same-length
@@ -218,4 +272,6 @@ repair-at-spec =
     same-length-4
     returns-4
     same-length-5
-    returns-5)
+    returns-5
+    same-length-6
+    returns-6)

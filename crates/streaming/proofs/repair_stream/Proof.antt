@@ -1,7 +1,7 @@
 -- `repair_stream` meets its contract. Assumes nothing.
 use mathlib.Core.Path.{sym, _∙_}
 use mathlib.Core.List.{[], _∷_}
-use Rattle.streaming.proofs.Opened.{printed-none, printed-bad, printed-level, read-number}
+use Rattle.streaming.proofs.Opened.{printed-none, printed-bad, printed-level, read-number, room-some}
 use borrow.Author.Needs.{needs}
 use Rattle.lattice.specs.Levels.{numberOf}
 use Rattle.streaming.proofs.repair_stream.Statement.{statement}
@@ -14,7 +14,8 @@ read-full-requires : tie.Need-read-full-requires
 read-full-requires c κs = search needs
 
 put-refusal-requires : tie.Need-put-refusal-requires
-put-refusal-requires c κs = search needs
+put-refusal-requires c κs =
+    room-some (c .before .before .before .before .before .before .args .wanted) _ (c .before .before .before .before .before .before .pre)
 
 same-length : tie.Need-same-length
 same-length c = search needs
@@ -41,7 +42,9 @@ enum-told : tie.Need-enum-told
 enum-told c = search needs
 
 put-refusal-requires-2 : tie.Need-put-refusal-requires-2
-put-refusal-requires-2 c κs = search needs
+put-refusal-requires-2 c κs =
+    let c6 = c .before .before .before .before .before .before in
+    room-some (c6 .before .before .before .before .args .wanted) _ (c6 .before .before .before .before .pre)
 
 same-length-2 : tie.Need-same-length-2
 same-length-2 c = search needs

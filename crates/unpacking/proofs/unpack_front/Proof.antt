@@ -2,8 +2,7 @@
 use mathlib.Core.Path.{ap, _∙_}
 use native.Mathlib.Omega.{arith}
 use Rattle.refusals.specs.Reasons.{numberOf}
-use Rattle.text.specs.Listing.{refusedLine}
-use Rattle.unpacking.specs.Stream.{noTriangles}
+use Rattle.text.specs.Listing.{refusedLine, noTriangles}
 use Rattle.unpacking.proofs.Streams.{level-byte, unpacks-some, none-said, refusal-said, unpacks-said}
 use borrow.Author.Needs.{needs}
 use Rattle.unpacking.proofs.unpack_front.Statement.{statement}

@@ -1,0 +1,106 @@
+-- `move_vertex` meets its contract: a word on each axis. Assumes nothing.
+use borrow.Author.Needs.{needs}
+use mathlib.Core.Path.{_≡_, ap, _∙_}
+use native.Mathlib.Omega.{arith}
+use Prim.Native.Nat.{_+_}
+use lib.Dec.{lit<}
+use lib.IntN.{ℤ}
+use lib.ListN.{length}
+use mir.Syntax.{w32}
+use mir.Val.{toZ, ofZ}
+use Rattle.octets.specs.Octets.{wordAt, word, puts}
+use Rattle.octets.proofs.Words.{word-length}
+use Rattle.rounding.specs.Scales.{exponentOf}
+use Rattle.moving.specs.Back.{movedWord}
+use Rattle.moving.proofs.Kept.{kept-put, kept-two, centred-first, centred-next, words-moved}
+use Rattle.moving.proofs.move_vertex.Statement.{statement}
+use Rattle.moving.proofs.move_vertex.Tie as tie
+
+-- the shift as the machine holds it
+on-x : (c : tie.After-struct-told) → toZ w32 (ofZ w32 (c .before .before .before .args .shift .x)) ≡ c .before .before .before .args .shift .x
+on-x c = search needs
+
+on-y : (c : tie.After-struct-told2) → toZ w32 (ofZ w32 (c .before .before .before .before .before .before .before .before .args .shift .y))
+    ≡ c .before .before .before .before .before .before .before .before .args .shift .y
+on-y c = search needs
+
+on-z : (c : tie.After-struct-told3) → toZ w32 (ofZ w32
+    (c .before .before .before .before .before .before .before .before .before .before .before .before .before .args .shift .z))
+    ≡ c .before .before .before .before .before .before .before .before .before .before .before .before .before .args .shift .z
+on-z c = search needs
+
+move-word-requires : tie.Need-move-word-requires
+move-word-requires c κs =
+    let s = c .before .before .before in
+    let p = s .pre in (
+      omega (arith, p .0 .0),
+      p .0 .1,
+      rw (on-x c) (p .0 .2 .on-x),
+      centred-first (exponentOf (s .args .s)) (s .args .file .now) (s .args .at) 3 (p .1)
+          (lit< tt),
+    )
+
+add-move-word : tie.Need-add-move-word
+add-move-word c = search needs
+
+move-word-requires-2 : tie.Need-move-word-requires-2
+move-word-requires-2 c κs =
+    let s = c .before .before .before .before .before .before .before .before in
+    let p = s .pre in
+    let w = c .before .before .before .before .move-word in (
+      omega (arith, p .0 .0, w .kept .0),
+      p .0 .1,
+      rw (on-y c) (p .0 .2 .on-y),
+      centred-next (exponentOf (s .args .s)) (s .args .file .now) (s .args .at) 3 (p .1) (w .last .0) 1
+          (kept-put (s .args .file .now) (w .last .0) _ (s .args .at) 4 (w .ensures) (word-length _)) (lit< tt),
+    )
+
+add-move-word-2 : tie.Need-add-move-word-2
+add-move-word-2 c = search needs
+
+move-word-requires-3 : tie.Need-move-word-requires-3
+move-word-requires-3 c κs =
+    let c6 = c .before .before .before .before .before .before in
+    let c12 = c6 .before .before .before .before .before .before in
+    let s = c12 .before in
+    let p = s .pre in
+    let w = c6 .before .before .before .move-word in
+    let u = c .before .before .before .before .move-word2 in (
+      omega (arith, p .0 .0, w .kept .0, u .kept .0),
+      p .0 .1,
+      rw (on-z c) (p .0 .2 .on-z),
+      centred-next (exponentOf (s .args .s)) (s .args .file .now) (s .args .at) 3 (p .1) (u .last .0) 2
+          (kept-two (s .args .file .now) (w .last .0) (u .last .0) _ _ (s .args .at) 4 (s .args .at + 4) 4 (s .args .at + 8) (w .ensures)
+          (word-length _) (u .ensures) (word-length _)
+          (omega arith) (omega arith)) (lit< tt),
+    )
+
+same-length : tie.Need-same-length
+same-length c = search needs
+
+returns : tie.Need-returns
+returns c =
+    let c6 = c .before .before .before .before .before .before in
+    let c12 = c6 .before .before .before .before .before .before in
+    let s = c12 .before .before .before .before in
+    let e = exponentOf (s .args .s) in
+    let l = s .args .file .now in
+    let at = s .args .at in
+    let a = c12 .move-word .last .0 in
+    let b = c6 .before .move-word2 .last .0 in
+    words-moved e (s .args .shift) l a b (c .before .before .move-word3 .last .0) at
+    (c12 .move-word .ensures ∙ ap (λ (z : ℤ). puts l at (word (movedWord e z (wordAt l at)))) (on-x (c12 .before)))
+    (c6 .before .move-word2 .ensures ∙ ap (λ (z : ℤ). puts a (at + 4) (word (movedWord e z (wordAt a (at + 4))))) (on-y (c6 .before .before)))
+    (c .before .before .move-word3 .ensures ∙ ap (λ (z : ℤ). puts b (at + 8) (word (movedWord e z (wordAt b (at + 8))))) (on-z (c .before .before .before)))
+
+pub move-vertex-spec : {M : Type 1} → statement M
+move-vertex-spec =
+    tie.close
+    (tie.spec
+    move-word-requires
+    add-move-word
+    move-word-requires-2
+    add-move-word-2
+    move-word-requires-3
+    same-length
+    returns)

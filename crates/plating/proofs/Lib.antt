@@ -1,0 +1,4 @@
+pub mod Blocks
+pub mod Lent
+pub mod Seen
+pub mod Words

@@ -1,0 +1,2 @@
+pub mod Surfaces
+pub mod Tells
