@@ -20,12 +20,23 @@ static const double seconds_a_row = 0.4;
 typedef uint32_t mark(uint32_t level, uint8_t *grid, size_t grid_len, const int32_t *triangle, size_t triangle_len, uint16_t *totals,
                       size_t totals_len, uint32_t *place, uint32_t *axis);
 
+/* Whether bench/run was given an earlier library. */
+static int is_beside_earlier(void)
+{
+    return before_mark || base_mark;
+}
+
 /* The earlier library's calls took no table. */
 static uint32_t earlier_mark(uint32_t level, uint8_t *grid, size_t grid_len, const int32_t *triangle, size_t triangle_len, uint16_t *totals,
                              size_t totals_len, uint32_t *place, uint32_t *axis)
 {
     (void)totals, (void)totals_len;
-    return before_mark(level, grid, grid_len, triangle, triangle_len, place, axis);
+    if (!base_mark)
+        return before_mark(level, grid, grid_len, triangle, triangle_len, place, axis);
+    int32_t tested[9];
+    for (int c = 0; c < 9; c++)
+        tested[c] = tested_at(triangle[c]);
+    return base_mark(level, grid, grid_len, tested, triangle_len);
 }
 
 /* A call, the reference's, and the earlier library's mark. */
@@ -75,7 +86,7 @@ static void time_sides(const struct timed *call, uint32_t level, double took_us[
             best[side][t] = 1;
     }
     for (int round = 0; round < LEAST_ROUNDS || (round < MOST_ROUNDS && now() < end); round++)
-        for (int side = 0; side < (before_mark ? SIDES : 2); side++)
+        for (int side = 0; side < (is_beside_earlier() ? SIDES : 2); side++)
             run(call->sides[side], level, best[side]);
     for (int side = 0; side < SIDES; side++)
         for (int t = 0; t < many; t++)
@@ -109,7 +120,7 @@ static void time_call(const struct timed *call, const char *input, uint32_t leve
         printf(" %7.2f", alone[0] / alone[1]);
     else
         printf(" %7s", "");
-    if (before_mark)
+    if (is_beside_earlier())
         printf(" %12.2f %7.1f", took[2], took[2] / took[0]);
     printf("   %d triangles\n", many);
 }
@@ -215,11 +226,11 @@ int main(int argc, char **argv)
     setvbuf(stdout, NULL, _IOLBF, 0);
     time_looks();
     printf("%-9s %-34s %5s %12s %12s %7s %7s", "call", "input", "level", "library us", "reference us", "ratio", "alone");
-    printf("%s\n", before_mark ? "    before us  faster" : "");
+    printf("%s\n", is_beside_earlier() ? "    before us  faster" : "");
     for (uint32_t level = 2; level <= 5; level++) {
         printf("%-9s %-34s %5u %12.2f %12.2f %7.2f", "the look", "a triangle within one cell", level, looks[level][0], looks[level][1],
                looks[level][0] / looks[level][1]);
-        printf(before_mark ? " %7s %12.2f %7.1f\n" : "\n", "", looks[level][2], looks[level][2] / looks[level][0]);
+        printf(is_beside_earlier() ? " %7s %12.2f %7.1f\n" : "\n", "", looks[level][2], looks[level][2] / looks[level][0]);
     }
     time_moved("a triangle through the whole grid", 5, whole, 0, 0, 1);
     for (uint32_t level = 2; level <= 5; level++)

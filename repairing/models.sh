@@ -1,8 +1,6 @@
 # Binary STL files: one program, plate, measures the model, places it on the grid, repairs it and prints everything; what is wanted is cut out
 # of that here.
 
-most_packed=100000 # triangles that a job may have here, as a stream may
-
 # A file that is read twice. What is no regular file is copied, no more of it than its count of triangles asks for and a byte; in a group of its
 # own, which a signal ends.
 find_model() {
@@ -68,13 +66,11 @@ list_quads() { # BEHIND
     cut_out "$1" $((8 * quad_count)) | od -An -v -w8 -t u2 --endian=little | sed -e 's/  */ /g' -e 's/^/q/'
 }
 
-# Has the job made of the stream of the placed triangles.
-pack_model() {
-    [ "$triangles" -le $most_packed ] || die "a job holds no more than 100,000 triangles here, and $name has $triangles: leave --job out"
-    run_on plate "$model" "$room/stream" "$(plate_word s)"
-    [ "$(wc -c <"$room/stream")" -eq $((1 + 36 * triangles)) ] || die "the program's stream is cut short"
-    run_on pack "$room/stream" "$room/packed"
-    [ "$(head -c 9 "$room/packed" | tr -d '\0')" != 'refused 8' ] || die "a job holds no more than 8,192 quads here, and $name has $quad_count: leave --job out"
+# Has the job made of the placed triangles.
+case_model() {
+    run_on plate "$model" "$room/packed" "$(plate_word j)"
+    [ "$(head -c 10 "$room/packed" | tr -d '\0')" != 'refused 20' ] ||
+        die "a job's offsets have 32 bits, which is enough for some 119,000,000 triangles, and $name has $triangles: leave --job out"
     [ "$(wc -c <"$room/packed")" -eq $((29 + row * row * row + 36 * triangles + 8 * quad_count)) ] || die "the program's job is cut short"
 }
 
@@ -116,6 +112,6 @@ repair_model() {
     esac
     # shellcheck disable=SC2046
     take_apart $(head -n 5 "$room/plated" | tr -d '\0')
-    [ -z "$job" ] || pack_model
+    [ -z "$job" ] || case_model
     write_report
 }

@@ -1,5 +1,8 @@
 # What ./repair says: refusals, and the report of a repair.
 
+# What holds no more: the stream, also where it is that of a job.
+by_stream() { if [ "$kind" = job ]; then echo 'the stream of a job has, by which it is repaired'; else echo 'a stream has'; fi; }
+
 # What a refusal of a stream or a job means.
 meaning() { # NUMBER
     case $1 in
@@ -8,8 +11,8 @@ meaning() { # NUMBER
     3) echo 'the stream ends within a triangle' ;;
     4) echo "a coordinate lies below the level's range: $(bad_coordinate)" ;;
     24) echo "a coordinate lies above the level's range: $(bad_coordinate)" ;;
-    8) echo 'the surface has more than 8,192 quads' ;;
-    9) echo 'there are more than 100,000 triangles' ;;
+    8) echo "the surface has more than 8,192 quads, the most that $(by_stream)" ;;
+    9) echo "there are more than 100,000 triangles, the most that $(by_stream)" ;;
     18) echo "the job file is empty, or its table of contents is cut short or counts more than 3 bodies" ;;
     19) echo 'a kind of body is unknown, repeated or out of order' ;;
     20) echo 'the offset or the length of a body is wrong, or bytes stand behind the last' ;;

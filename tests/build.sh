@@ -92,6 +92,14 @@ lock() {
 
 unlock() { exec 9<&-; }
 
+# How many provers rt starts at a time. It waits for all of them before it starts the next, so twice as many as there are processors keep these
+# busy meanwhile; each takes about a gigabyte of memory.
+provers() {
+    count=$((2 * $(nproc 2>/dev/null || echo 1)))
+    [ "$count" -le 8 ] || count=8
+    echo "$count"
+}
+
 # Runs rt with the lock held, in a group of its own that a signal ends with all its provers, and with a temporary folder of its own, open to
 # the user nobody, as whom rt run by root runs programs. Its lines go through SHOW, a function.
 run_rt() { # SHOW WORD...
@@ -105,7 +113,7 @@ run_rt() { # SHOW WORD...
     "$1" <"$room/lines" &
     shown=$!
     shift
-    (cd "$root" && TMPDIR=$rt_room exec setsid rt "$@") >"$room/lines" 2>&1 &
+    (cd "$root" && TMPDIR=$rt_room RT_JOBS=${RT_JOBS:-$(provers)} exec setsid rt "$@") >"$room/lines" 2>&1 &
     status=0
     await || status=$?
     wait "$shown" || :

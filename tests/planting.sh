@@ -45,7 +45,8 @@ compile_seconds() {
     grep '^#define' "$root/tests/second.c" >"$work/second/names.h"
     for part in $seconds; do
         # shellcheck disable=SC2086
-        $cc $flags -w -include "$work/second/names.h" -c -o "$work/second/$part.o" "$root/tests/$part.c" || die "$part.c does not compile under second.c's names"
+        $cc $flags -w -include "$work/second/names.h" -c -o "$work/second/$part.o" "$root/tests/$part.c" ||
+            die "$part.c does not compile under second.c's names"
     done
 }
 

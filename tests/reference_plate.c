@@ -16,7 +16,7 @@ static const double NEAR = 1073741824; /* 2^30: no result may be beyond it in si
 /* What the word asks for. */
 struct asked {
     uint32_t level;
-    char mode, want; /* f fit, c centre, k keep; r repair, s stream */
+    char mode, want; /* f fit, c centre, k keep; r repair, j job */
     int e;
 };
 
@@ -31,7 +31,7 @@ static int understood(const char *word, struct asked *ask)
     if (!word || strlen(word) != 5)
         return 0;
     *ask = (struct asked){(uint32_t)(word[0] - '0'), word[1], word[4], 0};
-    if (word[0] < '2' || word[0] > '5' || !memchr("fck", word[1], 3) || !memchr("rs", word[4], 2))
+    if (word[0] < '2' || word[0] > '5' || !memchr("fck", word[1], 3) || !memchr("rj", word[4], 2))
         return 0;
     if (!is_digit(word[2]) || !is_digit(word[3]))
         return 0;
@@ -219,60 +219,107 @@ static void put_surface(uint32_t level, const uint8_t *grid, int e, const int64_
     fwrite(file, 1, bytes, out);
 }
 
-/* Marks the model and repairs it; writes all six parts, or one line. */
-static void repair(const struct model *model, const struct asked *ask, const struct extent *x, const int64_t shift[3], FILE *out)
+/* A model that is marked and repaired: the grid before the patch and after sign, the quads, and what patch counts. */
+struct repaired {
+    uint8_t grid[MOST_POINTS], before[MOST_POINTS];
+    uint16_t list[4 * LIST_QUADS];
+    uint32_t rims, flips, ones, threes, quads;
+};
+
+/* Marks the model, patches, signs and surfaces; answers 0, or the number of the first call that refuses. */
+static uint32_t mend(const struct model *model, const struct asked *ask, const int64_t shift[3], struct repaired *r)
 {
-    static uint8_t grid[MOST_POINTS], before[MOST_POINTS], work[MOST_POINTS], masks[33 * (9 + 33 * 5)];
-    static uint16_t totals[MOST_BLOCKS], list[4 * LIST_QUADS];
+    static uint8_t work[MOST_POINTS];
+    static uint16_t totals[MOST_BLOCKS];
     struct measures m = measures_of(ask->level);
-    uint32_t rims, flips, ones, threes, quads, inside = 0, refused = reference_open(ask->level, grid, sizeof grid, totals, MOST_BLOCKS);
-    size_t bytes;
+    uint32_t refused = reference_open(ask->level, r->grid, sizeof r->grid, totals, MOST_BLOCKS);
     for (uint64_t t = 0; t < model->triangles && !refused; t++) {
         int32_t triangle[9];
         refused = placed(model, &m, ask->e, shift, t, triangle);
         if (!refused)
-            reference_add_marks(&m, grid, triangle);
+            reference_add_marks(&m, r->grid, triangle);
     }
-    memcpy(before, grid, sizeof grid);
+    memcpy(r->before, r->grid, sizeof r->grid);
     if (!refused)
-        refused = reference_patch(ask->level, grid, sizeof grid, work, sizeof work, totals, MOST_BLOCKS, &rims, &flips, &ones, &threes);
+        refused = reference_patch(ask->level, r->grid, sizeof r->grid, work, sizeof work, totals, MOST_BLOCKS, &r->rims, &r->flips, &r->ones, &r->threes);
     if (!refused)
-        refused = reference_sign(ask->level, grid, sizeof grid);
+        refused = reference_sign(ask->level, r->grid, sizeof r->grid);
     if (!refused)
-        refused = reference_surface(ask->level, grid, sizeof grid, list, 4 * LIST_QUADS, &quads);
+        refused = reference_surface(ask->level, r->grid, sizeof r->grid, r->list, 4 * LIST_QUADS, &r->quads);
+    return refused;
+}
+
+static void put_quads(const struct repaired *r, FILE *out)
+{
+    for (uint32_t q = 0; q < 2 * r->quads; q++)
+        put_word(r->list[2 * q] | (uint32_t)r->list[2 * q + 1] << 16, out);
+}
+
+/* Repairs the model; writes all six parts, or one line. */
+static void repair(const struct model *model, const struct asked *ask, const struct extent *x, const int64_t shift[3], FILE *out)
+{
+    static struct repaired r;
+    static uint8_t masks[33 * (9 + 33 * 5)];
+    struct measures m = measures_of(ask->level);
+    uint32_t inside = 0, refused = mend(model, ask, shift, &r);
+    size_t bytes;
     if (!refused)
-        refused = reference_masks(ask->level, grid, sizeof grid, masks, sizeof masks, &bytes);
+        refused = reference_masks(ask->level, r.grid, sizeof r.grid, masks, sizeof masks, &bytes);
     if (refused) {
         fprintf(out, "refused %u\n", (unsigned)refused);
         return;
     }
     for (int p = 0; p < m.points; p++)
-        inside += (uint32_t)is_inside(grid, p);
+        inside += (uint32_t)is_inside(r.grid, p);
     fprintf(out, "level %u triangles %llu\n", (unsigned)ask->level, (unsigned long long)model->triangles);
     fprintf(out, "e %d shift %lld %lld %lld\n", ask->e, (long long)shift[X], (long long)shift[Y], (long long)shift[Z]);
     fprintf(out, "least %lld %lld %lld ", (long long)x->least[X], (long long)x->least[Y], (long long)x->least[Z]);
     fprintf(out, "greatest %lld %lld %lld\n", (long long)x->greatest[X], (long long)x->greatest[Y], (long long)x->greatest[Z]);
-    fprintf(out, "rims %u flips %u inside %u quads %u\n", (unsigned)rims, (unsigned)flips, (unsigned)inside, (unsigned)quads);
-    fprintf(out, "ones %u threes %u\n", (unsigned)ones, (unsigned)threes);
-    draw(&m, before, gap_letter, out);
-    draw(&m, grid, layer_letter, out);
+    fprintf(out, "rims %u flips %u inside %u quads %u\n", (unsigned)r.rims, (unsigned)r.flips, (unsigned)inside, (unsigned)r.quads);
+    fprintf(out, "ones %u threes %u\n", (unsigned)r.ones, (unsigned)r.threes);
+    draw(&m, r.before, gap_letter, out);
+    draw(&m, r.grid, layer_letter, out);
     fwrite(masks, 1, bytes, out);
-    for (uint32_t q = 0; q < 2 * quads; q++)
-        put_word(list[2 * q] | (uint32_t)list[2 * q + 1] << 16, out);
-    put_surface(ask->level, grid, ask->e, shift, out);
+    put_quads(&r, out);
+    put_surface(ask->level, r.grid, ask->e, shift, out);
 }
 
-/* The stream of the placed triangles. Whether they lie in the range is for whoever reads it to judge. */
-static void stream(const struct model *model, const struct asked *ask, const int64_t shift[3], FILE *out)
+/* A line of a job's table of contents: kind, offset, length. Answers where the next body begins. */
+static uint64_t put_line(int kind, uint64_t offset, uint64_t length, FILE *out)
 {
+    putc(kind, out);
+    put_word((uint32_t)offset, out);
+    put_word((uint32_t)length, out);
+    return offset + length;
+}
+
+/* The job of the placed triangles, M-112 of document 02: level byte, count, table of contents, then the grid after sign, the triangles and the
+   quads. An offset that 32 bits do not hold is 20; none can be so but the last. */
+static void job(const struct model *model, const struct asked *ask, const int64_t shift[3], FILE *out)
+{
+    static struct repaired r;
     struct measures m = measures_of(ask->level);
-    int32_t triangle[9];
+    uint64_t next = 2 + 3 * 9;
+    uint32_t refused = mend(model, ask, shift, &r);
+    if (!refused && next + (uint64_t)m.points + 36 * model->triangles > UINT32_MAX)
+        refused = 20;
+    if (refused) {
+        fprintf(out, "refused %u\n", (unsigned)refused);
+        return;
+    }
     putc((int)ask->level, out);
+    putc(3, out);
+    next = put_line(1, next, (uint64_t)m.points, out);
+    next = put_line(2, next, 36 * model->triangles, out);
+    put_line(3, next, 8 * r.quads, out);
+    fwrite(r.grid, 1, (size_t)m.points, out);
     for (uint64_t t = 0; t < model->triangles; t++) {
+        int32_t triangle[9];
         placed(model, &m, ask->e, shift, t, triangle);
         for (int c = 0; c < 9; c++)
             put_word((uint32_t)triangle[c], out);
     }
+    put_quads(&r, out);
 }
 
 void reference_plate(const char *word, const uint8_t *file, size_t file_len, FILE *out)
@@ -296,8 +343,8 @@ void reference_plate(const char *word, const uint8_t *file, size_t file_len, FIL
         const char *why = place(&model, &m, &ask, &x, shift);
         if (why)
             fputs(why, out);
-        else if (ask.want == 's')
-            stream(&model, &ask, shift, out);
+        else if (ask.want == 'j')
+            job(&model, &ask, shift, out);
         else
             repair(&model, &ask, &x, shift, out);
     }

@@ -179,11 +179,14 @@ def parts():
         hold(data[29 + 33 ** 3:29 + 33 ** 3 + len(placed)] == placed and data[11] == TRIANGLES and data[20] == QUADS,
              "the job has the triangles as they stand on the grid")
         hold(f"\n  surface    {os.path.getsize(path)} bytes, {path}\n" in out and f"\n  job        {len(data)} bytes, {job}\n" in out, "the files are told")
-        os.remove(job)
         write(model, stl(*[facets[0]] * (MOST_TRIANGLES + 1)))
-        said = fails("a job of many triangles", ["--job", job, model])
-        hold("100,000 triangles" in said and "100001" in said and not os.path.exists(job), f"a job holds no more: {said}")
-        hold(told(run([model])[1], "triangles") == MOST_TRIANGLES + 1, "but an STL file may")
+        status, out, said = run(["--level", "2", "--force", "--job", job, model])
+        hold((status, said) == (0, "") and told(out, "triangles") == MOST_TRIANGLES + 1, f"a job of more triangles than a stream has: {status} {said!r}")
+        data, size, quads = read(job), 36 * (MOST_TRIANGLES + 1), 8 * told(out, "quads")
+        hold(struct.unpack_from("<BIIBII", data, 11) == (TRIANGLES, 154, size, QUADS, 154 + size, quads) and len(data) == 154 + size + quads,
+             "its offsets and lengths")
+        answer = run([job])
+        hold(answer[:2] == (1, "") and "refused 9: " in answer[2] and "the stream of a job" in answer[2], f"but a stream has no more: {answer}")
 
 
 def lines_through_points(points):
@@ -221,7 +224,10 @@ def stl_refusals():
                 hold(run([*options, "--stl", "-"], input=data)[::2] == (1, said.replace("a.stl", "standard input")), f"{words}: the same on standard input")
         few = write(model, lines_through_points(dots[:2000]))
         hold(told(run([few])[1], "quads") == 12000, "12,000 quads are not refused")
-        hold("8,192 quads" in fails("a job of many quads", ["--job", none, few]) and not os.path.exists(none), "but a job holds no more than 8,192")
+        status, out, said = run(["--job", none, few])
+        hold((status, said) == (0, "") and os.path.getsize(none) == 29 + 33 ** 3 + 36 * 2002 + 8 * 12000, "nor is their job")
+        answer = run(["--kind", "job", none])
+        hold(answer[:2] == (1, "") and "refused 8: " in answer[2] and "8,192 quads" in answer[2], f"but of a stream no more than 8,192 are listed: {answer}")
 
 
 def stl_commands():
@@ -301,13 +307,14 @@ def stl_planted():
         hold(run(words, script=path, env=env)[0] == 0 and os.path.exists(out), "the repository's copy repairs")
         for name in (out, out + ".job"):
             os.remove(name)
-        whole, packed = 'run_on plate "$model" "$room/plated" "$(plate_word r)"', 'run_on plate "$model" "$room/stream" "$(plate_word s)"'
+        whole, packed = 'run_on plate "$model" "$room/plated" "$(plate_word r)"', 'run_on plate "$model" "$room/packed" "$(plate_word j)"'
         for call, fault, said in ((whole, 'truncate -s -1 "$room/plated"', "cut short"), (whole, 'echo >>"$room/plated"', "cut short"),
                                   (whole, 'sed -i "5d" "$room/plated"', "something else"), (whole, ': >"$room/plated"', "something else"),
                                   (whole, 'echo refuse >"$room/plated"', "something else"),
                                   (whole, 'sed -i "4s/quads .*/quads 7/" "$room/plated"', "cut short"),
-                                  (packed, 'truncate -s -36 "$room/stream"', "stream is cut short"),
-                                  (packed, 'echo refused 4 >"$room/stream"', "stream is cut short")):
+                                  (packed, 'truncate -s -36 "$room/packed"', "job is cut short"),
+                                  (packed, 'echo refused 4 >"$room/packed"', "job is cut short"),
+                                  (packed, 'echo refused 20 >"$room/packed"', "offsets have 32 bits")):
             hold(text.count(call) == 1, f"{call} stands in the script once")
             write(part, text.replace(call, f"{call}; {fault}").encode())
             hold(said in fails(fault, words, script=path, env=env) and not os.path.exists(out), f"{fault} is found, and nothing is written")

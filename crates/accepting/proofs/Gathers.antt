@@ -6,8 +6,6 @@ use Prim.Native.Nat.{ℕ, suc, _≤_}
 use native.Mathlib.Omega.{arith}
 use lib.ListN.{length, getD, take, drop, replicate, length-replicate, getD-replicate, List·getD-append}
 use lib.Seq.{take-at, drop-at}
-use Rattle.rules.specs.declared.Axis.{Axis}
-use Rattle.rules.specs.declared.Axis.the-variants.{X, Y, Z}
 use Rattle.rules.specs.Lists.{allOf}
 use Rattle.rules.specs.Lattice.{points, pointNumber, pointCount, OfGrid, Set}
 use Rattle.rules.specs.Grid.{has, saysInside, inside, marks, isGrid}
@@ -15,6 +13,7 @@ use Rattle.rules.specs.Rims.{evenFaces}
 use Rattle.rules.specs.Signs.{sign, signBytes}
 use Rattle.rules.proofs.Bits.{and-left, and-right}
 use Rattle.rules.proofs.Lists.{all-every, all-weaken, allOf→, allOf←}
+use Rattle.rules.proofs.Numbers.{zero-has}
 use Rattle.rules.proofs.Same.{allOf-same}
 use Rattle.rules.proofs.OddList.{even-all}
 use Rattle.rules.proofs.PointOf.{points-grid}
@@ -39,15 +38,10 @@ start : (n : ℕ) (w : List ℕ) → pointCount n ≤ length w → Blank n w →
 start n w long blank =
     record {
       long = long;
-      marked = λ a p o. ap (has a) (blank p o) ∙ bare a;
+      marked = λ a p o. ap (has a) (blank p o) ∙ zero-has a;
       signed = λ p o. ap saysInside (blank p o);
       small = λ p o. let e = blank p o in omega arith;
     }
-  where
-    bare : (a : Axis) → has a 0 ≡ false
-    bare X = refl
-    bare Y = refl
-    bare Z = refl
 
 module _ (n : ℕ) (l w : List ℕ) (long : pointCount n ≤ length w) (blank : Blank n w) (b : Bool) (v : List ℕ) (e : placed b v ≡ placing n (fours l) w) where
   abbrev E : Set

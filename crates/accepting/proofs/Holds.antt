@@ -10,7 +10,8 @@ use lib.Seq.{getD-set-same, getD-set-other, drop-set-lt}
 use Rattle.rules.specs.declared.Axis.{Axis}
 use Rattle.rules.specs.declared.Point.{Point}
 use Rattle.rules.specs.Lists.{_⊕_}
-use Rattle.rules.specs.Lattice.{sameAxis, samePoint, samePlace, pointNumber, pointCount, OfGrid, Set, inner}
+use Rattle.rules.specs.Lattice.{sameAxis, samePoint, samePlace, pointNumber, pointCount, OfGrid, Set}
+use Rattle.rules.specs.Inner.{AllInner}
 use Rattle.rules.specs.Grid.{has, toggle, saysInside, inside, marks, isGrid}
 use Rattle.rules.proofs.Bits.{⊕-false, &&-false, &&-true, eqb-yes}
 use Rattle.rules.proofs.Numbers.{has-low}
@@ -31,6 +32,10 @@ pub record Holds (n : ℕ) (E : Set) (I : Point → Bool) (w : List ℕ) : Type 
   pub signed : (p : Point) → OfGrid n p → inside n w p ≡ I p
   pub small : (p : Point) → OfGrid n p → getD w (pointNumber n p) 0 ≤ 15
 
+pub or-none : (a : Bool) → a ≡ a || false
+or-none true = refl
+or-none false = refl
+
 -- the same sets
 pub holds-same : (n : ℕ) (E F : Set) (I J : Point → Bool) (w : List ℕ) → ((a : Axis) (p : Point) → E a p ≡ F a p) → ((p : Point) → I p ≡ J p) →
     Holds n E I w → Holds n F J w
@@ -38,7 +43,7 @@ holds-same n E F I J w e f h =
     record { long = h .long; marked = λ a p o. h .marked a p o ∙ e a p; signed = λ p o. h .signed p o ∙ f p; small = h .small }
 
 -- it is a grid with these marks
-pub holds-grid : (n : ℕ) (E : Set) (I : Point → Bool) (w : List ℕ) → Holds n E I w → ((a : Axis) (p : Point) → E a p ≡ true → inner n a p ≡ true) →
+pub holds-grid : (n : ℕ) (E : Set) (I : Point → Bool) (w : List ℕ) → Holds n E I w → AllInner n E →
     (isGrid n w ≡ true) × (marks n w ≡ E)
 holds-grid n E I w h inner-only = (held-grid n E inner-only w (h .small) (h .marked), held-marks n E inner-only w (h .small) (h .marked))
 
@@ -130,10 +135,6 @@ module _ (n : ℕ) (E : Set) (I : Point → Bool) (w : List ℕ) (h : Holds n E 
       or-yes true = refl
       or-yes false = refl
 
-      or-no : (x : Bool) → x ≡ x || false
-      or-no true = refl
-      or-no false = refl
-
       sign : (p : Point) → OfGrid n p → (c : Bool) → cond c (saysInside (withSign true there)) (saysInside (getD w (pointNumber n p) 0)) ≡ I p || c
       sign p hp true = sign-says there ∙ or-yes (I p)
-      sign p hp false = h .signed p hp ∙ or-no (I p)
+      sign p hp false = h .signed p hp ∙ or-none (I p)

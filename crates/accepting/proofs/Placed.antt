@@ -24,7 +24,7 @@ use Rattle.quad_reading.specs.Read.{isSome, read, Fits}
 use Rattle.quad_reading.proofs.OneEdge.{fits-read, inner-grid}
 use Rattle.deciding.specs.Decide.{placeOf, edgesOf, apart}
 use Rattle.accepting.specs.Placing.{insideEnd, sayAt, Placed, placed, placeOne, putOne, placing}
-use Rattle.accepting.proofs.Holds.{Holds, holds-same, turn-holds, say-holds, set-behind}
+use Rattle.accepting.proofs.Holds.{or-none, Holds, holds-same, turn-holds, say-holds, set-behind}
 
 -- ---- the points that quads say are inside
 unfoldable pub says : Reading → Point → Bool
@@ -53,10 +53,6 @@ all-and-not x y (f ∷ l) = ap (λ (b : Bool). (x f && not (y f)) && b) (all-and
 or-assoc : (a b c : Bool) → (a || b) || c ≡ a || (b || c)
 or-assoc true b c = refl
 or-assoc false b c = refl
-
-or-none : (a : Bool) → a ≡ a || false
-or-none true = refl
-or-none false = refl
 
 -- ---- one quad after the other
 module _ (n : ℕ) where

@@ -59,8 +59,8 @@ mark-some b = same-test _ _ there back
     half : (x : ℕ) → x % 2 ≡ 0 → x ≡ 2 * (x / 2)
     half x e = omega arith
 
-    eight : (x y : ℕ) → x ≡ 8 * y → x % 8 ≡ 0
-    eight x y e = omega arith
+    no-rest : (x y : ℕ) → x ≡ 8 * y → x % 8 ≡ 0
+    no-rest x y e = omega arith
 
     all : b % 2 + (b / 2 % 2 + b / 4 % 2) ≡ 0 → b % 8 ≡ 0
     all e =
@@ -68,7 +68,7 @@ mark-some b = same-test _ _ there back
         let y = half (b / 2) (omega arith) in
         let z = half (b / 4) (omega arith) in
         let w : b / 2 / 2 ≡ b / 4 = omega arith in
-        eight b (b / 4 / 2) (omega arith)
+        no-rest b (b / 4 / 2) (omega arith)
 
     there : some (byteMarks b) ≡ true → hasMark b ≡ true
     there e = ap not (ne-eqb (b % 8) 0 (λ z. eqb-false (byteMarks b) 0 (not-true (eqb (byteMarks b) 0) e) (sum ∙ none z)))

@@ -55,7 +55,7 @@ half : (c : ℕ) → 0 < c → nearestAway (c - 1) 2 ≡ c / 2
 unfolding nearestAway
 half c h = omega arith
 
-size-of : (b : Bool) (n k : ℕ) → signed b n ≡ pos k → n ≡ k
+pub size-of : (b : Bool) (n k : ℕ) → signed b n ≡ pos k → n ≡ k
 size-of true zero k e = ap natAbs e
 size-of true (suc n) k e = ap natAbs e
 size-of false n k e = ap natAbs e

@@ -24,7 +24,7 @@ use Rattle.lattice.specs.Cells.{indexOf, Cell}
 use Rattle.triangles.specs.declared.Vector.{Vector}
 use Rattle.triangles.specs.declared.Triangle.{Triangle}
 use Rattle.triangles.specs.declared.Kept.{Kept}
-use Rattle.triangles.specs.Vectors.{OnLattice, vector, nought, along, dot}
+use Rattle.triangles.specs.Vectors.{OnLattice, vector, zeroVector, along, dot}
 use Rattle.triangles.specs.Axes.{units, sides, crossEach, crossed}
 use Rattle.triangles.specs.Meets.{Inside, separates, noneSeparates}
 use Rattle.triangles.specs.Shared.{times}
@@ -62,10 +62,10 @@ module _ (l : Level) where
 
   -- its dot products fit at every cell
   pub kept-fits : (t : Triangle) → Inside t → (k : ℕ) (p : Point) → Cell (cellsOf l) p →
-      Fits (keptOf (sideOf l) (getD (laterAxes t) k nought) t) (numbersOf p)
+      Fits (keptOf (sideOf l) (getD (laterAxes t) k zeroVector) t) (numbersOf p)
   unfolding keptOf
   kept-fits t h k p c =
-      let n = getD (laterAxes t) k nought in
+      let n = getD (laterAxes t) k zeroVector in
       let lower = subst OnLattice (place-numbers p) (place-inside l p (corner-grid (cellsOf l) p X c .0)) in
       let upper : (e : Axis) → OnLattice (times (sideOf l) (further (indexOf e) (numbersOf p)))
       = λ e. subst OnLattice (place-up e p) (place-inside l (up e p) (corner-grid (cellsOf l) p e c .1)) in
@@ -133,12 +133,12 @@ module _ (w : List ℤ) (k : ℕ) (a : Kept) (h : 5 * k + 5 ≤ length w) where
 
 module _ (l : Level) (t : Triangle) where
   -- one more axis is kept
-  pub keeps-more : (w : List ℤ) (k : ℕ) (a : Kept) → k < 10 → Keeps l t k w → a ≡ keptOf (sideOf l) (getD (laterAxes t) k nought) t →
+  pub keeps-more : (w : List ℤ) (k : ℕ) (a : Kept) → k < 10 → Keeps l t k w → a ≡ keptOf (sideOf l) (getD (laterAxes t) k zeroVector) t →
       Keeps l t (suc k) (keptWith w k a)
   unfolding keptWith
   keeps-more w k a h s f = record { long = length-sets w (5 * k) (fiveOf a) ∙ s .long; axis = λ j b. at j b (ℕ-discrete j k) }
     where
-      at : (j : ℕ) → j < suc k → Dec (j ≡ k) → keptAt (keptWith w k a) j ≡ keptOf (sideOf l) (getD (laterAxes t) j nought) t
+      at : (j : ℕ) → j < suc k → Dec (j ≡ k) → keptAt (keptWith w k a) j ≡ keptOf (sideOf l) (getD (laterAxes t) j zeroVector) t
       at j b (yes q) = let e = s .long in rw q (kept-same w k a (omega arith) ∙ f)
       at j b (no q) = let e = s .long in kept-before w k a (omega arith) j (omega arith) ∙ s .axis j (omega arith)
 
@@ -149,7 +149,7 @@ module _ (l : Level) (t : Triangle) where
   kept-and-rest w zero h s p a = refl
   kept-and-rest w (suc m) h s p a =
       let e = endsOf l a p in
-      let n = getD (laterAxes t) m nought in
+      let n = getD (laterAxes t) m zeroVector in
       let f : parts (keptAt w m) (numbersOf p) (indexOf a) ≡ separates n t e
       = ap (λ (b : Kept). parts b (numbersOf p) (indexOf a)) (s .axis m (omega arith)) ∙ parts-separates l t n a p in
       &&-assoc (noneParts w m (numbersOf p) a) (not (parts (keptAt w m) (numbersOf p) (indexOf a))) (noneSeparates (drop (suc m) (laterAxes t)) t e)
@@ -159,10 +159,10 @@ module _ (l : Level) (t : Triangle) where
 
   -- the rest from one axis on: that axis, and the rest behind it
   pub rest-next : (k : ℕ) → k < 10 → (p : Point) (a : Axis) (b : Bool) →
-      restLeft l t (suc k) p a (b && not (separates (getD (laterAxes t) k nought) t (endsOf l a p))) ≡ restLeft l t k p a b
+      restLeft l t (suc k) p a (b && not (separates (getD (laterAxes t) k zeroVector) t (endsOf l a p))) ≡ restLeft l t k p a b
   rest-next k h p a b =
       let e = endsOf l a p in
-      &&-assoc b (not (separates (getD (laterAxes t) k nought) t e)) (noneSeparates (drop (suc k) (laterAxes t)) t e)
+      &&-assoc b (not (separates (getD (laterAxes t) k zeroVector) t e)) (noneSeparates (drop (suc k) (laterAxes t)) t e)
       ∙ ap (λ (x : Bool). b && x) (sym (none-next t e (laterAxes t) k (ten t h)))
 
   -- behind the last there is none

@@ -22,7 +22,7 @@ use Rattle.lattice.specs.Levels.{sideOf}
 use Rattle.lattice.specs.Cells.{indexOf}
 use Rattle.triangles.specs.declared.Span.{Span}
 use Rattle.triangles.specs.declared.Triangle.{Triangle}
-use Rattle.triangles.specs.Vectors.{nought}
+use Rattle.triangles.specs.Vectors.{zeroVector}
 use Rattle.triangles.specs.Spans.{spanAt, spanWith, apart}
 use Rattle.triangles.specs.Axes.{units}
 use Rattle.triangles.specs.Meets.{separates, noneSeparates}
@@ -53,14 +53,14 @@ module _ (s : Span) (p q : ℤ) where
 
 module _ (l : Level) (t : Triangle) (lo c : Point) (r : Reaches l t lo c) where
   -- on an axis an edge reaches from one plane to another, or lies in one
-  on-unit : (a b : Axis) → separates (getD units (indexOf b) nought) t (endsOf l a c)
+  on-unit : (a b : Axis) → separates (getD units (indexOf b) zeroVector) t (endsOf l a c)
       ≡ apart (spanOn b t) (spanWith (spanAt (pos (coord b c * sideOf l))) (pos (coord b (up a c) * sideOf l)))
   unfolding separates endsOf
   on-unit a b =
       rw (edge-along (indexOf b) (index-small b) (endsOf l a c), place-along l c b, place-along l (up a c) b)
 
   -- along itself it is not separated
-  lengthwise : (a : Axis) → coord a (up a c) ≡ suc (coord a c) → separates (getD units (indexOf a) nought) t (endsOf l a c) ≡ false
+  lengthwise : (a : Axis) → coord a (up a c) ≡ suc (coord a c) → separates (getD units (indexOf a) zeroVector) t (endsOf l a c) ≡ false
   lengthwise a e =
       let h = r a in
       let f : suc (coord a lo) ≤ coord a (up a c) = let g = h .from in omega arith in
@@ -68,7 +68,7 @@ module _ (l : Level) (t : Triangle) (lo c : Point) (r : Reaches l t lo c) where
       on-unit a a ∙ not-apart (spanOn a t) (pos (coord a c * sideOf l)) (pos (coord a (up a c) * sideOf l)) past (h .upto)
 
   -- crosswise it is, in the first layer alone
-  crosswise : (a b : Axis) → coord b (up a c) ≡ coord b c → separates (getD units (indexOf b) nought) t (endsOf l a c) ≡ eqb (coord b c) (coord b lo)
+  crosswise : (a b : Axis) → coord b (up a c) ≡ coord b c → separates (getD units (indexOf b) zeroVector) t (endsOf l a c) ≡ eqb (coord b c) (coord b lo)
   crosswise a b e = on-unit a b ∙ ap (λ (m : ℕ). apart (spanOn b t) (spanWith (spanAt at) (pos (m * sideOf l)))) e ∙ go (ℕ-discrete (coord b c) (coord b lo))
     where
       at : ℤ

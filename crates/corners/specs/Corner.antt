@@ -21,7 +21,7 @@ use Rattle.triangles.specs.declared.Vector.{Vector}
 use Rattle.triangles.specs.declared.Span.{Span}
 use Rattle.triangles.specs.declared.Triangle.{Triangle}
 use Rattle.triangles.specs.declared.Kept.{Kept}
-use Rattle.triangles.specs.Vectors.{Size, Terms, dotMost, vector, nought, along, dot}
+use Rattle.triangles.specs.Vectors.{Size, Terms, dotMost, vector, zeroVector, along, dot}
 use Rattle.triangles.specs.Axes.{units}
 use Rattle.triangles.specs.Meets.{triangleSpan, noneSeparates}
 use Rattle.triangles.specs.Keeping.{laterAxes, keptOf, parts}
@@ -57,7 +57,7 @@ pub record Reached (l : Level) (x : Span) (first i : ℕ) : Type 0 where
 
 -- the cell reaches the triangle's box, whose lowest cell is lo
 abbrev pub Reaches : Level → Triangle → Point → Point → Type 0
-Reaches l t lo c = (a : Axis) → Reached l (triangleSpan (getD units (indexOf a) nought) t) (coord a lo) (coord a c)
+Reaches l t lo c = (a : Axis) → Reached l (triangleSpan (getD units (indexOf a) zeroVector) t) (coord a lo) (coord a c)
 
 -- the dot products of an axis kept with a point and with the next ones fit, and its span is in order
 pub record Fits (a : Kept) (p : Vector) : Type 0 where
@@ -84,7 +84,7 @@ keptWith w k a = sets w (5 * k) (fiveOf a)
 -- fifty numbers, in which the first m axes behind the unit vectors are kept
 pub record Keeps (l : Level) (t : Triangle) (m : ℕ) (w : List ℤ) : Type 0 where
   pub long : length w ≡ 50
-  pub axis : (k : ℕ) → k < m → keptAt w k ≡ keptOf (sideOf l) (getD (laterAxes t) k nought) t
+  pub axis : (k : ℕ) → k < m → keptAt w k ≡ keptOf (sideOf l) (getD (laterAxes t) k zeroVector) t
 
 -- an edge that was left still is: the axis does not separate it
 abbrev pub stillLeft : Kept → Vector → Axis → Bool → Bool

@@ -140,9 +140,6 @@ module _ (n : ℕ) (big : 1 < n) (s : Point → Bool) (t : Bool) (a : Axis) (p :
       ∙ go k w (not-true _ (and-left (not (anyOf (samePlace f) (edgesOf n l))) _ e₂)) (samePlace f (record { axis = a; at = p })) refl
       ∙ ap (λ (m : List Place). value (setOf m a p && Bool·beq (s p) t) 1) (sym (edges-cons n big q k l))
     where
-      S : Bool
-      S = setOf (edgesOf n l) a p
-
       go : (k : Is n q) → Bool·beq (s (k .at)) (k .turn) ≡ true → anyOf (samePlace (of k)) (edgesOf n l) ≡ false →
           (c : Bool) → samePlace (of k) (record { axis = a; at = p }) ≡ c →
           cond (c && Bool·beq (k .turn) t) (suc (value (setOf (edgesOf n l) a p && Bool·beq (s p) t) 1)) (value (setOf (edgesOf n l) a p && Bool·beq (s p) t) 1)

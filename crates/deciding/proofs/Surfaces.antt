@@ -12,6 +12,7 @@ use Rattle.rules.specs.declared.Point.{Point}
 use Rattle.rules.specs.declared.Place.{Place}
 use Rattle.rules.specs.Lists.{_⊕_, each}
 use Rattle.rules.specs.Lattice.{coord, up, places, OfGrid, Set, isIn, inner}
+use Rattle.rules.specs.Inner.{AllInner}
 use Rattle.rules.specs.Signs.{sign, Consistent}
 use Rattle.rules.specs.Quads.{quad, quads}
 use Rattle.rules.proofs.Bits.{&&-false, is-false, same-test}
@@ -29,19 +30,15 @@ use Rattle.deciding.proofs.Times.{places-grid}
 use Rattle.deciding.proofs.Edges.{marks-of-inner}
 use Rattle.deciding.proofs.Decides.{surface-consistent, signs-are, accepts→, decides}
 
--- marks on inner edges alone
-abbrev pub Inner : ℕ → Set → Type 0
-Inner n E = (a : Axis) (p : Point) → E a p ≡ true → inner n a p ≡ true
-
 -- the marks of signs are settled by them
-pub marks-one : (n : ℕ) (E F : Set) (s : Point → Bool) → Inner n E → Inner n F → Consistent n E s → Consistent n F s → E ≡ F
+pub marks-one : (n : ℕ) (E F : Set) (s : Point → Bool) → AllInner n E → AllInner n F → Consistent n E s → Consistent n F s → E ≡ F
 marks-one n E F s e f c d = fun-ext (λ a. fun-ext (λ p. go a p (inner n a p) refl))
   where
     go : (a : Axis) (p : Point) (b : Bool) → inner n a p ≡ b → E a p ≡ F a p
     go a p true i = let o = edge-ends n a p .1 (inner-grid n a p i) in sym (c .differ a p o) ∙ d .differ a p o
     go a p false i = is-false (E a p) (λ t. true≢false (sym (e a p t) ∙ i)) ∙ sym (is-false (F a p) (λ t. true≢false (sym (f a p t) ∙ i)))
 
-module _ (n : ℕ) (E : Set) (s : Point → Bool) (only : Inner n E) (c : Consistent n E s) where
+module _ (n : ℕ) (E : Set) (s : Point → Bool) (only : AllInner n E) (c : Consistent n E s) where
   -- they are the sign changes
   marks-change : (e : Place) → OfGrid n (e .at) → isIn E e ≡ isIn (changes n s) e
   marks-change e o = go (decLt (coord (e .axis) (e .at)) n)

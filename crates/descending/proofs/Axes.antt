@@ -12,7 +12,7 @@ use Rattle.lattice.specs.declared.level.Level.{Level}
 use Rattle.lattice.specs.Levels.{cellsOf, sideOf}
 use Rattle.triangles.specs.declared.Span.{Span}
 use Rattle.triangles.specs.declared.Triangle.{Triangle}
-use Rattle.triangles.specs.Vectors.{nought}
+use Rattle.triangles.specs.Vectors.{zeroVector}
 use Rattle.triangles.specs.Spans.{apart}
 use Rattle.triangles.specs.Axes.{units, sides, crossEach, crossed}
 use Rattle.triangles.specs.Meets.{triangleSpan}
@@ -48,7 +48,7 @@ module _ (r : List ℤ) (k : ℕ) (s : Span) (h : 2 * k + 2 ≤ length r) where
 
 -- one more is kept
 pub spreads-more : (l : Level) (t : Triangle) (r : List ℤ) (k : ℕ) (s : Span) → k < 10 → Spreads l t k r →
-    s ≡ reachOf (times (sideOf l) (getD (laterAxes t) k nought)) → Spreads l t (suc k) (reachWith r k s)
+    s ≡ reachOf (times (sideOf l) (getD (laterAxes t) k zeroVector)) → Spreads l t (suc k) (reachWith r k s)
 unfolding reachWith
 spreads-more l t r k s h f e =
     record {
@@ -56,7 +56,7 @@ spreads-more l t r k s h f e =
       reach = λ j b. at j b (ℕ-discrete j k);
     }
   where
-    at : (j : ℕ) → j < suc k → Dec (j ≡ k) → reachAt (reachWith r k s) j ≡ reachOf (times (sideOf l) (getD (laterAxes t) j nought))
+    at : (j : ℕ) → j < suc k → Dec (j ≡ k) → reachAt (reachWith r k s) j ≡ reachOf (times (sideOf l) (getD (laterAxes t) j zeroVector))
     at j b (yes q) = let g = f .long in rw q (reach-same r k s (omega arith) ∙ e)
     at j b (no q) = let g = f .long in reach-before r k s (omega arith) j (omega arith) ∙ f .reach j (omega arith)
 
@@ -70,10 +70,10 @@ module _ (l : Level) (t : Triangle) (w r : List ℤ) (y : Ready l t w r) (c : Cu
   missed k = apart (keptAt w k .span) (reachSpan (keptAt w k .axis) (reachAt r k) (numbersOf (c .at)) (pos (c .side)))
 
   -- an axis kept separates a cube exactly when the axis does
-  missed-is : (k : ℕ) → k < 10 → missed k ≡ apart (triangleSpan (getD (laterAxes t) k nought) t) (cubeSpan l (getD (laterAxes t) k nought) c)
+  missed-is : (k : ℕ) → k < 10 → missed k ≡ apart (triangleSpan (getD (laterAxes t) k zeroVector) t) (cubeSpan l (getD (laterAxes t) k zeroVector) c)
   unfolding keptOf
   missed-is k h =
-      let n = getD (laterAxes t) k nought in
+      let n = getD (laterAxes t) k zeroVector in
       let e = y .keeps .axis k h in
       (λ i. apart (e i .span) (reachSpan (e i .axis) (y .spreads .reach k h i) (numbersOf (c .at)) (pos (c .side))))
       ∙ ap (λ (s : Span). apart (triangleSpan n t) s) (sym (kept-span l n c))
@@ -88,4 +88,4 @@ module _ (l : Level) (t : Triangle) (w r : List ℤ) (y : Ready l t w r) (c : Cu
   -- every number formed fits
   pub missed-fits : (k : ℕ) → k < 10 → CubeOf (cellsOf l) c → ReachFits (keptAt w k .axis) (reachAt r k) (numbersOf (c .at)) (pos (c .side))
   unfolding keptOf
-  missed-fits k h o = rw (y .keeps .axis k h, y .spreads .reach k h) (reach-fits l (getD (laterAxes t) k nought) (later-size k (y .inside)) c o)
+  missed-fits k h o = rw (y .keeps .axis k h, y .spreads .reach k h) (reach-fits l (getD (laterAxes t) k zeroVector) (later-size k (y .inside)) c o)

@@ -15,7 +15,7 @@ use Rattle.rules.specs.declared.Axis.{Axis}
 use Rattle.rules.specs.declared.Axis.the-variants.{X, Y, Z}
 use Rattle.rules.specs.declared.Point.{Point}
 use Rattle.rules.specs.declared.Box.{Box}
-use Rattle.rules.specs.Lattice.{up, samePoint, Set, cellIn, OfGrid}
+use Rattle.rules.specs.Lattice.{up, samePoint, Set, cellIn}
 use Rattle.rules.proofs.Bits.{Bounds, and-left, and-right, both, same-test, or-cases}
 use Rattle.rules.proofs.Boxes.{InBox, inBox→, inBox←}
 use Rattle.rules.proofs.Cuts.{samePoint→}
@@ -40,9 +40,6 @@ use Rattle.descending.proofs.Thirteen.{thirteen}
 
 abbrev InCube : Cube → Point → Type 0
 InCube c p = InBox (boxOf c) false false false p
-
-pub cube-grid : (n : ℕ) (c : Cube) → CubeOf n c → OfGrid n (c .at)
-cube-grid n c h = let f = h .fits in omega arith
 
 -- ---- a separated cube
 module _ (l : Level) (t : Triangle) (c : Cube) where

@@ -17,7 +17,7 @@ use Rattle.lattice.proofs.LevelFacts.{side-most}
 use Rattle.triangles.specs.declared.Vector.{Vector}
 use Rattle.triangles.specs.declared.Span.{Span}
 use Rattle.triangles.specs.declared.Triangle.{Triangle}
-use Rattle.triangles.specs.Vectors.{Each, Size, OnLattice, Terms, axisMost, termMost, dotMost, nought, dot}
+use Rattle.triangles.specs.Vectors.{Each, Size, OnLattice, Terms, axisMost, termMost, dotMost, zeroVector, dot}
 use Rattle.triangles.specs.Spans.{before, apart, Holds}
 use Rattle.triangles.specs.Meets.{triangleSpan, edgeSpan, separates, noneSeparates}
 use Rattle.triangles.specs.Shared.{times}
@@ -94,12 +94,12 @@ module _ (l : Level) (t : Triangle) (c : Cube) where
   abbrev parted : Vector → Bool
   parted n = apart (triangleSpan n t) (cubeSpan l n c)
 
-  pub all-clear : (ns : List Vector) → ((k : ℕ) → k < length ns → parted (getD ns k nought) ≡ false) → noneDrops ns l t c ≡ true
+  pub all-clear : (ns : List Vector) → ((k : ℕ) → k < length ns → parted (getD ns k zeroVector) ≡ false) → noneDrops ns l t c ≡ true
   unfolding noneDrops
   all-clear [] f = refl
   all-clear (n ∷ ns) f = rw (f zero (suc-le-suc zero-le)) (all-clear ns (λ k b. f (suc k) (suc-le-suc b)))
 
-  pub one-drops : (ns : List Vector) (k : ℕ) → k < length ns → parted (getD ns k nought) ≡ true → noneDrops ns l t c ≡ false
+  pub one-drops : (ns : List Vector) (k : ℕ) → k < length ns → parted (getD ns k zeroVector) ≡ true → noneDrops ns l t c ≡ false
   unfolding noneDrops
   one-drops [] k b h = absurd (not-suc-le-zero b)
   one-drops (n ∷ ns) zero b h = ap (λ (s : Bool). cond s false (noneDrops ns l t c)) h

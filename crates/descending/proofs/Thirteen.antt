@@ -20,7 +20,7 @@ use Rattle.lattice.specs.Levels.{sideOf}
 use Rattle.triangles.specs.declared.Vector.{Vector}
 use Rattle.triangles.specs.declared.Span.{Span}
 use Rattle.triangles.specs.declared.Triangle.{Triangle}
-use Rattle.triangles.specs.Vectors.{nought, along}
+use Rattle.triangles.specs.Vectors.{zeroVector, along}
 use Rattle.triangles.specs.Spans.{apart}
 use Rattle.triangles.specs.Axes.{units, normal, crossed, axes}
 use Rattle.triangles.specs.Meets.{triangleSpan}
@@ -49,7 +49,7 @@ ends-span f c g h =
 
 module _ (l : Level) (c : Cube) where
   abbrev onUnit : ℕ → Span
-  onUnit d = cubeSpan l (getD units d nought) c
+  onUnit d = cubeSpan l (getD units d zeroVector) c
 
   abbrev line : ℕ → Span
   line i = record { low = pos (i * sideOf l); high = pos ((i + c .side) * sideOf l) }
@@ -116,11 +116,11 @@ module _ (l : Level) (t : Triangle) (c : Cube) where
   pub units-drop : (b : Box) → Covers l t b → (ns : List Vector) → noneDrops (units ++ ns) l t c ≡ touchesOf b c && noneDrops ns l t c
   unfolding noneDrops units touchesOf
   units-drop b v ns =
-      let u = triangleSpan (getD units 0 nought) t in
+      let u = triangleSpan (getD units 0 zeroVector) t in
       let x = ap (apart u) (unit-x l c) ∙ parted l u (b .lo .i) (b .hi .i) (v X) (c .at .i) (c .side) in
-      let u = triangleSpan (getD units 1 nought) t in
+      let u = triangleSpan (getD units 1 zeroVector) t in
       let y = ap (apart u) (unit-y l c) ∙ parted l u (b .lo .j) (b .hi .j) (v Y) (c .at .j) (c .side) in
-      let u = triangleSpan (getD units 2 nought) t in
+      let u = triangleSpan (getD units 2 zeroVector) t in
       let z = ap (apart u) (unit-z l c) ∙ parted l u (b .lo .k) (b .hi .k) (v Z) (c .at .k) (c .side) in
       let p = shares (c .at .i) (c .side) (b .lo .i) (b .hi .i) in
       let q = shares (c .at .j) (c .side) (b .lo .j) (b .hi .j) in

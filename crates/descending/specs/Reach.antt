@@ -11,7 +11,7 @@ use Rattle.lattice.specs.Levels.{sideOf}
 use Rattle.triangles.specs.declared.Vector.{Vector}
 use Rattle.triangles.specs.declared.Span.{Span}
 use Rattle.triangles.specs.declared.Triangle.{Triangle}
-use Rattle.triangles.specs.Vectors.{Size, Terms, dotMost, nought, dot}
+use Rattle.triangles.specs.Vectors.{Size, Terms, dotMost, zeroVector, dot}
 use Rattle.triangles.specs.Meets.{Inside}
 use Rattle.triangles.specs.Shared.{times}
 use Rattle.triangles.specs.Keeping.{laterAxes}
@@ -50,7 +50,7 @@ reachWith r k s = set (set r (2 * k) (s .low)) (2 * k + 1) (s .high)
 -- twenty numbers, in which the reaches of the first m axes behind the unit vectors are kept
 pub record Spreads (l : Level) (t : Triangle) (m : ℕ) (r : List ℤ) : Type 0 where
   pub long : length r ≡ 20
-  pub reach : (k : ℕ) → k < m → reachAt r k ≡ reachOf (times (sideOf l) (getD (laterAxes t) k nought))
+  pub reach : (k : ℕ) → k < m → reachAt r k ≡ reachOf (times (sideOf l) (getD (laterAxes t) k zeroVector))
 
 -- all ten axes are kept, with their reaches
 pub record Ready (l : Level) (t : Triangle) (w r : List ℤ) : Type 0 where

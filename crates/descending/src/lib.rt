@@ -1,12 +1,10 @@
 // The descent: the whole grid is one cube; a cube that an axis separates from the triangle is dropped, any other is divided into
 // eight, down to single cells, whose edges are tested as the scan tests them. The scan and the descent leave the same marks.
+use corner_marks::mark_left;
 use corners::NUMBERS;
 use corners::keep;
 use corners::kept_at;
-use corners::left_of_kept;
-use corners::mark_left;
 use corners::numbers_of;
-use corners::unit_clear;
 use lattice::level::Level;
 use lattice::number_of;
 use meeting::box_of;
@@ -15,6 +13,8 @@ use meeting::signed;
 use rules::Box;
 use rules::Point;
 use scanning::mark_box;
+use sifting::left_of_kept;
+use sifting::unit_clear;
 use triangles::Kept;
 use triangles::Span;
 use triangles::Triangle;
@@ -35,14 +35,14 @@ ghost use Rattle.triangles.specs.Meets.{Inside};
 ghost use Rattle.triangles.specs.Keeping.{laterAxes};
 ghost use Rattle.meeting.specs.Within.{TriangleWithin};
 ghost use Rattle.meeting.specs.Met.{met, marked};
-ghost use Rattle.corners.specs.Corner.{Reaches};
 ghost use Rattle.meeting.specs.Covered.{Covers};
-ghost use Rattle.meeting.specs.Adding.{Added, atCell};
-ghost use Rattle.descending.specs.Cubes.{CubeOf, noneDrops, shifted, eighthOf, inCube, shares, touchesOf};
+ghost use Rattle.meeting.specs.Adding.{Added};
+ghost use Rattle.descending.specs.Cubes.{CubeOf, noneDrops, shifted, eighthOf, shares, touchesOf};
 ghost use Rattle.descending.specs.Reach.{below, above, reachOf, reachSpan, ReachFits, reachAt, reachWith, Ready, Loaded};
+ghost use Rattle.descending.specs.Adds.{AddsAt, AddsIn};
 
 // Ten axes of two numbers each.
-const REACHES: usize = 20;
+pub const REACHES: usize = 20;
 
 // A cube of cells by its lowest cell and its side.
 pub struct Cube {
@@ -73,7 +73,7 @@ fn sum(x: i64, y: i64, z: i64) -> i64
 }
 
 // Answers how far a cube of one cell reaches on an axis from its lowest corner, down and up.
-pub fn reach_of(n: Vector) -> Span
+fn reach_of(n: Vector) -> Span
     requires { ⌜ Each (Size termMost) n ⌝ }
     ensures { λ r. ⌜ r ≡ reachOf n ⌝ }
 {
@@ -96,7 +96,7 @@ fn keep_reach(reach: &mut [i64; REACHES], k: usize, s: Span)
 }
 
 // Answers the reach kept as number k.
-fn reach_at(reach: &[i64; REACHES], k: usize) -> Span
+pub fn reach_at(reach: &[i64; REACHES], k: usize) -> Span
     requires { ⌜ k < 10 ⌝ }
     ensures { λ r. ⌜ r ≡ reachAt (now (reach .entry)) k ⌝ }
 {
@@ -108,7 +108,7 @@ fn reach_at(reach: &[i64; REACHES], k: usize) -> Span
 }
 
 // Builds the ten axes behind the unit vectors and their reaches.
-fn keep_all(l: Level, t: Triangle, kept: &mut [i64; NUMBERS], reach: &mut [i64; REACHES])
+pub fn keep_all(l: Level, t: Triangle, kept: &mut [i64; NUMBERS], reach: &mut [i64; REACHES])
     requires { ⌜ Inside t × (length (now kept) ≡ 50) × (length (now reach) ≡ 20) ⌝ }
     ensures { λ _. ⌜ Ready l t (now (kept .exit)) (now (reach .exit)) ⌝ }
 {
@@ -186,7 +186,7 @@ fn mark_single(
     c: Point,
 )
     requires { ⌜ (n ≡ cellsOf l) × (pointsOf l ≤ length (now grid)) × Cell (cellsOf l) c × Loaded l (now kept) (now reach) ⌝ }
-    ensures { λ _. ⌜ ((t : Triangle) → Ready l t (now (kept .entry)) (now (reach .entry)) → Reaches l t lo c → Added (cellsOf l) (atCell c (met l t)) (now (grid .entry)) (now (grid .exit))) ⌝ }
+    ensures { λ _. ⌜ AddsAt l (now (kept .entry)) (now (reach .entry)) lo c (now (grid .entry)) (now (grid .exit)) ⌝ }
 {
     let at = number_of(n, c);
     let left = left_of_kept(kept, 10, numbers_of(c), unit_clear(grid[at], lo, c));
@@ -233,7 +233,7 @@ fn mark_cube(
     c: Cube,
 )
     requires { ⌜ (n ≡ cellsOf l) × (pointsOf l ≤ length (now grid)) × CubeOf (cellsOf l) c × Loaded l (now kept) (now reach) ⌝ }
-    ensures { λ _. ⌜ ((t : Triangle) → Ready l t (now (kept .entry)) (now (reach .entry)) → Covers l t b → Added (cellsOf l) (inCube c (met l t)) (now (grid .entry)) (now (grid .exit))) ⌝ }
+    ensures { λ _. ⌜ AddsIn l (now (kept .entry)) (now (reach .entry)) b c (now (grid .entry)) (now (grid .exit)) ⌝ }
 {
     if !touches(b, c) {
         return;

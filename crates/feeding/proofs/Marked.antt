@@ -1,5 +1,5 @@
 -- What mark comes to on a buffer that is known to be a grid of the level. Assumes nothing.
-use mathlib.Core.Path.{_≡_, refl, sym}
+use mathlib.Core.Path.{_≡_, sym}
 use mathlib.Core.Bool.{true, false}
 use mathlib.Core.List.{List}
 use Prim.Native.Nat.{ℕ}
@@ -7,11 +7,9 @@ use lib.IntN.{ℤ}
 use lib.ListN.{length}
 use borrow.Author.Tests.{le-ltb, eq-eqb, ne-eqb}
 use Rattle.lattice.specs.declared.level.Level.{Level}
-use Rattle.lattice.specs.declared.level.Level.the-variants.{Two, Three, Four, Five}
-use Rattle.lattice.specs.declared.level.LevelRead.the-variants.{Known}
-use Rattle.lattice.specs.Levels.{levelOf, numberOf, pointsOf}
+use Rattle.lattice.specs.Levels.{numberOf, pointsOf}
 use Rattle.refusals.specs.Columns.{badLevel, levelAt}
-use Rattle.refusals.proofs.Levels.{read-known}
+use Rattle.refusals.proofs.Levels.{level-known, read-known}
 use Rattle.marking.specs.Ranges.{allInRange, triangleOf}
 use Rattle.marking.specs.OutOfRange.{firstOut, badOne, outNumber}
 use Rattle.meeting.specs.Met.{marked}
@@ -23,16 +21,8 @@ use Rattle.feeding.specs.Feed.{Ready}
 use Rattle.feeding.specs.Lent.{lentTotals}
 use Rattle.feeding.proofs.Lent.{lent-long}
 
--- a level's number is that of a level
-named : (l : Level) → levelOf (numberOf l) ≡ Known l
-unfolding levelOf
-named Two = refl
-named Three = refl
-named Four = refl
-named Five = refl
-
 pub known : (l : Level) → (badLevel (numberOf l) ≡ false) × (levelAt (numberOf l) ≡ l)
-known l = read-known (numberOf l) l (named l)
+known l = read-known (numberOf l) l (level-known l)
 
 module _ (l : Level) (g : List ℕ) (r : Ready l g) (c : List ℤ) where
   good : badLevel (numberOf l) ≡ false

@@ -2,8 +2,8 @@
 use descending::mark_fast;
 use lattice::level::Level;
 use marking::out_of_range;
-use marking::range::first_out;
-use marking::range::triangle_of;
+use ranging::first_out;
+use ranging::triangle_of;
 use text::words::numbers_at;
 ghost use mathlib.Core.Path.{_≡_};
 ghost use Prim.Native.Nat.{_+_, _≤_};

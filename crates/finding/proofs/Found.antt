@@ -15,23 +15,23 @@ use Rattle.rules.specs.declared.Axis.{Axis}
 use Rattle.rules.specs.declared.Axis.the-variants.{X, Y, Z}
 use Rattle.rules.specs.declared.Point.{Point}
 use Rattle.rules.specs.declared.Place.{Place}
-use Rattle.rules.specs.Lattice.{Set, OfGrid, placesAt, places, pointNumber, pointCount, pointOf}
-use Rattle.rules.specs.Cell.{faceMarks, isOdd, oddFace}
+use Rattle.rules.specs.Lattice.{Set, OfGrid, placesAt, pointNumber, pointCount, pointOf}
+use Rattle.rules.specs.Inner.{AllInner}
+use Rattle.rules.specs.Cell.{faceMarks, isOdd}
 use Rattle.rules.specs.Grid.{value}
 use Rattle.rules.specs.Rims.{facesWith}
 use Rattle.rules.proofs.Bits.{eqb-no}
 use Rattle.rules.proofs.Lists.{upto-more}
 use Rattle.rules.proofs.Sums.{count-each}
 use Rattle.rules.proofs.Listed.{count-places}
-use Rattle.rules.proofs.PointOf.{number-pointOf, pointOf-number, places-by-number}
+use Rattle.rules.proofs.PointOf.{pointOf-number, places-by-number}
 use Rattle.rules.proofs.FaceMarks.{one-or-three}
 use Rattle.rules.proofs.FaceCounts.{Below, face-beyond, faces-all}
 use Rattle.lattice.specs.Byte.{oddPutBy}
 use Rattle.lattice.proofs.Laws.{num-below}
 use Rattle.grids.proofs.Wraps.{step-below}
-use Rattle.patching.specs.Inner.{Inner}
 use Rattle.finding.specs.Finding.{oddByte, OddFound}
-use Rattle.patching.specs.Paint.{paint, nought}
+use Rattle.patching.specs.Paint.{paint, zeroByte}
 use Rattle.patching.proofs.PaintLaws.{paint-length, paint-at, paint-past}
 
 -- ---- the points of all layers but the last
@@ -71,7 +71,7 @@ odd-three : (E : Set) (c : Point) (x y z : ℕ) → x ≡ faceMarks E X c → y 
 odd-three E c x y z ex ey ez =
     λ i. oddPutBy ((ap isOdd ex ∙ sym (one-or-three E X c)) i) ((ap isOdd ey ∙ sym (one-or-three E Y c)) i) ((ap isOdd ez ∙ sym (one-or-three E Z c)) i)
 
-module _ (n : ℕ) (E : Set) (inner : Inner n E) where
+module _ (n : ℕ) (E : Set) (inner : AllInner n E) where
   -- the last layer has no face with a mark
   none-at : (k p : ℕ) → 1 ≤ k → n * suc n * suc n ≤ p → withAt n E k p ≡ 0
   none-at k p o h =
@@ -110,7 +110,7 @@ pub record Passed (n : ℕ) (E : Set) (w₀ : List ℕ) (p ones threes : ℕ) (w
   pub few-ones : ones ≤ 3 * p
   pub few-threes : threes ≤ 3 * p
 
-pub passed-none : (n : ℕ) (E : Set) → Inner n E → (w : List ℕ) → Passed n E w 0 0 0 w
+pub passed-none : (n : ℕ) (E : Set) → AllInner n E → (w : List ℕ) → Passed n E w 0 0 0 w
 passed-none n E inner w = record {
   far = omega arith;
   long = refl;
@@ -122,7 +122,7 @@ passed-none n E inner w = record {
   few-threes = omega arith;
 }
   where
-    all : (n : ℕ) (E : Set) → Inner n E → (k : ℕ) → 1 ≤ k → 0 + sumOf (withAt n E k) (upto 0 (pointCount n - 0)) ≡ facesWith k n E
+    all : (n : ℕ) (E : Set) → AllInner n E → (k : ℕ) → 1 ≤ k → 0 + sumOf (withAt n E k) (upto 0 (pointCount n - 0)) ≡ facesWith k n E
     all n E inner k o =
         let f = withAt n E k in
         let z : pointCount n - 0 ≡ pointCount n = omega arith in
@@ -133,7 +133,7 @@ sum-on : (f : ℕ → ℕ) (P p o a t : ℕ) → p < P → a ≡ f p → o + sum
 sum-on f P p o a t l e h =
     rw (add-one p) (let m = ap (sumOf f) (upto-more p P l) in omega (arith, m, e, h))
 
-module _ (n : ℕ) (E : Set) (w₀ : List ℕ) (p ones threes : ℕ) (w : List ℕ) (S : Passed n E w₀ p ones threes w) (l : p < n * suc n * suc n)
+module _ (n : ℕ) (E : Set) (w₀ : List ℕ) (p ones threes : ℕ) (w : List ℕ) (passed : Passed n E w₀ p ones threes w) (l : p < n * suc n * suc n)
     (size : pointCount n ≤ length w₀) (x y z : ℕ) (ex : x ≡ faceMarks E X (pointOf n p)) (ey : y ≡ faceMarks E Y (pointOf n p))
     (ez : z ≡ faceMarks E Z (pointOf n p)) where
   pub passed-on : (v a b : ℕ) → v ≡ oddPutBy (isOdd x) (isOdd y) (isOdd z) →
@@ -142,45 +142,48 @@ module _ (n : ℕ) (E : Set) (w₀ : List ℕ) (p ones threes : ℕ) (w : List �
       Passed n E w₀ (p + 1) (ones + a) (threes + b) (set w p v)
   passed-on v a b ev ea eb = record {
     far = omega arith;
-    long = length-set w p v ∙ S .long;
+    long = length-set w p v ∙ passed .long;
     done = λ i h. put i (ℕ-discrete i p) h;
-    rest = λ i h. getD-set-other w p i v 0 (λ (e : i ≡ p). let q : ⊥ = omega arith in q) ∙ S .rest i (omega arith);
-    with-one = sum-on (withAt n E 1) (pointCount n) p ones a _ (point-below n p l) (ea .0 ∙ with-three n E 1 p x y z ex ey ez) (S .with-one);
-    with-three = sum-on (withAt n E 3) (pointCount n) p threes b _ (point-below n p l) (eb .0 ∙ with-three n E 3 p x y z ex ey ez) (S .with-three);
-    few-ones = let f = S .few-ones in let m = ea .1 in omega arith;
-    few-threes = let f = S .few-threes in let m = eb .1 in omega arith;
+    rest = λ i h. getD-set-other w p i v 0 (λ (e : i ≡ p). let q : ⊥ = omega arith in q) ∙ passed .rest i (omega arith);
+    with-one = sum-on (withAt n E 1) (pointCount n) p ones a _ (point-below n p l) (ea .0 ∙ with-three n E 1 p x y z ex ey ez) (passed .with-one);
+    with-three = sum-on (withAt n E 3) (pointCount n) p threes b _ (point-below n p l) (eb .0 ∙ with-three n E 3 p x y z ex ey ez) (passed .with-three);
+    few-ones = let f = passed .few-ones in let m = ea .1 in omega arith;
+    few-threes = let f = passed .few-threes in let m = eb .1 in omega arith;
   }
     where
       put : (i : ℕ) → Dec (i ≡ p) → i < p + 1 → getD (set w p v) i 0 ≡ oddByte E (pointOf n i)
       put i (yes e) h =
           let r = point-below n p l in
-          let s = S .long in
+          let s = passed .long in
           ap (λ (j : ℕ). getD (set w p v) j 0) e ∙ getD-set-same w p v 0 (omega arith) ∙ ev ∙ odd-three E (pointOf n p) x y z ex ey ez
           ∙ ap (λ (j : ℕ). oddByte E (pointOf n j)) (sym e)
-      put i (no e) h = getD-set-other w p i v 0 e ∙ S .done i (omega arith)
+      put i (no e) h = getD-set-other w p i v 0 e ∙ passed .done i (omega arith)
 
 -- all points
-module _ (n : ℕ) (E : Set) (inner : Inner n E) (w₁ : List ℕ) (p ones threes : ℕ) (w : List ℕ) (S : Passed n E w₁ p ones threes w)
+module _ (n : ℕ) (E : Set) (inner : AllInner n E) (w₁ : List ℕ) (p ones threes : ℕ) (w : List ℕ) (passed : Passed n E w₁ p ones threes w)
     (l : n * suc n * suc n ≤ p) where
   pub all-ones : ones ≡ facesWith 1 n E
-  all-ones = let e = none-from n E inner 1 (omega arith) p (pointCount n - p) l in omega (arith, S .with-one, e)
+  all-ones = let e = none-from n E inner 1 (omega arith) p (pointCount n - p) l in omega (arith, passed .with-one, e)
 
   pub all-threes : threes ≡ facesWith 3 n E
-  all-threes = let e = none-from n E inner 3 (omega arith) p (pointCount n - p) l in omega (arith, S .with-three, e)
+  all-threes = let e = none-from n E inner 3 (omega arith) p (pointCount n - p) l in omega (arith, passed .with-three, e)
 
   -- in a buffer whose first P bytes were cleared
-  pub odd-found : (w₀ : List ℕ) → pointCount n ≤ length w₀ → w₁ ≡ paint nought (pointCount n) w₀ → OddFound n E w₀ w
+  pub odd-found : (w₀ : List ℕ) → pointCount n ≤ length w₀ → w₁ ≡ paint zeroByte (pointCount n) w₀ → OddFound n E w₀ w
   odd-found w₀ size e = record {
-    long = S .long ∙ ap length e ∙ paint-length nought (pointCount n) w₀;
-    past = λ i h. S .rest i (let f = S .far in let b = below in omega arith) ∙ ap (λ (s : List ℕ). getD s i 0) e ∙ paint-past nought (pointCount n) w₀ i h;
+    long = passed .long ∙ ap length e ∙ paint-length zeroByte (pointCount n) w₀;
+    past = λ i h.
+        passed .rest i (let f = passed .far in let b = below in omega arith)
+        ∙ ap (λ (s : List ℕ). getD s i 0) e
+        ∙ paint-past zeroByte (pointCount n) w₀ i h;
     at = λ q g. go q g (decLt (pointNumber n q) p);
   }
     where
       go : (q : Point) → OfGrid n q → Dec (pointNumber n q < p) → getD w (pointNumber n q) 0 ≡ oddByte E q
-      go q g (yes h) = S .done (pointNumber n q) h ∙ ap (oddByte E) (pointOf-number n q g)
+      go q g (yes h) = passed .done (pointNumber n q) h ∙ ap (oddByte E) (pointOf-number n q g)
       go q g (no h) =
-          S .rest (pointNumber n q) (omega arith) ∙ ap (λ (s : List ℕ). getD s (pointNumber n q) 0) e
-          ∙ paint-at nought (pointCount n) w₀ (pointNumber n q) (num-below n q g) size ∙ sym (even-at n E inner q (let f = S .far in omega arith) g)
+          passed .rest (pointNumber n q) (omega arith) ∙ ap (λ (s : List ℕ). getD s (pointNumber n q) 0) e
+          ∙ paint-at zeroByte (pointCount n) w₀ (pointNumber n q) (num-below n q g) size ∙ sym (even-at n E inner q (let f = passed .far in omega arith) g)
 
       below : n * suc n * suc n ≤ pointCount n
       below = mul-le-mul-right (suc n) (mul-le-mul-right (suc n) (let o : n ≤ suc n = omega arith in o))

@@ -13,7 +13,7 @@ ghost use lib.ListN.{length};
 ghost use Rattle.rules.specs.Lattice.{pointCount};
 ghost use Rattle.totals.specs.Totals.{blockCount, trued};
 ghost use Rattle.lattice.specs.Byte.{low, marksPutBy};
-ghost use Rattle.patching.specs.Paint.{paint, allChanges, nought};
+ghost use Rattle.patching.specs.Paint.{paint, allChanges, zeroByte};
 
 // Puts the marks by as they came.
 pub fn put_by(count: usize, grid: &mut [u8])
@@ -31,7 +31,7 @@ pub fn put_by(count: usize, grid: &mut [u8])
 pub fn finish(count: usize, grid: &mut [u8], work: &mut [u8]) -> u32
     requires { ⌜ (count ≤ 35937) × (count ≤ length (now grid)) × (count ≤ length (now work)) ⌝ }
     ensures { λ r. ⌜ (r ≡ allChanges count (now (grid .entry)))
-        × (now (grid .exit) ≡ paint low count (now (grid .entry))) × (now (work .exit) ≡ paint nought count (now (work .entry))) ⌝ }
+        × (now (grid .exit) ≡ paint low count (now (grid .entry))) × (now (work .exit) ≡ paint zeroByte count (now (work .entry))) ⌝ }
 {
     let mut flips: u32 = 0;
     let mut p: usize = 0;
@@ -48,7 +48,7 @@ pub fn finish(count: usize, grid: &mut [u8], work: &mut [u8]) -> u32
 pub fn finish_held(n: usize, grid: &mut [u8], work: &mut [u8], totals: &mut [u16]) -> u32
     requires { ⌜ (n ≤ 32) × (pointCount n ≤ length (now grid)) × (pointCount n ≤ length (now work)) × (blockCount n ≤ length (now totals)) ⌝ }
     ensures { λ r. ⌜ (r ≡ allChanges (pointCount n) (now (grid .entry))) × (now (grid .exit) ≡ paint low (pointCount n) (now (grid .entry))) ⌝ }
-    ensures { λ r. ⌜ (now (work .exit) ≡ paint nought (pointCount n) (now (work .entry)))
+    ensures { λ r. ⌜ (now (work .exit) ≡ paint zeroByte (pointCount n) (now (work .entry)))
         × (now (totals .exit) ≡ trued n (now (grid .exit)) (now (totals .entry))) ⌝ }
 {
     clear_totals(n, totals);

@@ -7,6 +7,7 @@ use lib.ListN.{length, getD, replicate, length-replicate, getD-replicate, List·
 use Rattle.rules.specs.declared.Axis.{Axis}
 use Rattle.rules.specs.declared.Point.{Point}
 use Rattle.rules.specs.Lattice.{Set, points, pointNumber, pointCount, inner, OfGrid}
+use Rattle.rules.specs.Inner.{AllInner}
 use Rattle.rules.specs.Grid.{has, byteAt, bytes, marks, saysInside, Unsigned, byteFits, goodByte, isGrid}
 use Rattle.rules.proofs.Lists.{all-weaken, allOf←}
 use Rattle.rules.proofs.Numbers.{bytes-length, bytes-at, byte-most, low-says, zero-has}
@@ -36,7 +37,7 @@ module _ (n : ℕ) (b rest : List ℕ) (long : length b ≡ pointCount n) where
       (all-weaken _ _ (λ p o. ap (λ (v : ℕ). byteFits n v p) (byte-ahead p o)) (points (suc n)) (points-grid n))
 
 -- the bytes of marks on inner edges, with anything behind, are a grid with those marks
-module _ (n : ℕ) (E : Set) (inside : (a : Axis) (p : Point) → E a p ≡ true → inner n a p ≡ true) (rest : List ℕ) where
+module _ (n : ℕ) (E : Set) (inside : AllInner n E) (rest : List ℕ) where
   pub bytes-are-grid : isGrid n (bytes n E ++ rest) ≡ true
   bytes-are-grid = grid-ahead n (bytes n E) rest (bytes-length n E) ∙ bytes-grid n E inside
 
@@ -50,25 +51,25 @@ bytes-unsigned n E rest p o =
 
 -- an opened grid is one, without marks and signs
 module _ (n : ℕ) (rest : List ℕ) where
-  abbrev noughts : List ℕ
-  noughts = replicate (pointCount n) 0
+  abbrev zeros : List ℕ
+  zeros = replicate (pointCount n) 0
 
-  nought : (p : Point) → OfGrid n p → getD noughts (pointNumber n p) 0 ≡ 0
-  nought p o = getD-replicate (pointCount n) (pointNumber n p) 0 0 (num-below n p o)
+  zero-at : (p : Point) → OfGrid n p → getD zeros (pointNumber n p) 0 ≡ 0
+  zero-at p o = getD-replicate (pointCount n) (pointNumber n p) 0 0 (num-below n p o)
 
-  pub open-marks : marks n (noughts ++ rest) ≡ (λ a p. false)
+  pub open-marks : marks n (zeros ++ rest) ≡ (λ a p. false)
   unfolding marks
-  open-marks = marks-ahead n noughts rest (length-replicate (pointCount n) 0) ∙ fun-ext (λ a. fun-ext (λ p. go a p (inner n a p) refl))
+  open-marks = marks-ahead n zeros rest (length-replicate (pointCount n) 0) ∙ fun-ext (λ a. fun-ext (λ p. go a p (inner n a p) refl))
     where
-      go : (a : Axis) (p : Point) (c : Bool) → inner n a p ≡ c → c && has a (getD noughts (pointNumber n p) 0) ≡ false
-      go a p true e = ap (has a) (nought p (inner-point n a p e)) ∙ zero-has a
+      go : (a : Axis) (p : Point) (c : Bool) → inner n a p ≡ c → c && has a (getD zeros (pointNumber n p) 0) ≡ false
+      go a p true e = ap (has a) (zero-at p (inner-point n a p e)) ∙ zero-has a
       go a p false e = refl
 
-  pub open-unsigned : Unsigned n (noughts ++ rest)
-  open-unsigned p o = ap saysInside (byte-ahead n noughts rest (length-replicate (pointCount n) 0) p o ∙ nought p o)
+  pub open-unsigned : Unsigned n (zeros ++ rest)
+  open-unsigned p o = ap saysInside (byte-ahead n zeros rest (length-replicate (pointCount n) 0) p o ∙ zero-at p o)
 
-  pub open-grid : isGrid n (noughts ++ rest) ≡ true
+  pub open-grid : isGrid n (zeros ++ rest) ≡ true
   unfolding isGrid
   open-grid =
-      grid-ahead n noughts rest (length-replicate (pointCount n) 0)
-      ∙ allOf← (goodByte n noughts) (points (suc n)) (all-weaken _ _ (λ p o. ap (λ (v : ℕ). byteFits n v p) (nought p o)) (points (suc n)) (points-grid n))
+      grid-ahead n zeros rest (length-replicate (pointCount n) 0)
+      ∙ allOf← (goodByte n zeros) (points (suc n)) (all-weaken _ _ (λ p o. ap (λ (v : ℕ). byteFits n v p) (zero-at p o)) (points (suc n)) (points-grid n))

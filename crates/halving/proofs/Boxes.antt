@@ -26,9 +26,9 @@ use Rattle.rules.proofs.Recursion.{Agree, patch-cong}
 use Rattle.rules.proofs.PatchOf.{patchOf-one, patchOf-cut}
 use Rattle.rules.specs.Lattice.{OfGrid}
 use Rattle.rules.specs.Grid.{stored}
-use Rattle.lattice.specs.Cells.{turns, works, facesOf}
+use Rattle.lattice.specs.Cells.{turns, faceTurns, facesOf}
 use Rattle.halving.specs.Halving.{Edged, Fits, cellCount}
-use Rattle.halving.proofs.Turns.{turns-append, works-append, turns-length, stored-works}
+use Rattle.halving.proofs.Turns.{turns-append, face-turns-append, turns-length, stored-face-turns}
 
 -- ---- a box and its halves
 pub edge-edged : (n : ℕ) (b : Box) → Fits n b → (e : Place) → edgeIn b (e .axis) (e .at) ≡ true → Edged n e
@@ -117,9 +117,9 @@ module _ (n : ℕ) (b : Box) (h : Fits n b) (o : oneCell b ≡ false) (a : Axis)
       (ap (λ (k : ℕ). coord (later a) (b .hi) - k) (w .2)) (side-some n b (earlier a) h) (side-some n b (later a) h)
 
   module _ (w g w₁ g₁ w₂ g₂ w₃ g₃ : List ℕ) (k : pointCount n ≤ length w)
-      (c-w : w₁ ≡ works n (cut b (stored n w) a m) w) (c-g : g₁ ≡ turns n (cut b (stored n w) a m) g)
-      (l-w : w₂ ≡ works n (patchOf (lower b a m) (stored n w₁)) w₁) (l-g : g₂ ≡ turns n (patchOf (lower b a m) (stored n w₁)) g₁)
-      (u-w : w₃ ≡ works n (patchOf (upper b a m) (stored n w₂)) w₂) (u-g : g₃ ≡ turns n (patchOf (upper b a m) (stored n w₂)) g₂) where
+      (c-w : w₁ ≡ faceTurns n (cut b (stored n w) a m) w) (c-g : g₁ ≡ turns n (cut b (stored n w) a m) g)
+      (l-w : w₂ ≡ faceTurns n (patchOf (lower b a m) (stored n w₁)) w₁) (l-g : g₂ ≡ turns n (patchOf (lower b a m) (stored n w₁)) g₁)
+      (u-w : w₃ ≡ faceTurns n (patchOf (upper b a m) (stored n w₂)) w₂) (u-g : g₃ ≡ turns n (patchOf (upper b a m) (stored n w₂)) g₂) where
     fl-edged : All (Edged n) (cut b (stored n w) a m)
     fl-edged = all-weaken (EdgeIn b) (Edged n) (edge-edged n b h) (cut b (stored n w) a m) (cut-in b a m bounds (stored n w))
 
@@ -127,13 +127,13 @@ module _ (n : ℕ) (b : Box) (h : Fits n b) (o : oneCell b ≡ false) (a : Axis)
     long₁ = let e = ap length c-w ∙ turns-length n (each facesOf (cut b (stored n w) a m)) w in omega arith
 
     raw₁ : (d : Axis) (p : Point) → OfGrid n p → stored n w₁ d p ≡ stored n w d p ⊕ oddFace (setOf (cut b (stored n w) a m)) d p
-    raw₁ d p l = ap (λ (s : List ℕ). stored n s d p) c-w ∙ stored-works n (cut b (stored n w) a m) w fl-edged k d p l
+    raw₁ d p l = ap (λ (s : List ℕ). stored n s d p) c-w ∙ stored-face-turns n (cut b (stored n w) a m) w fl-edged k d p l
 
     low-is : patchOf (lower b a m) (stored n w₁) ≡ patchOf (lower b a m) (symdiff (stored n w) (oddFace (setOf (cut b (stored n w) a m))))
     low-is = patchOf-cong (lower b a m) _ _ (λ d p f. raw₁ d p (face-grid n (lower b a m) low-fits d p f))
 
     raw₂ : (d : Axis) (p : Point) → OfGrid n p → stored n w₂ d p ≡ stored n w₁ d p ⊕ oddFace (setOf (patchOf (lower b a m) (stored n w₁))) d p
-    raw₂ d p l = ap (λ (s : List ℕ). stored n s d p) l-w ∙ stored-works n (patchOf (lower b a m) (stored n w₁)) w₁
+    raw₂ d p l = ap (λ (s : List ℕ). stored n s d p) l-w ∙ stored-face-turns n (patchOf (lower b a m) (stored n w₁)) w₁
         (patch-edged n (lower b a m) (stored n w₁) low-fits) long₁ d p l
 
     up-is : patchOf (upper b a m) (stored n w₂) ≡ patchOf (upper b a m)
@@ -160,13 +160,13 @@ module _ (n : ℕ) (b : Box) (h : Fits n b) (o : oneCell b ≡ false) (a : Axis)
             (oddFace (setOf (patchOf (lower b x (middle b x)) (symdiff (stored n w) (oddFace (setOf (cut b (stored n w) x (middle b x))))))))))) (sym ec)
             (patchOf-cut b (stored n w) o))
 
-    pub halves-is : (g₃ ≡ turns n (patchOf b (stored n w)) g) × (w₃ ≡ works n (patchOf b (stored n w)) w)
+    pub halves-is : (g₃ ≡ turns n (patchOf b (stored n w)) g) × (w₃ ≡ faceTurns n (patchOf b (stored n w)) w)
     halves-is = (
       u-g ∙ ap (turns n (patchOf (upper b a m) (stored n w₂))) (l-g ∙ ap (turns n (patchOf (lower b a m) (stored n w₁))) c-g)
           ∙ sym (ap (λ (t : List Place). turns n t g) all-is ∙ turns-append n (cut b (stored n w) a m) _ g ∙ turns-append n
           (patchOf (lower b a m) (stored n w₁)) (patchOf (upper b a m) (stored n w₂)) _),
-      u-w ∙ ap (works n (patchOf (upper b a m) (stored n w₂))) (l-w ∙ ap (works n (patchOf (lower b a m) (stored n w₁))) c-w)
-          ∙ sym (ap (λ (t : List Place). works n t w) all-is ∙ works-append n (cut b (stored n w) a m) _ w ∙ works-append n
+      u-w ∙ ap (faceTurns n (patchOf (upper b a m) (stored n w₂))) (l-w ∙ ap (faceTurns n (patchOf (lower b a m) (stored n w₁))) c-w)
+          ∙ sym (ap (λ (t : List Place). faceTurns n t w) all-is ∙ face-turns-append n (cut b (stored n w) a m) _ w ∙ face-turns-append n
           (patchOf (lower b a m) (stored n w₁)) (patchOf (upper b a m) (stored n w₂)) _),
     )
 
@@ -198,8 +198,8 @@ long-y b h k = let d : leb (side b Y) (side b X) ≡ false = lt-leb _ _ h in let
 pub long-z : (b : Box) → side b X < side b Y → side b Y < side b Z → Z ≡ longest b
 long-z b h k = let d : leb (side b Y) (side b X) ≡ false = lt-leb _ _ h in let e : leb (side b Z) (side b Y) ≡ false = lt-leb _ _ k in rw (d, e)
 
-pub one-is : (n : ℕ) (b : Box) (g w : List ℕ) → oneCell b ≡ true → (g ≡ turns n (patchOf b (stored n w)) g) × (w ≡ works n (patchOf b (stored n w)) w)
-one-is n b g w e = let p = patchOf-one b (stored n w) e in (ap (λ (l : List Place). turns n l g) (sym p), ap (λ (l : List Place). works n l w) (sym p))
+pub one-is : (n : ℕ) (b : Box) (g w : List ℕ) → oneCell b ≡ true → (g ≡ turns n (patchOf b (stored n w)) g) × (w ≡ faceTurns n (patchOf b (stored n w)) w)
+one-is n b g w e = let p = patchOf-one b (stored n w) e in (ap (λ (l : List Place). turns n l g) (sym p), ap (λ (l : List Place). faceTurns n l w) (sym p))
 
 module _ (n : ℕ) (b : Box) (h : Fits n b) (o : oneCell b ≡ false) (a : Axis) (m : ℕ) (ea : a ≡ longest b) (em : m ≡ middle b a) where
   pub low-ok : (t : ℕ) (r : Box) → cellCount b ≡ t → r ≡ lower b a m → (cellCount r < t) × Fits n r
@@ -211,11 +211,11 @@ module _ (n : ℕ) (b : Box) (h : Fits n b) (o : oneCell b ≡ false) (a : Axis)
       (subst (λ (k : ℕ). cellCount (upper b a m) < k) et (up-falls n b h o a m ea em), up-fits n b h o a m ea em)
 
   pub halves-turn : (w g w₁ g₁ w₂ g₂ w₃ g₃ : List ℕ) (r s : Box) → pointCount n ≤ length w → r ≡ lower b a m → s ≡ upper b a m →
-      (g₁ ≡ turns n (cut b (stored n w) a m) g) × (w₁ ≡ works n (cut b (stored n w) a m) w) →
-      (g₂ ≡ turns n (patchOf r (stored n w₁)) g₁) × (w₂ ≡ works n (patchOf r (stored n w₁)) w₁) →
-      (g₃ ≡ turns n (patchOf s (stored n w₂)) g₂) × (w₃ ≡ works n (patchOf s (stored n w₂)) w₂) → (g₃ ≡ turns n (patchOf b (stored n w)) g) ×
-      (w₃ ≡ works n (patchOf b (stored n w)) w)
+      (g₁ ≡ turns n (cut b (stored n w) a m) g) × (w₁ ≡ faceTurns n (cut b (stored n w) a m) w) →
+      (g₂ ≡ turns n (patchOf r (stored n w₁)) g₁) × (w₂ ≡ faceTurns n (patchOf r (stored n w₁)) w₁) →
+      (g₃ ≡ turns n (patchOf s (stored n w₂)) g₂) × (w₃ ≡ faceTurns n (patchOf s (stored n w₂)) w₂) → (g₃ ≡ turns n (patchOf b (stored n w)) g) ×
+      (w₃ ≡ faceTurns n (patchOf b (stored n w)) w)
   halves-turn w g w₁ g₁ w₂ g₂ w₃ g₃ r s k er es c l u =
       halves-is n b h o a m ea em w g w₁ g₁ w₂ g₂ w₃ g₃ k (c .1) (c .0)
-      (l .1 ∙ ap (λ (x : Box). works n (patchOf x (stored n w₁)) w₁) er) (l .0 ∙ ap (λ (x : Box). turns n (patchOf x (stored n w₁)) g₁) er)
-      (u .1 ∙ ap (λ (x : Box). works n (patchOf x (stored n w₂)) w₂) es) (u .0 ∙ ap (λ (x : Box). turns n (patchOf x (stored n w₂)) g₂) es)
+      (l .1 ∙ ap (λ (x : Box). faceTurns n (patchOf x (stored n w₁)) w₁) er) (l .0 ∙ ap (λ (x : Box). turns n (patchOf x (stored n w₁)) g₁) er)
+      (u .1 ∙ ap (λ (x : Box). faceTurns n (patchOf x (stored n w₂)) w₂) es) (u .0 ∙ ap (λ (x : Box). turns n (patchOf x (stored n w₂)) g₂) es)

@@ -21,14 +21,14 @@ use Rattle.rules.proofs.Boxes.{inBox→}
 use Rattle.rules.proofs.Cells.{face-cells}
 use Rattle.rules.proofs.PatchOf.{patchOf-clear}
 use Rattle.lattice.specs.Byte.{low}
-use Rattle.lattice.specs.Cells.{turns, works}
+use Rattle.lattice.specs.Cells.{turns, faceTurns}
 use Rattle.lattice.proofs.Laws.{num-below}
 use Rattle.rules.proofs.Numbers.{has-low, zero-has}
 use Rattle.halving.specs.Halving.{Fits}
 use Rattle.halving.specs.Clear.{byteClear, rowClear, boxRowClear, layerClear, boxClear}
 
 -- ---- a row, byte after byte
--- a sum is nought where both its terms are
+-- a sum is 0 where both its terms are
 sum-none : (a b : ℕ) → eqb (a + b) 0 ≡ eqb a 0 && eqb b 0
 sum-none a b =
     same-test (eqb (a + b) 0) (eqb a 0 && eqb b 0)
@@ -93,6 +93,7 @@ clear-face n b w e a p f =
     sym (has-low a (getD w (pointNumber n p) 0)) ∙ ap (has a) (eqb→ (low (getD w (pointNumber n p) 0)) 0 z) ∙ zero-has a
 
 -- so nothing has to be done to it
-pub clear-is : (n : ℕ) (b : Box) (g w : List ℕ) → boxClear n b w ≡ true → (g ≡ turns n (patchOf b (stored n w)) g) × (w ≡ works n (patchOf b (stored n w)) w)
+pub clear-is : (n : ℕ) (b : Box) (g w : List ℕ) → boxClear n b w ≡ true →
+    (g ≡ turns n (patchOf b (stored n w)) g) × (w ≡ faceTurns n (patchOf b (stored n w)) w)
 clear-is n b g w e = let p = patchOf-clear b (stored n w) (clear-face n b w e) in
-    (ap (λ (l : List Place). turns n l g) (sym p), ap (λ (l : List Place). works n l w) (sym p))
+    (ap (λ (l : List Place). turns n l g) (sym p), ap (λ (l : List Place). faceTurns n l w) (sym p))

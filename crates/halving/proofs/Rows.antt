@@ -13,7 +13,7 @@ use Rattle.rules.specs.declared.Spot.{Spot}
 use Rattle.rules.specs.Lattice.{earlier, later, coord, pointAt, pointCount}
 use Rattle.rules.specs.Patch.{path, plane, cut}
 use Rattle.rules.specs.Grid.{stored}
-use Rattle.lattice.specs.Cells.{turns, works, facesOf}
+use Rattle.lattice.specs.Cells.{turns, faceTurns, facesOf}
 use Rattle.halving.specs.Halving.{Flipped, Scan, scanOf, idle, waits, pairOf, scanAll, Placed, Fits, rowOf}
 use Rattle.halving.specs.declared.Unpaired.{Unpaired}
 use Rattle.halving.proofs.Turns.{turns-length}
@@ -47,7 +47,7 @@ unfolding pairOf
 pair-long n a m q s = go (stored n (s .work) a (pointAt a m (q .u) (q .v))) (s .unpaired .any)
   where
     J : Scan
-    J = scanOf (idle q) (turns n (path a m (s .unpaired .spot) q) (s .grid)) (works n (path a m (s .unpaired .spot) q) (s .work))
+    J = scanOf (idle q) (turns n (path a m (s .unpaired .spot) q) (s .grid)) (faceTurns n (path a m (s .unpaired .spot) q) (s .work))
 
     H : Scan
     H = scanOf (waits q) (s .grid) (s .work)

@@ -16,9 +16,9 @@ use Rattle.rules.specs.Lattice.{earlier, later, coord, up, pointAt}
 use Rattle.rules.specs.Patch.{path}
 use Rattle.rules.proofs.Oddness.{up-earlier, up-later}
 use Rattle.rules.specs.Lattice.{OfGrid}
-use Rattle.lattice.specs.Cells.{turns, works, facesOf}
+use Rattle.lattice.specs.Cells.{turns, faceTurns, facesOf}
 use Rattle.halving.specs.Halving.{Edged, EdgeRun, ahead, along, Placed}
-use Rattle.halving.proofs.Turns.{turns-append, works-append, turns-length}
+use Rattle.halving.proofs.Turns.{turns-append, face-turns-append, turns-length}
 
 -- ---- a run of edges
 pub run-edge : (n : ℕ) (b : Axis) (k : ℕ) (e : Place) → EdgeRun n b k e → 1 ≤ k → Edged n e
@@ -70,18 +70,18 @@ along-step b k e h = let q : k ≡ suc (k - 1) = omega arith in ap (λ (j : ℕ)
 pub record Running (n : ℕ) (b : Axis) (count : ℕ) (e : Place) (g₀ w₀ : List ℕ) (k : ℕ) (at : Place) (g w : List ℕ) : Type 0 where
   pub run : EdgeRun n b k at
   pub grid : turns n (along b k at) g ≡ turns n (along b count e) g₀
-  pub work : works n (along b k at) w ≡ works n (along b count e) w₀
+  pub work : faceTurns n (along b k at) w ≡ faceTurns n (along b count e) w₀
   pub g-long : length g ≡ length g₀
   pub w-long : length w ≡ length w₀
 
 pub running-on : (n : ℕ) (b : Axis) (count : ℕ) (e : Place) (g₀ w₀ : List ℕ) (k : ℕ) (at : Place) (g w : List ℕ) → Running n b count e g₀ w₀ k at g w → 1 ≤ k →
-    (at′ : Place) (g′ w′ : List ℕ) → at′ ≡ ahead b at → g′ ≡ turns n (at ∷ []) g → w′ ≡ works n (at ∷ []) w → Running n b count e g₀ w₀ (k - 1) at′ g′ w′
+    (at′ : Place) (g′ w′ : List ℕ) → at′ ≡ ahead b at → g′ ≡ turns n (at ∷ []) g → w′ ≡ faceTurns n (at ∷ []) w → Running n b count e g₀ w₀ (k - 1) at′ g′ w′
 running-on n b count e g₀ w₀ k at g w h l at′ g′ w′ ea eg ew = record {
   run = subst (EdgeRun n b (k - 1)) (sym ea) (run-next n b k at (h .run) l);
   grid = ap₂ (λ (x : Place) (s : List ℕ). turns n (along b (k - 1) x) s) ea eg ∙ sym (turns-append n (at ∷ []) (along b (k - 1) (ahead b at)) g) ∙ ap
       (λ (m : List Place). turns n m g) (sym (along-step b k at l)) ∙ h .grid;
-  work = ap₂ (λ (x : Place) (s : List ℕ). works n (along b (k - 1) x) s) ea ew ∙ sym (works-append n (at ∷ []) (along b (k - 1) (ahead b at)) w) ∙ ap
-      (λ (m : List Place). works n m w) (sym (along-step b k at l)) ∙ h .work;
+  work = ap₂ (λ (x : Place) (s : List ℕ). faceTurns n (along b (k - 1) x) s) ea ew ∙ sym (face-turns-append n (at ∷ []) (along b (k - 1) (ahead b at)) w) ∙ ap
+      (λ (m : List Place). faceTurns n m w) (sym (along-step b k at l)) ∙ h .work;
   g-long = ap length eg ∙ turns-length n (at ∷ []) g ∙ h .g-long;
   w-long = ap length ew ∙ turns-length n (each facesOf (at ∷ [])) w ∙ h .w-long;
 }
@@ -175,8 +175,8 @@ module _ (n : ℕ) (a : Axis) (m : ℕ) (p q : Spot) (b c : Axis) (eb : b ≡ ea
 pub two-runs : (n : ℕ) (l k r : List Place) (g g₁ g₂ : List ℕ) → l ++ k ≡ r → g₁ ≡ turns n l g → g₂ ≡ turns n k g₁ → g₂ ≡ turns n r g
 two-runs n l k r g g₁ g₂ e h₁ h₂ = h₂ ∙ ap (turns n k) h₁ ∙ sym (turns-append n l k g) ∙ ap (λ (x : List Place). turns n x g) e
 
-pub two-works : (n : ℕ) (l k r : List Place) (g g₁ g₂ : List ℕ) → l ++ k ≡ r → g₁ ≡ works n l g → g₂ ≡ works n k g₁ → g₂ ≡ works n r g
-two-works n l k r g g₁ g₂ e h₁ h₂ = h₂ ∙ ap (works n k) h₁ ∙ sym (works-append n l k g) ∙ ap (λ (x : List Place). works n x g) e
+pub two-face-turns : (n : ℕ) (l k r : List Place) (g g₁ g₂ : List ℕ) → l ++ k ≡ r → g₁ ≡ faceTurns n l g → g₂ ≡ faceTurns n k g₁ → g₂ ≡ faceTurns n r g
+two-face-turns n l k r g g₁ g₂ e h₁ h₂ = h₂ ∙ ap (faceTurns n k) h₁ ∙ sym (face-turns-append n l k g) ∙ ap (λ (x : List Place). faceTurns n x g) e
 
 module _ (n : ℕ) (a : Axis) (m : ℕ) (p q : Spot) (b c : Axis) (eb : b ≡ earlier a) (ec : c ≡ later a) (i j k l : ℕ) (s t : Point)
     (ei : i ≡ min (p .u) (q .u)) (ej : j ≡ max (p .u) (q .u)) (es : s ≡ pointAt a m (i + 1) (p .v)) (ek : k ≡ min (p .v) (q .v))
@@ -186,7 +186,7 @@ module _ (n : ℕ) (a : Axis) (m : ℕ) (p q : Spot) (b c : Axis) (eb : b ≡ ea
   join-turns g g₁ g₂ h₁ h₂ = two-runs n (along b (j - i) (record { axis = c; at = s })) (along c (l - k) (record { axis = b; at = t })) (path a m p q)
       g g₁ g₂ (join-is n a m p q b c eb ec i j k l s t ei ej es ek el et) h₁ h₂
 
-  pub join-works : (g g₁ g₂ : List ℕ) → g₁ ≡ works n (along b (j - i) (record { axis = c; at = s })) g → g₂ ≡ works n
-      (along c (l - k) (record { axis = b; at = t })) g₁ → g₂ ≡ works n (path a m p q) g
-  join-works g g₁ g₂ h₁ h₂ = two-works n (along b (j - i) (record { axis = c; at = s })) (along c (l - k) (record { axis = b; at = t }))
+  pub join-face-turns : (g g₁ g₂ : List ℕ) → g₁ ≡ faceTurns n (along b (j - i) (record { axis = c; at = s })) g → g₂ ≡ faceTurns n
+      (along c (l - k) (record { axis = b; at = t })) g₁ → g₂ ≡ faceTurns n (path a m p q) g
+  join-face-turns g g₁ g₂ h₁ h₂ = two-face-turns n (along b (j - i) (record { axis = c; at = s })) (along c (l - k) (record { axis = b; at = t }))
       (path a m p q) g g₁ g₂ (join-is n a m p q b c eb ec i j k l s t ei ej es ek el et) h₁ h₂

@@ -20,10 +20,10 @@ use Rattle.rules.proofs.Paths.{path-ends, sameSpot}
 use Rattle.rules.proofs.Cuts.{InRect, plane-in}
 use Rattle.rules.specs.Lattice.{OfGrid}
 use Rattle.rules.specs.Grid.{stored}
-use Rattle.lattice.specs.Cells.{turns, works, facesOf}
+use Rattle.lattice.specs.Cells.{turns, faceTurns, facesOf}
 use Rattle.halving.specs.Halving.{Flipped, Scan, scanOf, idle, waits, pairOf, scanAll, Placed, Fits, rowOf}
 use Rattle.halving.specs.declared.Unpaired.{Unpaired}
-use Rattle.halving.proofs.Turns.{turns-append, works-append, turns-length, stored-works}
+use Rattle.halving.proofs.Turns.{turns-append, face-turns-append, turns-length, stored-face-turns}
 use Rattle.halving.proofs.Runs.{path-edged, placed-low}
 
 pub fits-coord : (n : ℕ) (b : Box) (a : Axis) → Fits n b → coord a (b .hi) ≤ n
@@ -45,7 +45,7 @@ pair-join : (n : ℕ) (a : Axis) (m : ℕ) (q : Spot) (s : Scan) → stored n (s
     pairOf n a m q s ≡ record {
       unpaired = idle q;
       grid = turns n (path a m (s .unpaired .spot) q) (s .grid);
-      work = works n
+      work = faceTurns n
           (path a m (s .unpaired .spot) q) (s .work);
     }
 unfolding pairOf
@@ -69,10 +69,10 @@ module _ (n : ℕ) (a : Axis) (m : ℕ) (l₁ : 1 ≤ m) (l₂ : m ≤ n) (W : S
   Reads w l = All (λ q. stored n w a (pointAt a m (q .u) (q .v)) ≡ W q) l
 
   reads-on : (p q : Spot) (w : List ℕ) → Placed n p → Placed n q → pointCount n ≤ length w → (l : List Spot) → All (Placed n) l → Away p l → Away q l
-      → Reads w l → Reads (works n (path a m p q) w) l
+      → Reads w l → Reads (faceTurns n (path a m p q) w) l
   reads-on p q w hp hq k [] hl ap′ aq r = tt
   reads-on p q w hp hq k (x ∷ l) hl ap′ aq r = (
-    stored-works n (path a m p q) w (path-edged n a m l₁ l₂ p q hp hq) k a (pointAt a m (x .u) (x .v)) (placed-low n a m x l₂ (hl .0))
+    stored-face-turns n (path a m p q) w (path-edged n a m l₁ l₂ p q hp hq) k a (pointAt a m (x .u) (x .v)) (placed-low n a m x l₂ (hl .0))
         ∙ ap (λ (b : Bool). stored n w a (pointAt a m (x .u) (x .v)) ⊕ b) (path-ends a m p q (x .u) (x .v) ∙ ap₂ _⊕_ (ap′ .0) (aq .0))
         ∙ ⊕-false (stored n w a (pointAt a m (x .u) (x .v))) ∙ r .0,
     reads-on p q w hp hq k l (hl .1) (ap′ .1) (aq .1) (r .1),
@@ -80,11 +80,11 @@ module _ (n : ℕ) (a : Axis) (m : ℕ) (l₁ : 1 ≤ m) (l₂ : m ≤ n) (W : S
 
   pub scan-is : (l : List Spot) (s : Scan) → All (Placed n) l → Apart l → Reads (s .work) l → PendingOk n (s .unpaired) l → pointCount n ≤ length (s .work) →
       (scanAll n a m l s .grid ≡ turns n (paths a m (pending (s .unpaired) (keep W l))) (s .grid)) ×
-      (scanAll n a m l s .work ≡ works n (paths a m (pending (s .unpaired) (keep W l))) (s .work))
+      (scanAll n a m l s .work ≡ faceTurns n (paths a m (pending (s .unpaired) (keep W l))) (s .work))
   scan-is [] s hl ha hr hh k = go (s .unpaired .any)
     where
       go : (b : Bool) → (s .grid ≡ turns n (paths a m (cond b (s .unpaired .spot ∷ []) [])) (s .grid)) ×
-          (s .work ≡ works n (paths a m (cond b (s .unpaired .spot ∷ []) [])) (s .work))
+          (s .work ≡ faceTurns n (paths a m (cond b (s .unpaired .spot ∷ []) [])) (s .work))
       go true = (refl, refl)
       go false = (refl, refl)
   scan-is (q ∷ l) s hl ha hr hh k = go (W q) (hr .0) (s .unpaired .any) refl (λ t. scan-is l t)
@@ -93,12 +93,12 @@ module _ (n : ℕ) (a : Axis) (m : ℕ) (l₁ : 1 ≤ m) (l₂ : m ≤ n) (W : S
       p = s .unpaired .spot
 
       Goal : Scan → List Spot → Type 0
-      Goal t k = (scanAll n a m l t .grid ≡ turns n (paths a m k) (s .grid)) × (scanAll n a m l t .work ≡ works n (paths a m k) (s .work))
+      Goal t k = (scanAll n a m l t .grid ≡ turns n (paths a m k) (s .grid)) × (scanAll n a m l t .work ≡ faceTurns n (paths a m k) (s .work))
 
       IH : Type 0
       IH = (t : Scan) → All (Placed n) l → Apart l → Reads (t .work) l → PendingOk n (t .unpaired) l → pointCount n ≤ length (t .work) →
           (scanAll n a m l t .grid ≡ turns n (paths a m (pending (t .unpaired) (keep W l))) (t .grid)) ×
-          (scanAll n a m l t .work ≡ works n (paths a m (pending (t .unpaired) (keep W l))) (t .work))
+          (scanAll n a m l t .work ≡ faceTurns n (paths a m (pending (t .unpaired) (keep W l))) (t .work))
 
       tail : PendingOk n (s .unpaired) l
       tail e = (hh e .0, hh e .1 .1)
@@ -111,7 +111,7 @@ module _ (n : ℕ) (a : Axis) (m : ℕ) (l₁ : 1 ≤ m) (l₂ : m ≤ n) (W : S
           (ih (scanOf (waits q) (s .grid) (s .work)) (hl .1) (ha .1) (hr .1) (λ u. (hl .0, ha .0)) k))
       go true e true f ih =
           let hp = hh f .0 in
-          let w′ = works n (path a m p q) (s .work) in
+          let w′ = faceTurns n (path a m p q) (s .work) in
           let len = turns-length n (each facesOf (path a m p q)) (s .work) in
           let r = ih (record { unpaired = idle q; grid = turns n (path a m p q) (s .grid); work = w′ }) (hl .1) (ha .1)
           (reads-on p q (s .work) hp (hl .0) k l (hl .1) (hh f .1 .1) (ha .0) (hr .1)) (λ u. absurd (false≢true u)) (omega arith) in
@@ -119,7 +119,7 @@ module _ (n : ℕ) (a : Axis) (m : ℕ) (l₁ : 1 ≤ m) (l₂ : m ≤ n) (W : S
           (subst (λ (b : Bool). Goal (record { unpaired = idle q; grid = turns n (path a m p q) (s .grid); work = w′ })
           (cond b (p ∷ (q ∷ keep W l)) (q ∷ keep W l))) (sym f) (
             r .0 ∙ sym (turns-append n (path a m p q) (paths a m (keep W l)) (s .grid)),
-            r .1 ∙ sym (works-append n (path a m p q) (paths a m (keep W l)) (s .work)),
+            r .1 ∙ sym (face-turns-append n (path a m p q) (paths a m (keep W l)) (s .work)),
           ))
 
 -- ---- the spots of a plane are apart and lie in the grid

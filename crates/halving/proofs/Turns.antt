@@ -24,7 +24,7 @@ use Rattle.rules.proofs.PointOf.{number-pointOf, pointOf-number}
 use Rattle.rules.proofs.Store.{stored-set}
 use Rattle.rules.specs.Lattice.{OfGrid}
 use Rattle.lattice.specs.Byte.{above}
-use Rattle.lattice.specs.Cells.{lowerFace, upperFace, upperEdge, turnAt, turnOne, turns, facesOf, works, pointStep}
+use Rattle.lattice.specs.Cells.{lowerFace, upperFace, upperEdge, turnAt, turnOne, turns, facesOf, faceTurns, pointStep}
 use Rattle.lattice.proofs.Laws.{num-below}
 use Rattle.lattice.proofs.Parts.{toggle-any, toggle-above}
 use Rattle.lattice.proofs.PointSteps.{number-up, number-step, number-down, step-grid, down-grid}
@@ -35,8 +35,8 @@ pub turns-append : (n : ℕ) (l m : List Place) (s : List ℕ) → turns n (l ++
 turns-append n [] m s = refl
 turns-append n (f ∷ l) m s = turns-append n l m (turnOne n f s)
 
-pub works-append : (n : ℕ) (l m : List Place) (s : List ℕ) → works n (l ++ m) s ≡ works n m (works n l s)
-works-append n l m s = ap (λ (k : List Place). turns n k s) (each-append facesOf l m) ∙ turns-append n (each facesOf l) (each facesOf m) s
+pub face-turns-append : (n : ℕ) (l m : List Place) (s : List ℕ) → faceTurns n (l ++ m) s ≡ faceTurns n m (faceTurns n l s)
+face-turns-append n l m s = ap (λ (k : List Place). turns n k s) (each-append facesOf l m) ∙ turns-append n (each facesOf l) (each facesOf m) s
 
 turn-length : (n : ℕ) (f : Place) (s : List ℕ) → length (turnOne n f s) ≡ length s
 unfolding turnAt
@@ -156,9 +156,9 @@ low-faces n (e ∷ l) h =
     let b = h .0 .in-grid in
     (b, (b, (down-grid n (later (e .axis)) (e .at) b, (down-grid n (earlier (e .axis)) (e .at) b, low-faces n l (h .1)))))
 
-pub stored-works : (n : ℕ) (l : List Place) (s : List ℕ) → All (Edged n) l → pointCount n ≤ length s → (a : Axis) (p : Point) → OfGrid n p → stored n
-    (works n l s) a p ≡ stored n s a p ⊕ oddFace (setOf l) a p
-stored-works n l s h k a p b = stored-turns n (each facesOf l) s (low-faces n l h) k a p b ∙ ap (λ (x : Bool). stored n s a p ⊕ x) (each-faces n l h a p)
+pub stored-face-turns : (n : ℕ) (l : List Place) (s : List ℕ) → All (Edged n) l → pointCount n ≤ length s → (a : Axis) (p : Point) → OfGrid n p → stored n
+    (faceTurns n l s) a p ≡ stored n s a p ⊕ oddFace (setOf l) a p
+stored-face-turns n l s h k a p b = stored-turns n (each facesOf l) s (low-faces n l h) k a p b ∙ ap (λ (x : Bool). stored n s a p ⊕ x) (each-faces n l h a p)
 
 -- ---- the four faces of an edge, by the table: two of the cell whose lowest corner is its point, two of the cell that has it as its upper edge
 down-other : (a : Axis) (p : Point) → coord (earlier a) (down (later a) p) ≡ coord (earlier a) p
@@ -234,7 +234,7 @@ module _ (n : ℕ) (a : Axis) (at : ℕ) (h : Edged n (record { axis = a; at = p
       ≡ upperFace (later a) →
       (s s₁ s₂ s₃ s₄ : List ℕ) → s₁ ≡ turnAt (at + pointNumber n (f₁ .at)) (f₁ .axis) s → s₂ ≡ turnAt (at + pointNumber n (f₂ .at)) (f₂ .axis) s₁ →
       s₃ ≡ turnAt (at - k + pointNumber n (f₃ .at)) (f₃ .axis) s₂ → s₄ ≡ turnAt (at - k + pointNumber n (f₄ .at)) (f₄ .axis) s₃ →
-      s₄ ≡ works n (record { axis = a; at = pointOf n at } ∷ []) s
+      s₄ ≡ faceTurns n (record { axis = a; at = pointOf n at } ∷ []) s
   faces-turn k b f₁ f₂ f₃ f₄ e₁ e₂ e₃ e₄ s s₁ s₂ s₃ s₄ t₁ t₂ t₃ t₄ =
       face-turn (at - k) f₄ (upperFace (later a)) (down (earlier a) p) e₄ (b .two) s₃ s₄ t₄
       ∙ ap (turnOne n (record { axis = later a; at = down (earlier a) p }))
@@ -253,5 +253,5 @@ module _ (n : ℕ) (e : Place) (h : Edged n e) (i : ℕ) (ei : i ≡ pointNumber
   pub flip-turn : (g g′ : List ℕ) → g′ ≡ turnAt i (e .axis) g → g′ ≡ turns n (e ∷ []) g
   flip-turn g g′ t = t ∙ ap (λ (j : ℕ). turnAt j (e .axis) g) ei
 
-  pub flip-works : (w w′ : List ℕ) → w′ ≡ works n (record { axis = e .axis; at = pointOf n i } ∷ []) w → w′ ≡ works n (e ∷ []) w
-  flip-works w w′ t = t ∙ ap (λ (q : Point). works n (record { axis = e .axis; at = q } ∷ []) w) point-is
+  pub flip-face-turns : (w w′ : List ℕ) → w′ ≡ faceTurns n (record { axis = e .axis; at = pointOf n i } ∷ []) w → w′ ≡ faceTurns n (e ∷ []) w
+  flip-face-turns w w′ t = t ∙ ap (λ (q : Point). faceTurns n (record { axis = e .axis; at = q } ∷ []) w) point-is

@@ -13,7 +13,7 @@ use Rattle.rules.specs.declared.Spot.{Spot}
 use Rattle.rules.specs.Lattice.{earlier, later, coord, up, pointAt, pointCount, OfGrid}
 use Rattle.rules.specs.Patch.{path, side}
 use Rattle.rules.specs.Grid.{stored}
-use Rattle.lattice.specs.Cells.{turns, works}
+use Rattle.lattice.specs.Cells.{turns, faceTurns}
 use Rattle.halving.specs.declared.Unpaired.{Unpaired}
 
 -- what the cut of a box asks of the grid and of the working set: a byte for each point
@@ -22,7 +22,7 @@ Sized n g w = (n ≤ 32) × (pointCount n ≤ length g) × (pointCount n ≤ len
 
 -- what it leaves in them: the edges of a list are flipped, their marks in the grid and their faces in the working set
 abbrev pub Flipped : ℕ → List Place → List ℕ → List ℕ → List ℕ → List ℕ → Type 0
-Flipped n l g w g' w' = (g' ≡ turns n l g) × (w' ≡ works n l w)
+Flipped n l g w g' w' = (g' ≡ turns n l g) × (w' ≡ faceTurns n l w)
 
 -- an inner edge
 pub record Edged (n : ℕ) (e : Place) : Type 0 where
@@ -64,7 +64,7 @@ unfoldable pub pairOf : ℕ → Axis → ℕ → Spot → Scan → Scan
 pairOf n a m q s =
     cond (stored n (s .work) a (pointAt a m (q .u) (q .v)))
     (cond (s .unpaired .any)
-    (scanOf (idle q) (turns n (path a m (s .unpaired .spot) q) (s .grid)) (works n (path a m (s .unpaired .spot) q) (s .work)))
+    (scanOf (idle q) (turns n (path a m (s .unpaired .spot) q) (s .grid)) (faceTurns n (path a m (s .unpaired .spot) q) (s .work)))
     (scanOf (waits q) (s .grid) (s .work)))
     s
 

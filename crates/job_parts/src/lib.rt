@@ -3,7 +3,7 @@ use octets::put_bytes;
 use octets::put_word;
 ghost use mathlib.Core.Path.{_≡_};
 ghost use mathlib.Core.List.{_∷_, _++_};
-ghost use Prim.Native.Nat.{_≤_, _+_, _*_};
+ghost use Prim.Native.Nat.{_≤_, _<_, _+_, _*_};
 ghost use lib.ListN.{length, take};
 ghost use Rattle.octets.specs.Octets.{word, puts};
 ghost use Rattle.job_parts.specs.Parts.{halves, Before};
@@ -34,7 +34,7 @@ fn put_line(out: &mut [u8], p: usize, kind: u8, at: u32, size: u32)
 
 // Puts what stands before so many triangles and quads: the table of contents, and the grid. Answers its length.
 pub fn put_front(out: &mut [u8], level: u8, grid: &[u8], triangles: u32, quads: u32) -> usize
-    requires { ⌜ (triangles ≤ 100000) × (quads ≤ 8192) × (length (now grid) ≤ 35937) × (29 + length (now grid) ≤ length (now out)) ⌝ }
+    requires { ⌜ (29 + length (now grid) + 36 * triangles < 4294967296) × (8 * quads < 4294967296) × (29 + length (now grid) ≤ length (now out)) ⌝ }
     ensures { λ r. ⌜ (r ≤ length (now (out .exit))) × Before level (now (grid .entry)) triangles quads (take r (now (out .exit))) ⌝ }
 {
     let second = 29 + grid.len();

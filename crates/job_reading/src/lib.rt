@@ -1,16 +1,14 @@
 // The call that reads a job file: which bodies it has, and where they lie.
-mod table;
-
 use grids::is_grid;
 use job_format::Part;
+use job_tables::are_placed;
+use job_tables::find;
+use job_tables::kinds_rise;
 use lattice::level::Level;
 use lattice::level::LevelRead;
 use lattice::level::point_count;
 use octets::wide;
 use refusals::Refusal;
-use table::are_placed;
-use table::find;
-use table::kinds_rise;
 ghost use mathlib.Core.Path.{_≡_};
 ghost use mathlib.Core.Bool.{true};
 ghost use mathlib.Core.List.{List, _++_};

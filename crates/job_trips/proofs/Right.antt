@@ -1,6 +1,6 @@
 -- What number 0 tells of each call: no row of its refusals applies. Assumes nothing.
 use mathlib.Core.Path.{_≡_, refl, ap}
-use mathlib.Core.Bool.{Bool, true, false, not, _||_, true≢false}
+use mathlib.Core.Bool.{true, false, not, _||_}
 use mathlib.Core.List.{List}
 use Prim.Native.Nat.{ℕ, _≤_}
 use borrow.Author.Tests.{ltb-false, not-false}
@@ -10,6 +10,7 @@ use Rattle.rules.specs.Lattice.{pointCount}
 use Rattle.lattice.specs.Levels.{cellsOf}
 use Rattle.refusals.specs.Columns.{badLevel, levelAt}
 use Rattle.refusals.proofs.Answered.{answered-done, answered-clear}
+use Rattle.refusals.proofs.Short.{neither}
 use Rattle.job_format.specs.Format.{tableSize, fileOf}
 use Rattle.job_format.specs.Table.{entriesOf, rising, placed, found, there, bytesOf, gridFits}
 use Rattle.job_reading.specs.Read as Read
@@ -23,10 +24,6 @@ cellsAt level = cellsOf (levelAt level)
 
 abbrev pub pointsAt : ℕ → ℕ
 pointsAt level = pointCount (cellsAt level)
-
-neither : (a b : Bool) → a || b ≡ false → (a ≡ false) × (b ≡ false)
-neither true b e = absurd (true≢false e)
-neither false b e = (refl, e)
 
 -- ---- a file that is read
 abbrev pub readDone : List ℕ → Read.Outcome

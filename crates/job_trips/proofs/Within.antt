@@ -14,16 +14,16 @@ use Rattle.job_reading.specs.Read as Read
 use Rattle.job_reading.specs.Read.{readCall}
 use Rattle.job_trips.proofs.Right.{pointsAt, Readable, read-right}
 
-abbrev Inside : List ℕ → Part → Type 0
-Inside s p = placeOf p + sizeOf p ≤ length s
+abbrev InFile : List ℕ → Part → Type 0
+InFile s p = placeOf p + sizeOf p ≤ length s
 
 module _ (s : List ℕ) (r : Readable s) where
-  found-inside : (k : ℕ) (p : Part) → found k (entriesOf s) ≡ p → Inside s p
+  found-inside : (k : ℕ) (p : Part) → found k (entriesOf s) ≡ p → InFile s p
   found-inside k Absent e = omega arith
   found-inside k (Present at size) e =
       let there-is : there (found k (entriesOf s)) ≡ true = ap (λ (x : Part). there x) e in
       let w = found-lies (pointsAt (getD s 0 0)) (length s) (tableSize (getD s 1 0)) k (entriesOf s) (r .places) there-is in
-      subst (Inside s) e (w .within)
+      subst (InFile s) e (w .within)
 
   grid-points : there (found 1 (entriesOf s)) ≡ true → sizeOf (found 1 (entriesOf s)) ≡ pointsAt (getD s 0 0)
   grid-points t =
@@ -31,9 +31,9 @@ module _ (s : List ℕ) (r : Readable s) where
       grid-size (pointsAt (getD s 0 0)) (sizeOf (found 1 (entriesOf s))) (w .fits)
 
 pub record Bodies (s : List ℕ) (o : Read.Outcome) : Type 0 where
-  pub grid-inside : Inside s (o .grid)
-  pub triangles-inside : Inside s (o .triangles)
-  pub quads-inside : Inside s (o .quads)
+  pub grid-inside : InFile s (o .grid)
+  pub triangles-inside : InFile s (o .triangles)
+  pub quads-inside : InFile s (o .quads)
   pub grid-long : there (o .grid) ≡ true → sizeOf (o .grid) ≡ pointsAt (o .level)
 
 pub bodies-within : (s : List ℕ) → readCall s .number ≡ 0 → Bodies s (readCall s)

@@ -11,7 +11,7 @@ use Rattle.lattice.specs.declared.level.Level.the-variants.{Two, Three, 
 use Rattle.rules.specs.Lattice.{pointCount}
 use Rattle.lattice.specs.Levels.{numberOf, cellsOf, sideOf, lowestOf, highestOf}
 
-number-most : (l : Level) → numberOf l ≤ 5
+pub number-most : (l : Level) → numberOf l ≤ 5
 number-most Two = lit≤ tt
 number-most Three = lit≤ tt
 number-most Four = lit≤ tt

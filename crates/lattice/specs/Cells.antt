@@ -102,8 +102,11 @@ turns n (f ∷ l) s = turns n l (turnOne n f s)
 -- the four faces of an edge: two of the cell above it, two of the cell below it
 abbrev pub facesOf : Place → List Place
 facesOf e =
-    record { axis = earlier (e .axis); at = e .at } ∷ (record { axis = later (e .axis); at = e .at }
-    ∷ (record { axis = earlier (e .axis); at = down (later (e .axis)) (e .at) } ∷ (record { axis = later (e .axis); at = down (earlier (e .axis)) (e .at) } ∷ [])))
+    record { axis = earlier (e .axis); at = e .at }
+    ∷ (record { axis = later (e .axis); at = e .at }
+    ∷ (record { axis = earlier (e .axis); at = down (later (e .axis)) (e .at) }
+    ∷ (record { axis = later (e .axis); at = down (earlier (e .axis)) (e .at) } ∷ [])))
 
-abbrev pub works : ℕ → List Place → List ℕ → List ℕ
-works n l s = turns n (each facesOf l) s
+-- the four faces of each of these edges turned
+abbrev pub faceTurns : ℕ → List Place → List ℕ → List ℕ
+faceTurns n l s = turns n (each facesOf l) s

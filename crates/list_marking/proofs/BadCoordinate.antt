@@ -16,7 +16,7 @@ use Rattle.marking.specs.Ranges.{inRange, allInRange}
 use Rattle.marking.specs.OutOfRange.{below, above, badOne, outNumber}
 use Rattle.marking.specs.Mark.{Outcome, refused}
 use Rattle.marking.proofs.OutOfRange.{bad-there, good-before, not-below, Sides, out-sides}
-use Rattle.marking.proofs.BadCoordinate.{ForRange, other, picked, nought}
+use Rattle.marking.proofs.BadCoordinate.{ForRange, other, picked, none-told}
 use Rattle.list_marking.specs.Triangles.{trianglesOf}
 use Rattle.list_marking.specs.Call.{markedList, markAllRows, markAllCall}
 use Rattle.list_marking.proofs.Marked.{done-number}
@@ -60,7 +60,7 @@ unfolding markAllCall
 all-other k g c t =
     let l = levelAt k in
     answered-both (λ o. (ForRange (o .number) → ⊥) → (o .place ≡ 0) × (o .axis ≡ 0)) (refused l c g t) (markedList l (trianglesOf c) g t)
-    (nought l c g t) (λ _. whole (trianglesOf c)) (markAllRows k g c t)
+    (none-told l c g t) (λ _. whole (trianglesOf c)) (markAllRows k g c t)
   where
     whole : (m : List (List ℤ)) → (markedList (levelAt k) m g t .place ≡ 0) × (markedList (levelAt k) m g t .axis ≡ 0)
     whole [] = (refl, refl)

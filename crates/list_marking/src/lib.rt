@@ -1,28 +1,13 @@
-// Many triangles in one call: mark for each triangle of a list in turn. The grid is looked at once for the whole list.
-use descending::mark_fast;
-use grids::GridRead;
-use grids::clear_signs;
-use grids::read_grid;
+// Many triangles in one call: what mark_all answers. What it promises, and what holds of it, stands in specs and proofs.
 use lattice::level::Level;
-use lattice::level::LevelRead;
-use lattice::level::point_count;
-use marking::range::first_out;
 use marking::range::is_below;
-use marking::range::triangle_of;
 use refusals::Refusal;
-use totals::count_held;
 ghost use mathlib.Core.Path.{_≡_};
-ghost use mathlib.Core.Bool.{true};
 ghost use mathlib.Core.List.{List};
-ghost use Prim.Native.Nat.{ℕ, _%_, _≤_};
-ghost use lib.ListN.{length};
-ghost use Rattle.rules.specs.Grid.{isGrid, Unsigned};
-ghost use Rattle.lattice.specs.Levels.{cellsOf, pointsOf};
-ghost use Rattle.marking.specs.Ranges.{allInRange};
+ghost use Prim.Native.Nat.{ℕ};
 ghost use Rattle.marking.specs.OutOfRange.{outNumber};
 ghost use Rattle.marking.specs.Mark.{refusedAt};
-ghost use Rattle.list_marking.specs.Triangles.{trianglesOf, markedAll};
-ghost use Rattle.list_marking.specs.Call.{told, rangedCall, markAllCall};
+ghost use Rattle.list_marking.specs.Call.{told};
 
 // What the call answers. Of the coordinates out of the level's range the first is told: its place in the list, its axis, and whether it
 // lies below the range or above.
@@ -34,7 +19,7 @@ pub enum MarkAllAnswer {
 }
 
 // Answers how a coordinate out of the level's range is refused.
-fn out_of_range(l: Level, p: usize, v: i32) -> MarkAllAnswer
+pub fn out_of_range(l: Level, p: usize, v: i32) -> MarkAllAnswer
     ensures { λ r. ⌜ ((g t : List ℕ) → told r g t ≡ refusedAt (outNumber l v) p g t) ⌝ }
 {
     let a = (p % 3) as u32;
@@ -42,60 +27,4 @@ fn out_of_range(l: Level, p: usize, v: i32) -> MarkAllAnswer
         return MarkAllAnswer::Below { place: p, axis: a };
     }
     MarkAllAnswer::Above { place: p, axis: a }
-}
-
-// Adds the marks of each triangle of a list in turn, in a buffer that is known to be a grid without signs. Each goes by whichever way
-// takes less time for its size.
-fn mark_each(l: Level, grid: &mut [u8], list: &[i32])
-    requires { ⌜ (length (now list) % 9 ≡ 0) × (allInRange l (now list) ≡ true) ⌝ }
-    requires { ⌜ (pointsOf l ≤ length (now grid)) × (isGrid (cellsOf l) (now grid) ≡ true) × Unsigned (cellsOf l) (now grid) ⌝ }
-    ensures { λ _. ⌜ now (grid .exit) ≡ markedAll l (trianglesOf (now (list .entry))) (now (grid .entry)) ⌝ }
-{
-    let mut at: usize = 0;
-    while at < list.len() {
-        mark_fast(l, grid, triangle_of(&list[at..at + 9]));
-        at += 9;
-    }
-}
-
-// Marks a list of triangles that are all in range: the rows that are left, and what is done where none applies.
-fn mark_ranged(l: Level, grid: &mut [u8], list: &[i32], totals: &mut [u16]) -> MarkAllAnswer
-    requires { ⌜ (pointsOf l ≤ length (now grid)) × (length (now list) % 9 ≡ 0) × (allInRange l (now list) ≡ true) ⌝ }
-    ensures { λ r. ⌜ told r (now (grid .exit)) (now (totals .exit)) ≡ rangedCall l (now (grid .entry)) (now (list .entry)) (now (totals .entry)) ⌝ }
-{
-    let n = l.cells();
-    let GridRead::Grid { inside } = read_grid(n, grid) else {
-        return MarkAllAnswer::Refused(Refusal::NoGrid);
-    };
-    if totals.len() < point_count(n / 4) {
-        return MarkAllAnswer::Refused(Refusal::ShortTable);
-    }
-    if list.len() == 0 {
-        return MarkAllAnswer::Done;
-    }
-    clear_signs(n, grid, inside);
-    mark_each(l, grid, list);
-    count_held(n, grid, totals);
-    MarkAllAnswer::Done
-}
-
-// The call mark for each triangle of a list in turn: any number of triangles, none too, of nine numbers each. Every coordinate is judged
-// before the first mark, and the totals are counted once, behind the last.
-pub fn mark_all(level: u32, grid: &mut [u8], list: &[i32], totals: &mut [u16]) -> MarkAllAnswer
-    ensures { λ r. ⌜ told r (now (grid .exit)) (now (totals .exit)) ≡ markAllCall level (now (grid .entry)) (now (list .entry)) (now (totals .entry)) ⌝ }
-{
-    let LevelRead::Known(l) = Level::read(level) else {
-        return MarkAllAnswer::Refused(Refusal::BadLevel);
-    };
-    if grid.len() < l.points() {
-        return MarkAllAnswer::Refused(Refusal::ShortBuffer);
-    }
-    if list.len() % 9 != 0 {
-        return MarkAllAnswer::Refused(Refusal::NotNine);
-    }
-    let place = first_out(l, list);
-    if place < list.len() {
-        return out_of_range(l, place, list[place]);
-    }
-    mark_ranged(l, grid, list, totals)
 }

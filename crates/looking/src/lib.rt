@@ -1,10 +1,7 @@
 // Whether a box of points has any mark, by a table of totals: the blocks wholly inside the box are a box of blocks, which their entries
 // answer for; the bytes answer for the points around it.
-pub mod bytes;
-pub mod entries;
-
-use crate::bytes::box_any;
-use crate::entries::box_some;
+use box_looking::bytes::box_any;
+use box_looking::entries::box_some;
 use lattice::least;
 use rules::Box;
 use rules::Point;
@@ -104,6 +101,17 @@ fn is_empty(b: Box) -> bool
     b.hi.k <= b.lo.k
 }
 
+// Whether one of two boxes has a mark.
+fn either_any(n: usize, grid: &[u8], low: Box, high: Box) -> bool
+    requires { ⌜ (n ≤ 32) × (pointCount n ≤ length (now grid)) × Fits n low × Fits n high ⌝ }
+    ensures { λ r. ⌜ r ≡ (anyMarked n (now (grid .entry)) low || anyMarked n (now (grid .entry)) high) ⌝ }
+{
+    if box_any(n, grid, low) {
+        return true;
+    }
+    box_any(n, grid, high)
+}
+
 // Whether the layers of a box below and above those of a box within it have a mark.
 fn layers_around(n: usize, grid: &[u8], b: Box, h: Box) -> bool
     requires { ⌜ (n ≤ 32) × (pointCount n ≤ length (now grid)) × Fits n b × Within b h ⌝ }
@@ -133,10 +141,7 @@ fn layers_around(n: usize, grid: &[u8], b: Box, h: Box) -> bool
             k: b.hi.k,
         },
     };
-    if box_any(n, grid, low) {
-        return true;
-    }
-    box_any(n, grid, high)
+    either_any(n, grid, low, high)
 }
 
 // Of the other layers, whether the rows before and behind those of the box within have one.
@@ -168,10 +173,7 @@ fn rows_around(n: usize, grid: &[u8], b: Box, h: Box) -> bool
             k: h.hi.k,
         },
     };
-    if box_any(n, grid, low) {
-        return true;
-    }
-    box_any(n, grid, high)
+    either_any(n, grid, low, high)
 }
 
 // Of the other rows, whether the points before and behind those of the box within have one.
@@ -203,10 +205,7 @@ fn ends_around(n: usize, grid: &[u8], b: Box, h: Box) -> bool
             k: h.hi.k,
         },
     };
-    if box_any(n, grid, low) {
-        return true;
-    }
-    box_any(n, grid, high)
+    either_any(n, grid, low, high)
 }
 
 // Whether the points of a box around a box within it have a mark.

@@ -72,7 +72,9 @@ mark-bad k g c t f =
     let nine = eqb (length c) 9 in
     let grid = isGrid (cellsOf l) g in
     let whole = doneWith l (triangleOf c) g t in
-    let p = picked l c g t whole (other 0 tt tt) (badLevel k) short nine (allInRange l c) (below l v) (above l v) grid (shortTable (cellsOf l) t) (λ z. not-below l v (bad-there l c z .1)) f in
+    let small = shortTable (cellsOf l) t in
+    let side : allInRange l c ≡ false → below l v ≡ false → above l v ≡ true = λ z. not-below l v (bad-there l c z .1) in
+    let p = picked l c g t whole (other 0 tt tt) (badLevel k) short nine (allInRange l c) (below l v) (above l v) grid small side f in
     let b = bad-there l c (p .2) in
     let n = eqb-true (length c) 9 (p .1) in
     subst (Bad k c) (sym (p .3))
@@ -87,8 +89,8 @@ mark-bad k g c t f =
     })
 
 -- place and axis are 0 in all other answers
-pub nought : (l : Level) (c : List ℤ) (g t : List ℕ) (j : ℕ) → (ForRange j → ⊥) → (refused l c g t j .place ≡ 0) × (refused l c g t j .axis ≡ 0)
-nought l c g t j f =
+pub none-told : (l : Level) (c : List ℤ) (g t : List ℕ) (j : ℕ) → (ForRange j → ⊥) → (refused l c g t j .place ≡ 0) × (refused l c g t j .axis ≡ 0)
+none-told l c g t j f =
     let e : cond (eqb j 4 || eqb j 24) (firstOut l c) 0 ≡ 0 = rw (ne-eqb j 4 (λ e. f (inl e)), ne-eqb j 24 (λ e. f (inr e))) refl in
     (e, ap (λ (p : ℕ). p % 3) e)
 
@@ -98,4 +100,4 @@ unfolding markCall
 mark-other k g c t =
     let l = levelAt k in
     answered-both (λ o. (ForRange (o .number) → ⊥) → (o .place ≡ 0) × (o .axis ≡ 0)) (refused l c g t) (doneWith l (triangleOf c) g t)
-    (nought l c g t) (λ _. (refl, refl)) (markRows k g c t)
+    (none-told l c g t) (λ _. (refl, refl)) (markRows k g c t)

@@ -1,9 +1,7 @@
-// Runs mark at level 2: examples 8 to 11 of the rules, triangles of no area, numbers at the ends of the range and of
-// i32, lists of other lengths, and inputs to which several numbers apply. It prints the number and the edges marked; `rest`
-// says that the bytes behind the last point are as they were.
+// Runs mark at level 2: examples 8, 9 and 11 of the rules, triangles of no area, lists of other lengths, and inputs to which several
+// numbers apply. It prints the number and the edges marked; `rest` says that the bytes behind the last point are as they were.
 use mark_calls::mark;
 use mark_calls::open;
-use marking::MarkAnswer;
 use showing::all_hold;
 use showing::put;
 use showing::say;
@@ -31,9 +29,8 @@ fn say_marked(name: &[u8], number: u32, grid: &[u8]) {
 fn show_short_table() {
     let mut grid = [DIRTY; LONG];
     let mut totals = [0u16; 8];
-    let mut short = [0u16; 7];
     open(2, &mut grid, &mut totals);
-    let number = mark(2, &mut grid, &[262_144; 9], &mut short).number();
+    let number = mark(2, &mut grid, &[262_144; 9], &mut totals[0..7]).number();
     say_marked(b"a total short", number, &grid);
 }
 
@@ -62,48 +59,6 @@ fn show_both(name: &[u8], first: &[i32], second: &[i32]) {
     say_marked(name, number, &grid);
 }
 
-// Puts a number into a list.
-fn put_number(numbers: &mut [i32], k: usize, v: i32) {
-    if k < numbers.len() {
-        numbers[k] = v;
-    }
-}
-
-// Says the place and the axis of a bad coordinate.
-fn say_place(place: u32, axis: u32) {
-    say_count(b"/", place);
-    say_count(b"/", axis);
-}
-
-// Says the number that is given when one of the nine numbers is v, and the place and the axis if it is bad.
-fn say_with(k: usize, v: i32) {
-    let mut grid = [0u8; POINTS];
-    let mut numbers = [262_144; 9];
-    put_number(&mut numbers, k, v);
-    let mut totals = [0u16; 8];
-    let answer = mark(2, &mut grid, &numbers, &mut totals);
-    say_count(b" ", answer.number());
-    if let MarkAnswer::Below { place: p, axis: a } = answer {
-        say_place(p, a);
-    }
-    if let MarkAnswer::Above { place: p, axis: a } = answer {
-        say_place(p, a);
-    }
-}
-
-// Says what is given when the first, .., the ninth number is v.
-fn show_nine(name: &[u8], v: i32) {
-    say(b"mark, ");
-    say(name);
-    say(b" at each of nine places:");
-    let mut k: usize = 0;
-    while k < 9 {
-        say_with(k, v);
-        k += 1;
-    }
-    say(b"\n");
-}
-
 fn show_examples() {
     let eight = [
         196_608,
@@ -122,16 +77,6 @@ fn show_examples() {
     show_both(b"example 8 after 9", &nine, &eight);
     show_both(b"example 9 after 8", &eight, &nine);
     show_both(b"example 8 twice", &eight, &eight);
-}
-
-// One of the nine numbers at an end of the range, beyond it, and at the ends of i32.
-fn show_ends() {
-    show_nine(b"131072", 131_072);
-    show_nine(b"131071", 131_071);
-    show_nine(b"393215", 393_215);
-    show_nine(b"393216", 393_216);
-    show_nine(b"the least i32", -2_147_483_648);
-    show_nine(b"the greatest i32", 2_147_483_647);
 }
 
 fn show_byte_sixteen() {
@@ -266,7 +211,6 @@ fn show_no_bytes() {
 fn main() {
     show_short_table();
     show_examples();
-    show_ends();
     show_byte_sixteen();
     show_points();
     show_lines();

@@ -15,7 +15,7 @@ use Rattle.lattice.specs.declared.level.Level.{Level}
 use Rattle.lattice.specs.Levels.{cellsOf, pointsOf}
 use Rattle.grids.proofs.Ahead.{bytes-are-grid, bytes-have-marks, bytes-unsigned}
 use Rattle.triangles.specs.declared.Triangle.{Triangle}
-use Rattle.triangles.specs.Vectors.{nought}
+use Rattle.triangles.specs.Vectors.{zeroVector}
 use Rattle.triangles.specs.Axes.{axes}
 use Rattle.triangles.specs.Meets.{separates, edgeMet}
 use Rattle.triangles.proofs.Exactly.{met-exactly}
@@ -27,7 +27,7 @@ use Rattle.meeting.proofs.Written.{written-length, written-rest}
 -- an edge that exists and that no axis separates from the triangle
 pub record Unseparated (l : Level) (t : Triangle) (a : Axis) (p : Point) : Type 0 where
   pub exists : isEdge (cellsOf l) a p ≡ true
-  pub clear : (k : ℕ) → k < 13 → separates (getD (axes t) k nought) t (endsOf l a p) ≡ false
+  pub clear : (k : ℕ) → k < 13 → separates (getD (axes t) k zeroVector) t (endsOf l a p) ≡ false
 
 -- the buffer stays as long as it was
 pub marked-length : (l : Level) (t : Triangle) (g : List ℕ) → pointsOf l ≤ length g → length (marked l t g) ≡ length g

@@ -23,7 +23,7 @@ use Rattle.lattice.specs.Cells.{indexOf}
 use Rattle.lattice.proofs.LevelFacts.{side-some, side-most, side-whole}
 use Rattle.triangles.specs.declared.Vector.{Vector}
 use Rattle.triangles.specs.declared.Triangle.{Triangle}
-use Rattle.triangles.specs.Vectors.{along, nought, dot}
+use Rattle.triangles.specs.Vectors.{along, zeroVector, dot}
 use Rattle.triangles.specs.Spans.{Holds}
 use Rattle.triangles.specs.Axes.{units}
 use Rattle.triangles.specs.Meets.{edgeMet}
@@ -56,7 +56,7 @@ place-along l p Y = refl
 place-along l p Z = refl
 
 module _ (l : Level) (t : Triangle) (a b : Axis) (p : Point) where
-  vertex-held : (v : Vector) → Holds (spanOn b t) (dot (getD units (indexOf b) nought) v) → Holds (spanOn b t) (along v (indexOf b))
+  vertex-held : (v : Vector) → Holds (spanOn b t) (dot (getD units (indexOf b) zeroVector) v) → Holds (spanOn b t) (along v (indexOf b))
   vertex-held v h = subst (Holds (spanOn b t)) (unit-dot (indexOf b) (index-small b) v) h
 
   -- an edge that ends, on an axis, before the triangle begins
@@ -64,7 +64,7 @@ module _ (l : Level) (t : Triangle) (a b : Axis) (p : Point) where
   unfolding endsOf
   ends-before m h k =
       let f = mul-le-mul-right (sideOf l) (step-coord a b p .0) in
-      let v = vertices-held (getD units (indexOf b) nought) t in
+      let v = vertices-held (getD units (indexOf b) zeroVector) t in
       edge-first-not-met t (endsOf l a p) (indexOf b) (index-small b) (pos m)
       (rw (place-along l p b) (pos-le (le-trans f k))) (rw (place-along l (up a p) b) (pos-le k))
       (<ℤ-≤ℤ-trans h (vertex-held (t .a) (v .a-held) .from-low))
@@ -76,7 +76,7 @@ module _ (l : Level) (t : Triangle) (a b : Axis) (p : Point) where
   unfolding endsOf
   begins-after m h k =
       let f = mul-le-mul-right (sideOf l) (step-coord a b p .0) in
-      let v = vertices-held (getD units (indexOf b) nought) t in
+      let v = vertices-held (getD units (indexOf b) zeroVector) t in
       triangle-first-not-met t (endsOf l a p) (indexOf b) (index-small b) (spanOn b t .high)
       (vertex-held (t .a) (v .a-held) .to-high)
       (vertex-held (t .b) (v .b-held) .to-high)

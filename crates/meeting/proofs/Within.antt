@@ -18,7 +18,7 @@ use Rattle.lattice.proofs.LevelFacts.{side-some, side-most, side-whole, place-m
 use Rattle.triangles.specs.declared.Vector.{Vector}
 use Rattle.triangles.specs.declared.Span.{Span}
 use Rattle.triangles.specs.declared.Triangle.{Triangle}
-use Rattle.triangles.specs.Vectors.{Each, UpTo, OnLattice, latticeMost, along, nought}
+use Rattle.triangles.specs.Vectors.{Each, UpTo, OnLattice, latticeMost, along, zeroVector}
 use Rattle.triangles.specs.Axes.{units}
 use Rattle.triangles.specs.Meets.{Inside, triangleSpan}
 use Rattle.triangles.proofs.Order.{≤ℤ-trans, of-lesser, of-greater}
@@ -70,7 +70,7 @@ each-along Y h = h .on-y
 each-along Z h = h .on-z
 
 abbrev pub spanOn : Axis → Triangle → Span
-spanOn a t = triangleSpan (getD units (indexOf a) nought) t
+spanOn a t = triangleSpan (getD units (indexOf a) zeroVector) t
 
 pub span-within : (l : Level) (t : Triangle) (a : Axis) → TriangleWithin l t →
     Within l (spanOn a t .low) × Within l (spanOn a t .high) × (spanOn a t .low ≤ℤ spanOn a t .high)
@@ -78,7 +78,7 @@ span-within l t a w =
     let p = each-along a (w .a-in) in
     let q = each-along a (w .b-in) in
     let r = each-along a (w .c-in) in
-    let h = vertices-held (getD units (indexOf a) nought) t .a-held in (
+    let h = vertices-held (getD units (indexOf a) zeroVector) t .a-held in (
       rw (triangle-along (indexOf a) (index-small a) t) (of-lesser (Within l) (of-lesser (Within l) p q) r),
       rw (triangle-along (indexOf a) (index-small a) t) (of-greater (Within l) (of-greater (Within l) p q) r),
       ≤ℤ-trans (h .from-low) (h .to-high),

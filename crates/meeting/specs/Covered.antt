@@ -14,7 +14,7 @@ use Rattle.lattice.specs.Levels.{cellsOf, sideOf}
 use Rattle.lattice.specs.Cells.{indexOf}
 use Rattle.triangles.specs.declared.Span.{Span}
 use Rattle.triangles.specs.declared.Triangle.{Triangle}
-use Rattle.triangles.specs.Vectors.{nought}
+use Rattle.triangles.specs.Vectors.{zeroVector}
 use Rattle.triangles.specs.Axes.{units}
 use Rattle.triangles.specs.Meets.{triangleSpan}
 
@@ -30,7 +30,7 @@ pub record Touches (l : Level) (x : Span) (first past : ℕ) : Type 0 where
 
 -- a box that does so on each axis
 abbrev pub Covers : Level → Triangle → Box → Type 0
-Covers l t b = (a : Axis) → Touches l (triangleSpan (getD units (indexOf a) nought) t) (coord a (b .lo)) (coord a (b .hi))
+Covers l t b = (a : Axis) → Touches l (triangleSpan (getD units (indexOf a) zeroVector) t) (coord a (b .lo)) (coord a (b .hi))
 
 -- one layer of cells on an axis
 abbrev pub thin : Box → Axis → Bool

@@ -33,21 +33,21 @@ pub fn plain(v: i64) -> usize
 }
 
 // The cells of one axis from first on, past not among them.
-struct Run {
+struct Stretch {
     first: usize,
     past: usize,
 }
 
 // Answers the cells of one axis that have an edge at their lowest corner that a span can touch. An edge along the axis
 // reaches from its cell's lower plane to the upper one, which it touches as well.
-fn cells_along(l: Level, x: Span) -> Run
+fn cells_along(l: Level, x: Span) -> Stretch
     requires { ⌜ Within l (x .low) × Within l (x .high) × (x .low ≤ℤ x .high) ⌝ }
     ensures { λ r. ⌜ Touches l x (r .first) (r .past) ⌝ }
 {
     let s = l.side();
     let low = plain(x.low);
     let high = plain(x.high);
-    Run {
+    Stretch {
         first: (low - 1) / s,
         past: high / s + 1,
     }

@@ -9,10 +9,10 @@ use lib.ListN.{length}
 use Rattle.rules.specs.Lists.{_⊕_, parity, All, count}
 use Rattle.rules.proofs.Sums.{parity-each}
 use Rattle.rules.proofs.Lists.{all-pair}
-use Rattle.rules.specs.declared.Axis.{Axis}
 use Rattle.rules.specs.declared.Point.{Point}
 use Rattle.rules.specs.declared.Place.{Place}
-use Rattle.rules.specs.Lattice.{Set, samePlace, samePoint, setOf, edgeIn, whole, isIn, pointNumber, pointCount, pointOf}
+use Rattle.rules.specs.Lattice.{Set, samePlace, samePoint, setOf, isIn, pointNumber, pointCount, pointOf}
+use Rattle.rules.specs.Inner.{AllInner}
 use Rattle.rules.specs.Cell.{oddFace}
 use Rattle.rules.specs.Patch.{patchRim, flips}
 use Rattle.rules.specs.Rims.{oddFaces, rims, elem}
@@ -29,7 +29,6 @@ use Rattle.lattice.proofs.Laws.{num-below}
 use Rattle.walking.specs.Walks.{Fine}
 use Rattle.lattice.proofs.PointSteps.{cell-grid}
 use Rattle.mending.specs.Between.{owns, hits, pointsBelow, none, Between, Finished, Moves}
-use Rattle.patching.specs.Inner.{Inner}
 use Rattle.mending.proofs.Rim.{face-cells}
 
 hits-at : (n k j : ℕ) (r : List Place) → j < k → owns (pointOf n j) r ≡ true → hits (pointsBelow n k) r ≡ true
@@ -40,7 +39,7 @@ hits-at n (suc k) j r l o = go (ℕ-discrete j k) (hits-at n k j r)
     go (yes e) i = or-left-true (owns (pointOf n k) r) (hits (pointsBelow n k) r) (subst (λ (m : ℕ). owns (pointOf n m) r ≡ true) e o)
     go (no e) i = or-true (owns (pointOf n k) r) (hits (pointsBelow n k) r) (i (omega arith) o)
 
-module _ (n : ℕ) (E : Set) (inner : (a : Axis) (p : Point) → E a p ≡ true → edgeIn (whole n) a p ≡ true) where
+module _ (n : ℕ) (E : Set) (inner : AllInner n E) where
   some-hit : All (λ r. hits (pointsBelow n (pointCount n)) r ≡ true) (rims n E)
   unfolding rims
   some-hit = all-pair (λ r. hit (oddFaces n E) r ≡ true) (All (λ x. isIn (oddFace E) x ≡ true)) _
@@ -85,7 +84,7 @@ pub record Scanned (n : ℕ) (g₀ w₀ : List ℕ) (k found : ℕ) (g w : List 
   pub fine : Fine n w
   pub g-long : length g ≡ length g₀
   pub w-long : length w ≡ length w₀
-  pub now : (E : Set) → Inner n E → Between n E none g₀ w₀ g₀ w₀ 0 → Between n E (hits (pointsBelow n k)) g₀ w₀ g w found
+  pub now : (E : Set) → AllInner n E → Between n E none g₀ w₀ g₀ w₀ 0 → Between n E (hits (pointsBelow n k)) g₀ w₀ g w found
 
 pub scanned-on : (n : ℕ) (g₀ w₀ : List ℕ) (k found : ℕ) (g w : List ℕ) → Scanned n g₀ w₀ k found g w → k < pointCount n → (r : ℕ) (g₂ w₂ : List ℕ) →
     length g₂ ≡ length g → length w₂ ≡ length w →

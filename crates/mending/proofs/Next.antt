@@ -7,13 +7,14 @@ use Prim.Native.Nat.{ℕ, _+_, _≤_}
 use native.Mathlib.Omega.{arith}
 use lib.ListN.{length, getD}
 use Rattle.rules.specs.Lists.{_⊕_, anyOf, parity, each, All, count}
-use Rattle.rules.proofs.Bits.{⊕-self, xors, same-test}
+use Rattle.rules.proofs.Bits.{⊕-self, ⊕-assoc, same-test}
 use Rattle.rules.proofs.Lists.{all-weaken, all-pair, all-swap}
 use Rattle.rules.specs.declared.Axis.{Axis}
 use Rattle.rules.specs.declared.Point.{Point}
 use Rattle.rules.specs.declared.Place.{Place}
 use Rattle.rules.specs.declared.Box.{Box}
-use Rattle.rules.specs.Lattice.{up, down, Set, pointNumber, samePlace, samePoint, setOf, edgeIn, whole, isIn, pointCount}
+use Rattle.rules.specs.Lattice.{up, down, Set, pointNumber, samePlace, samePoint, setOf, isIn, pointCount}
+use Rattle.rules.specs.Inner.{AllInner}
 use Rattle.rules.specs.Cell.{oddFace, ofCell}
 use Rattle.rules.specs.Rims.{neighbours, oddFaces, rims, elem, touch}
 use Rattle.rules.specs.Patch.{patchRim, patchOf}
@@ -27,20 +28,20 @@ use Rattle.rules.proofs.Patched.{odd-in, rims-all}
 use Rattle.rules.proofs.FaceMarks.{odd-kept}
 use Rattle.rules.proofs.Same.{count-same, anyOf-same, parity-same}
 use Rattle.lattice.specs.Byte.{above, high}
-use Rattle.lattice.specs.Cells.{Cell, turns, works, facesOf}
+use Rattle.lattice.specs.Cells.{Cell, turns, faceTurns, facesOf}
 use Rattle.lattice.proofs.Parts.{above-high}
 use Rattle.lattice.proofs.PointSteps.{cell-grid}
 use Rattle.walking.specs.Walks.{seenB, New, Found}
 use Rattle.walking.proofs.Bytes.{odd-same, seen-same, seen-above}
-use Rattle.halving.proofs.Turns.{turns-length, turns-above, turns-past, stored-turns, stored-works, low-edges, low-faces}
+use Rattle.halving.proofs.Turns.{turns-length, turns-above, turns-past, stored-turns, stored-face-turns, low-edges, low-faces}
 use Rattle.halving.proofs.Boxes.{patch-edged}
 use Rattle.halving.specs.Halving.{Fits, Edged}
 use Rattle.mending.specs.Between.{owns, Between}
-use Rattle.mending.proofs.Rim.{newB, S, fits, Result, results, stored-is, face-cells}
+use Rattle.mending.proofs.Rim.{newB, foundFace, fits, Result, results, stored-is, face-cells}
 use Rattle.mending.proofs.Tallies.{join-sum, join-any, any-no, no-any, one-hit}
 
 -- ---- the rim that has f is the one that touches f's cells
-module _ (n : ℕ) (E : Set) (inner : (a : Axis) (p : Point) → E a p ≡ true → edgeIn (whole n) a p ≡ true)
+module _ (n : ℕ) (E : Set) (inner : AllInner n E)
     (f : Place) (o : oddFace E (f .axis) (f .at) ≡ true) where
   closes : All (λ r. (g : Place) → neighbours g f ≡ true → elem g r ≡ true → elem f r ≡ true) (rims n E)
   unfolding rims
@@ -70,10 +71,10 @@ module _ (n : ℕ) (E : Set) (inner : (a : Axis) (p : Point) → E a p ≡ true 
   any-has = any-rims (samePlace f) (oddFaces n E) ∙ elem-odd n E inner f ∙ o
 
 -- ---- a rim is patched
-module _ (n : ℕ) (E : Set) (inner : (a : Axis) (p : Point) → E a p ≡ true → edgeIn (whole n) a p ≡ true)
+module _ (n : ℕ) (E : Set) (inner : AllInner n E)
     (hit : List Place → Bool) (g₀ w₀ g w : List ℕ) (k : ℕ) (B : Between n E hit g₀ w₀ g w k) (g-size : pointCount n ≤ length g)
     (w-size : pointCount n ≤ length w)
-    (c : Point) (cell : Cell n c) (dark : seenB n w c ≡ false) (a₀ : Axis) (o₀ : oddFace E a₀ c ≡ true) (v : List ℕ) (b : Box)
+    (c : Point) (cell : Cell n c) (unseen : seenB n w c ≡ false) (a₀ : Axis) (o₀ : oddFace E a₀ c ≡ true) (v : List ℕ) (b : Box)
     (F : Found n (oddFace E) w v c b) where
   shut : (a : Axis) (p : Point) → oddFace E a p ≡ true → Cell n p → Cell n (down a p) → seenB n w p ≡ seenB n w (down a p)
   shut a p o u l =
@@ -103,7 +104,7 @@ module _ (n : ℕ) (E : Set) (inner : (a : Axis) (p : Point) → E a p ≡ true 
       (λ r t u e. no-and (hit r) (touch c r) (u .1) (t ∙ sym (u .0) ∙ e)) (rims n E)
       (touch-has n E inner (record { axis = a₀; at = c }) o₀ c (own-upper (record { axis = a₀; at = c })))
       (all-pair (λ r. owns c r ≡ elem (record { axis = a₀; at = c }) r) (λ r. hit r && touch c r ≡ false) _ (λ r x y. (x, y)) (rims n E) own-is
-      (any-no (λ r. hit r && touch c r) (rims n E) (sym (B .seen-now c cell) ∙ dark)))
+      (any-no (λ r. hit r && touch c r) (rims n E) (sym (B .seen-now c cell) ∙ unseen)))
     where
       no-and : (x y : Bool) → x && y ≡ false → y ≡ true → x ≡ false
       no-and true y p q = absurd (true≢false (sym q ∙ p))
@@ -134,9 +135,9 @@ module _ (n : ℕ) (E : Set) (inner : (a : Axis) (p : Point) → E a p ≡ true 
       go : (getD v (pointNumber n q) 0 ≡ getD w (pointNumber n q) 0) ⊎ New n (oddFace E) w v c q →
           seenB n v q ≡ seenB n w q || (seenB n v q && not (seenB n w q))
       go (inl e) = old (seenB n v q) (seenB n w q) (seen-same n w v q e)
-      go (inr h) = fresh (seenB n v q) (seenB n w q) (h .dark)
+      go (inr h) = fresh (seenB n v q) (seenB n w q) (h .unseen-before)
 
-  pub rim-next : (g₂ w₂ : List ℕ) → g₂ ≡ turns n (patchOf b (stored n v)) g → w₂ ≡ works n (patchOf b (stored n v)) v →
+  pub rim-next : (g₂ w₂ : List ℕ) → g₂ ≡ turns n (patchOf b (stored n v)) g → w₂ ≡ faceTurns n (patchOf b (stored n v)) v →
       Between n E (λ s. owns c s || hit s) g₀ w₀ g₂ w₂ (k + 1)
   rim-next g₂ w₂ eg ew = record {
     g-long = ap length eg ∙ turns-length n (patchOf b (stored n v)) g ∙ B .g-long;
@@ -149,15 +150,15 @@ module _ (n : ℕ) (E : Set) (inner : (a : Axis) (p : Point) → E a p ≡ true 
     marks-now = λ a p l. ap (λ (s : List ℕ). stored n s a p) eg
         ∙ stored-turns n (patchOf b (stored n v)) g (low-edges n (patchOf b (stored n v)) ed) g-size a p l
         ∙ ap (λ (x : Bool). x ⊕ setOf (patchOf b (stored n v)) a p) (B .marks-now a p l)
-        ∙ assoc (stored n g₀ a p) (parity (λ r. hit r && setOf (patchRim r) a p) (rims n E)) (setOf (patchOf b (stored n v)) a p)
+        ∙ ⊕-assoc (stored n g₀ a p) (parity (λ r. hit r && setOf (patchRim r) a p) (rims n E)) (setOf (patchOf b (stored n v)) a p)
         ∙ ap (λ (x : Bool). stored n g₀ a p ⊕ x)
         (sym (join-sum (owns c) hit (λ r. setOf (patchRim r) a p) (setOf (patchOf b (stored n v)) a p) (rims n E) not-hit
         (all-pair (λ r. owns c r ≡ elem (record { axis = a₀; at = c }) r) _ _ (λ r x y e. ap (λ (t : List Place). setOf t a p) (sym (y (sym x ∙ e) .patches)))
         (rims n E) own-is got) own-one));
-    work-now = λ a p l. ap (λ (s : List ℕ). stored n s a p) ew ∙ stored-works n (patchOf b (stored n v)) v ed w-size′ a p l
+    work-now = λ a p l. ap (λ (s : List ℕ). stored n s a p) ew ∙ stored-face-turns n (patchOf b (stored n v)) v ed w-size′ a p l
         ∙ ap₂ _⊕_ (stored-is n E inner w v c b F a₀ o₀ shut′ (B .work-now) a p l)
         (ap (λ (t : List Place). oddFace (setOf t) a p) (the .2 (the .1) .patches) ∙ the .2 (the .1) .clears a p)
-        ∙ ⊕-self (S n E inner w v c b F a₀ o₀ shut′ (B .work-now) (record { axis = a; at = p }));
+        ∙ ⊕-self (foundFace n E inner w v c b F a₀ o₀ shut′ (B .work-now) (record { axis = a; at = p }));
     odd-now = odd-same n v w₂ (λ a p l. ap (has a) (above-high _ _ (work-above (pointNumber n p))))
         ∙ odd-same n w v (F .odds) ∙ B .odd-now;
     seen-now = λ q u. seen-above n v w₂ q (work-above (pointNumber n q))
@@ -176,9 +177,6 @@ module _ (n : ℕ) (E : Set) (inner : (a : Axis) (p : Point) → E a p ≡ true 
       work-above : (i : ℕ) → above (getD w₂ i 0) ≡ above (getD v i 0)
       work-above i = ap (λ (s : List ℕ). above (getD s i 0)) ew
           ∙ turns-above n (each facesOf (patchOf b (stored n v))) v i (low-faces n (patchOf b (stored n v)) ed) w-size′
-
-      assoc : (p q s : Bool) → (p ⊕ q) ⊕ s ≡ p ⊕ (q ⊕ s)
-      assoc p q s = simp xors
 
       no-both : (x y : Bool) → (y ≡ true → x ≡ false) → x && y ≡ false
       no-both true true h = h refl

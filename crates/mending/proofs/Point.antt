@@ -17,7 +17,7 @@ use Rattle.rules.specs.Grid.{has, stored}
 use Rattle.rules.proofs.PointOf.{number-pointOf, pointOf-grid}
 use Rattle.rules.specs.Patch.{patchOf}
 use Rattle.lattice.specs.Byte.{high, noneOdd, seen}
-use Rattle.lattice.specs.Cells.{Cell, aside, turns, works, facesOf}
+use Rattle.lattice.specs.Cells.{Cell, aside, turns, faceTurns, facesOf}
 use Rattle.lattice.proofs.Parts.{some-has, above-high}
 use Rattle.rules.proofs.Numbers.{zero-has}
 use Rattle.lattice.proofs.PointSteps.{cell-grid}
@@ -58,14 +58,14 @@ module _ (n : ℕ) (g w : List ℕ) (c : Point) where
 
   pub move-rim : pointCount n ≤ length g → pointCount n ≤ length w → Fine n w → Cell n c → noneOdd (getD w (pointNumber n c) 0) ≡ false →
       seenB n w c ≡ false → (v : List ℕ) (b : Box) → Found n (oddIn n w) w v c b →
-      (g₂ w₂ : List ℕ) → (g₂ ≡ turns n (patchOf b (stored n v)) g) × (w₂ ≡ works n (patchOf b (stored n v)) v) → Moves n c g w g₂ w₂ 1
-  move-rim lg lw fine cell z dark v b F g₂ w₂ e E inner hit g₀ w₀ k B =
+      (g₂ w₂ : List ℕ) → (g₂ ≡ turns n (patchOf b (stored n v)) g) × (w₂ ≡ faceTurns n (patchOf b (stored n v)) v) → Moves n c g w g₂ w₂ 1
+  move-rim lg lw fine cell z unseen v b F g₂ w₂ e E inner hit g₀ w₀ k B =
       let s = some-low n w c z in
       let o : oddFace E (s .0) c ≡ true = sym (ap (λ (G : Set). G (s .0) c) (B .odd-now)) ∙ sym (odd-face n w fine (s .0) c (cell-grid n c cell)) ∙ s .1 in
-      rim-next n E inner hit g₀ w₀ g w k B lg lw c cell dark (s .0) o v b (subst (λ (G : Set). Found n G w v c b) (B .odd-now) F) g₂ w₂ (e .0) (e .1)
+      rim-next n E inner hit g₀ w₀ g w k B lg lw c cell unseen (s .0) o v b (subst (λ (G : Set). Found n G w v c b) (B .odd-now) F) g₂ w₂ (e .0) (e .1)
 
   pub fine-after : pointCount n ≤ length w → Fine n w → (v : List ℕ) (b : Box) → Found n (oddIn n w) w v c b → (w₂ : List ℕ) →
-      w₂ ≡ works n (patchOf b (stored n v)) v → Fine n w₂
+      w₂ ≡ faceTurns n (patchOf b (stored n v)) v → Fine n w₂
   fine-after lw f v b F w₂ e = record { between = λ a p l o. f .between a p l (sym (F .odds a p l) ∙ sym (same a p) ∙ o) }
     where
       same : (a : Axis) (p : Point) → aside n w₂ a p ≡ aside n v a p
@@ -92,13 +92,14 @@ module _ (n : ℕ) (g w : List ℕ) (p : ℕ) (below : p < pointCount n) where
   unfolding seenB
   at-seen f h e = move-seen n g w (pointOf n p) (at-cell f h) (ap seen byte-at ∙ e)
 
-  pub at-dark : seen (getD w p 0) ≡ false → seenB n w (pointOf n p) ≡ false
+  pub at-unseen : seen (getD w p 0) ≡ false → seenB n w (pointOf n p) ≡ false
   unfolding seenB
-  at-dark e = ap seen byte-at ∙ e
+  at-unseen e = ap seen byte-at ∙ e
 
   pub at-rim : pointCount n ≤ length g → pointCount n ≤ length w → Fine n w → noneOdd (getD w p 0) ≡ false → seen (getD w p 0) ≡ false → (seed : Point) →
       seed ≡ pointOf n p → (v : List ℕ) (b : Box) → Found n (oddIn n w) w v seed b →
-      (g₂ w₂ : List ℕ) → (g₂ ≡ turns n (patchOf b (stored n v)) g) × (w₂ ≡ works n (patchOf b (stored n v)) v) → Moves n (pointOf n p) g w g₂ w₂ 1 × Fine n w₂
+      (g₂ w₂ : List ℕ) → (g₂ ≡ turns n (patchOf b (stored n v)) g) × (w₂ ≡ faceTurns n (patchOf b (stored n v)) v) →
+      Moves n (pointOf n p) g w g₂ w₂ 1 × Fine n w₂
   at-rim lg lw f h d seed es v b F g₂ w₂ e =
       let G = subst (λ (q : Point). Found n (oddIn n w) w v q b) es F in
-      (move-rim n g w (pointOf n p) lg lw f (at-cell f h) (odd-at h) (at-dark d) v b G g₂ w₂ e, fine-after n g w (pointOf n p) lw f v b G w₂ (e .1))
+      (move-rim n g w (pointOf n p) lg lw f (at-cell f h) (odd-at h) (at-unseen d) v b G g₂ w₂ e, fine-after n g w (pointOf n p) lw f v b G w₂ (e .1))

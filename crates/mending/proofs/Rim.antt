@@ -14,22 +14,23 @@ use Rattle.rules.specs.declared.Axis.the-variants.{X, Y, Z}
 use Rattle.rules.specs.declared.Point.{Point}
 use Rattle.rules.specs.declared.Place.{Place}
 use Rattle.rules.specs.declared.Box.{Box}
-use Rattle.rules.specs.Lattice.{coord, up, down, Set, pointNumber, samePlace, samePoint, setOf, edgeIn, faceIn, whole, Sub}
+use Rattle.rules.specs.Lattice.{coord, up, down, Set, pointNumber, samePlace, samePoint, setOf, faceIn, whole, Sub}
 use Rattle.rules.specs.Cell.{oddFace, oddCell, ofCell}
 use Rattle.rules.specs.Rims.{boxOf, ownBox, oddFaces, rims, elem, Chain, stay, link, touch}
 use Rattle.rules.specs.Patch.{patchRim, patchOf}
 use Rattle.rules.proofs.Cuts.{samePoint→, samePlace→}
 use Rattle.rules.proofs.Rims.{neighbours-cell, rims-even, down-up}
-use Rattle.rules.proofs.Patched.{odd-in, odd-listed, odd-inner, Inner, rims-all, rim-ends}
+use Rattle.rules.proofs.Patched.{odd-in, odd-listed, odd-inner, HasBelow, rims-all, rim-ends}
 use Rattle.rules.proofs.Oddness.{cell-even}
 use Rattle.rules.proofs.Chains.{same-point, neighbours-cells, own-upper, own-lower, members, find, any-mono, chain-add}
 use Rattle.rules.proofs.OddList.{elem-odd, rim-set}
 use Rattle.rules.proofs.Fill.{fill-rim}
-use Rattle.rules.proofs.RimBox.{box-holds, box-least, eq6, sub-trans}
+use Rattle.rules.proofs.RimBox.{box-holds, box-least, same-box, sub-trans}
 use Rattle.lattice.specs.Cells.{faceOf, indexOf, Cell}
 use Rattle.rules.specs.Lattice.{OfGrid}
+use Rattle.rules.specs.Inner.{AllInner}
 use Rattle.rules.specs.Grid.{stored}
-use Rattle.walking.specs.Walks.{seenB, acrossOf, cellBox, Route, here, over, New, Found}
+use Rattle.walking.specs.Walks.{seenB, acrossOf, cellBox, Joined, here, over, New, Found}
 use Rattle.lattice.proofs.PointSteps.{pred-most, up-down, cell-grid, down-cell}
 use Rattle.walking.proofs.Faces.{which, face-lower, face-upper, across-lower, across-upper, index-small, face-cell}
 use Rattle.walking.proofs.Bytes.{seen-same}
@@ -96,7 +97,7 @@ cell-whole n q h = omega arith
 pub fits-of : (n : ℕ) (b : Box) (c : Point) → Sub b (whole n) → Sub (cellBox c) b → Fits n b
 fits-of n b c u t = omega arith
 
-module _ (n : ℕ) (E : Set) (inner : (a : Axis) (p : Point) → E a p ≡ true → edgeIn (whole n) a p ≡ true)
+module _ (n : ℕ) (E : Set) (inner : AllInner n E)
     (w v : List ℕ) (c : Point) (b : Box) (F : Found n (oddFace E) w v c b) (a₀ : Axis) (o₀ : oddFace E a₀ c ≡ true)
     (shut : (a : Axis) (p : Point) → oddFace E a p ≡ true → seenB n w p ≡ seenB n w (down a p))
     (clear : (a : Axis) (p : Point) → OfGrid n p → stored n w a p ≡ false) where
@@ -106,8 +107,8 @@ module _ (n : ℕ) (E : Set) (inner : (a : Axis) (p : Point) → E a p ≡ true 
   abbrev pub newB : Point → Bool
   newB q = seenB n v q && not (seenB n w q)
 
-  abbrev pub S : Place → Bool
-  S g = newB (g .at) && oddFace E (g .axis) (g .at)
+  abbrev pub foundFace : Place → Bool
+  foundFace g = newB (g .at) && oddFace E (g .axis) (g .at)
 
   to-new : (q : Point) → Cell n q → newB q ≡ true → New n (oddFace E) w v c q
   to-new q k e = go (F .each q (cell-grid n q k))
@@ -122,7 +123,7 @@ module _ (n : ℕ) (E : Set) (inner : (a : Axis) (p : Point) → E a p ≡ true 
       go (inr h) = h
 
   pub of-new : (q : Point) → New n (oddFace E) w v c q → newB q ≡ true
-  of-new q h = both (seenB n v q) (not (seenB n w q)) (h .lit) (ap not (h .dark))
+  of-new q h = both (seenB n v q) (not (seenB n w q)) (h .seen-after) (ap not (h .unseen-before))
 
   pair-of : (a : Axis) (p : Point) → oddFace E a p ≡ true → Pair n a p
   pair-of a p o = face-cells n a p (odd-in n E inner a p o)
@@ -155,37 +156,37 @@ module _ (n : ℕ) (E : Set) (inner : (a : Axis) (p : Point) → E a p ≡ true 
   listed : (g : Place) → oddFace E (g .axis) (g .at) ≡ true → elem g (oddFaces n E) ≡ true
   listed g o = elem-odd n E inner g ∙ o
 
-  reach : (q : Point) → Route (oddFace E) c q → (h : Place) → ofCell q h ≡ true → oddFace E (h .axis) (h .at) ≡ true → Chain (oddFaces n E) f₀ h
+  reach : (q : Point) → Joined (oddFace E) c q → (h : Place) → ofCell q h ≡ true → oddFace E (h .axis) (h .at) ≡ true → Chain (oddFaces n E) f₀ h
   reach q here h k o = link (neighbours-cell c f₀ h (own-upper f₀) k) (listed h o) stay
   reach q (over {q = p} r f l e) h k o =
       chain-add (oddFaces n E) f₀ (faceOf f p) h (reach p r (faceOf f p) (of-own f p l) e) (neighbours-cell (acrossOf f p) (faceOf f p) h (of-across f p l) k)
       (listed h o)
 
   -- each new cell has an odd face
-  some-face : (q : Point) → Route (oddFace E) c q → (h : Place) × (ofCell q h ≡ true) × (oddFace E (h .axis) (h .at) ≡ true)
+  some-face : (q : Point) → Joined (oddFace E) c q → (h : Place) × (ofCell q h ≡ true) × (oddFace E (h .axis) (h .at) ≡ true)
   some-face q here = (f₀, own-upper f₀, o₀)
   some-face q (over {q = p} r f l e) = (faceOf f p, of-across f p l, e)
 
   seed-new : newB c ≡ true
   seed-new = of-new c (F .first)
 
-  s-odd : (g : Place) → S g ≡ true → oddFace E (g .axis) (g .at) ≡ true
-  s-odd g e = and-right (newB (g .at)) (oddFace E (g .axis) (g .at)) e
+  found-odd : (g : Place) → foundFace g ≡ true → oddFace E (g .axis) (g .at) ≡ true
+  found-odd g e = and-right (newB (g .at)) (oddFace E (g .axis) (g .at)) e
 
-  s-new : (g : Place) → S g ≡ true → New n (oddFace E) w v c (g .at)
-  s-new g e = to-new (g .at) (pair-of (g .axis) (g .at) (s-odd g e) .upper) (and-left (newB (g .at)) (oddFace E (g .axis) (g .at)) e)
+  found-new : (g : Place) → foundFace g ≡ true → New n (oddFace E) w v c (g .at)
+  found-new g e = to-new (g .at) (pair-of (g .axis) (g .at) (found-odd g e) .upper) (and-left (newB (g .at)) (oddFace E (g .axis) (g .at)) e)
 
   -- what was seen is the rim
-  pub rim-is : All (λ r. elem f₀ r ≡ true → (g : Place) → S g ≡ elem g r) (rims n E)
+  pub rim-is : All (λ r. elem f₀ r ≡ true → (g : Place) → foundFace g ≡ elem g r) (rims n E)
   unfolding rims
-  rim-is = fill-rim (oddFaces n E) f₀ S (both (newB c) (oddFace E a₀ c) seed-new o₀)
-      (λ g e. reach (g .at) (s-new g e .route) g (own-upper g) (s-odd g e))
+  rim-is = fill-rim (oddFaces n E) f₀ foundFace (both (newB c) (oddFace E a₀ c) seed-new o₀)
+      (λ g e. reach (g .at) (found-new g e .joined) g (own-upper g) (found-odd g e))
       (λ g h k l e. let o = sym (elem-odd n E inner h) ∙ l in let x = neighbours-cells g h k in
       both (newB (h .at)) (oddFace E (h .axis) (h .at))
-      (at-cell h (x .0) o (x .2) ∙ sym (at-cell g (x .0) (s-odd g e) (x .1)) ∙ and-left (newB (g .at)) (oddFace E (g .axis) (g .at)) e) o)
+      (at-cell h (x .0) o (x .2) ∙ sym (at-cell g (x .0) (found-odd g e) (x .1)) ∙ and-left (newB (g .at)) (oddFace E (g .axis) (g .at)) e) o)
 
   -- the working set after the walk
-  pub stored-is : (a : Axis) (p : Point) → OfGrid n p → stored n v a p ≡ S (record { axis = a; at = p })
+  pub stored-is : (a : Axis) (p : Point) → OfGrid n p → stored n v a p ≡ foundFace (record { axis = a; at = p })
   stored-is a p l = go (F .each p l)
     where
       none : (x y : Bool) → x ≡ y → x && not y ≡ false
@@ -207,10 +208,11 @@ module _ (n : ℕ) (E : Set) (inner : (a : Axis) (p : Point) → E a p ≡ true 
   pub record Result (r : List Place) : Type 0 where
     pub box : b ≡ boxOf r
     pub patches : patchOf b (stored n v) ≡ patchRim r
-    pub clears : (a : Axis) (p : Point) → oddFace (setOf (patchRim r)) a p ≡ S (record { axis = a; at = p })
+    pub clears : (a : Axis) (p : Point) → oddFace (setOf (patchRim r)) a p ≡ foundFace (record { axis = a; at = p })
     pub touches : (q : Point) → Cell n q → touch q r ≡ newB q
 
-  result : (r : List Place) → elem f₀ r ≡ true → ((g : Place) → S g ≡ elem g r) → ((g : Place) → setOf r (g .axis) (g .at) ≡ elem g r) → All Inner r →
+  result : (r : List Place) → elem f₀ r ≡ true → ((g : Place) → foundFace g ≡ elem g r)
+      → ((g : Place) → setOf r (g .axis) (g .at) ≡ elem g r) → All HasBelow r →
       ((p : Point) → oddCell (setOf r) p ≡ false) → Result r
   unfolding patchRim
   result [] e s d i z = absurd (false≢true e)
@@ -223,13 +225,13 @@ module _ (n : ℕ) (E : Set) (inner : (a : Axis) (p : Point) → E a p ≡ true 
     touches = λ q cell. same-test (touch q (f ∷ l)) (newB q)
         (λ k. let x = find (ofCell q) (λ g. elem g (f ∷ l) ≡ true) (f ∷ l) (members (f ∷ l)) k in
         let t = s (x .0) ∙ x .2 in
-        sym (at-cell (x .0) q (s-odd (x .0) t) (x .1)) ∙ and-left (newB (x .0 .at)) _ t)
+        sym (at-cell (x .0) q (found-odd (x .0) t) (x .1)) ∙ and-left (newB (x .0 .at)) _ t)
         (λ k. touch-of q (to-new q cell k));
   }
     where
       held : (q : Point) → New n (oddFace E) w v c q → Sub (cellBox q) (boxOf (f ∷ l))
       held q h =
-          let x = some-face q (h .route) in
+          let x = some-face q (h .joined) in
           let t : elem (x .0) (f ∷ l) ≡ true = sym (s (x .0)) ∙ both (newB (x .0 .at)) _ (at-cell (x .0) q (x .2) (x .1) ∙ of-new q h) (x .2) in
           let y = find (samePlace (x .0)) (λ g. Sub (ownBox g) (boxOf (f ∷ l))) (f ∷ l) (box-holds (f ∷ l)) t in
           sub-trans (cellBox q) (ownBox (x .0)) (boxOf (f ∷ l)) (in-own q (x .0) (x .1))
@@ -246,14 +248,14 @@ module _ (n : ℕ) (E : Set) (inner : (a : Axis) (p : Point) → E a p ≡ true 
       own-in : (g : Place) → elem g (f ∷ l) ≡ true → Sub (ownBox g) b
       own-in g k =
           let t = s g ∙ k in
-          let o = s-odd g t in
+          let o = found-odd g t in
           let pr = pair-of (g .axis) (g .at) o in
           let m = and-left (newB (g .at)) _ t in
           own-sub (g .axis) (g .at) b (pr .above) (F .holds (g .at) (to-new (g .at) (pr .upper) m))
           (F .holds (down (g .axis) (g .at)) (to-new _ (pr .lower) (sym (cells-agree (g .axis) (g .at) o) ∙ m)))
 
       box-is : b ≡ boxOf (f ∷ l)
-      box-is = eq6 b (boxOf (f ∷ l)) (F .least (boxOf (f ∷ l)) held)
+      box-is = same-box b (boxOf (f ∷ l)) (F .least (boxOf (f ∷ l)) held)
           (box-least f l b (all-weaken (λ g. elem g (f ∷ l) ≡ true) (λ g. Sub (ownBox g) b) own-in (f ∷ l) (members (f ∷ l))))
 
       in-low : (a : Axis) (p : Point) → faceIn b a p ≡ true → OfGrid n p
@@ -261,7 +263,7 @@ module _ (n : ℕ) (E : Set) (inner : (a : Axis) (p : Point) → E a p ≡ true 
 
       touch-of : (q : Point) → New n (oddFace E) w v c q → touch q (f ∷ l) ≡ true
       touch-of q h =
-          let x = some-face q (h .route) in
+          let x = some-face q (h .joined) in
           let t : elem (x .0) (f ∷ l) ≡ true = sym (s (x .0)) ∙ both (newB (x .0 .at)) _ (at-cell (x .0) q (x .2) (x .1) ∙ of-new q h) (x .2) in
           any-mono (samePlace (x .0)) (ofCell q) (λ g e. subst (λ (y : Place). ofCell q y ≡ true) (samePlace→ (x .0) g e) (x .1)) (f ∷ l) t
 
@@ -269,13 +271,13 @@ module _ (n : ℕ) (E : Set) (inner : (a : Axis) (p : Point) → E a p ≡ true 
   pub results : All (λ r. elem f₀ r ≡ true → Result r) (rims n E)
   unfolding rims
   results =
-      all-pair (λ r. elem f₀ r ≡ true → (g : Place) → S g ≡ elem g r)
-      (λ r. ((g : Place) → setOf r (g .axis) (g .at) ≡ elem g r) × All Inner r × ((p : Point) → oddCell (setOf r) p ≡ false)) _
+      all-pair (λ r. elem f₀ r ≡ true → (g : Place) → foundFace g ≡ elem g r)
+      (λ r. ((g : Place) → setOf r (g .axis) (g .at) ≡ elem g r) × All HasBelow r × ((p : Point) → oddCell (setOf r) p ≡ false)) _
       (λ r h k e. result r e (h e) (k .0) (k .1) (k .2)) (rims n E) rim-is
-      (all-pair (λ r. (g : Place) → setOf r (g .axis) (g .at) ≡ elem g r) (λ r. All Inner r × ((p : Point) → oddCell (setOf r) p ≡ false)) _
+      (all-pair (λ r. (g : Place) → setOf r (g .axis) (g .at) ≡ elem g r) (λ r. All HasBelow r × ((p : Point) → oddCell (setOf r) p ≡ false)) _
       (λ r x y. (x, y .0, y .1)) (rims n E)
       (all-swap (λ g r. setOf r (g .axis) (g .at) ≡ elem g r) (rims n E) (rim-set n E inner))
-      (all-pair (All Inner) (λ r. (p : Point) → oddCell (setOf r) p ≡ false) _ (λ r x y. (x, y)) (rims n E)
-      (rims-all Inner (oddFaces n E) (odd-inner n E inner))
+      (all-pair (All HasBelow) (λ r. (p : Point) → oddCell (setOf r) p ≡ false) _ (λ r x y. (x, y)) (rims n E)
+      (rims-all HasBelow (oddFaces n E) (odd-inner n E inner))
       (all-swap (λ q r. oddCell (setOf r) q ≡ false) (rims n E)
       (rims-even (oddFaces n E) (λ q. ap (λ (G : Set). oddCell G q) (fun-ext (λ d. fun-ext (λ s. odd-listed n E inner d s))) ∙ cell-even E q)))))

@@ -5,7 +5,7 @@ use mathlib.Core.List.{List, [], _∷_}
 use Prim.Native.Nat.{suc, _≤_}
 use native.Mathlib.Omega.{arith}
 use Rattle.rules.specs.Lists.{_⊕_, anyOf, parity, All, count}
-use Rattle.rules.proofs.Bits.{xors, or-no-left, or-no-right}
+use Rattle.rules.proofs.Bits.{⊕-assoc, or-no-left, or-no-right}
 use Rattle.rules.proofs.Lists.{all-weaken}
 
 module _ {R : Type 0} where
@@ -44,10 +44,7 @@ module _ {R : Type 0} where
           swap true false = refl
           swap false true = refl
           swap false false = refl
-      go false e d i = ap₂ (λ (a b : Bool). ((a || y r) && z r) ⊕ b) e (i d) ∙ assoc (y r && z r) (parity (λ s. y s && z s) rs) v
-        where
-          assoc : (p q s : Bool) → p ⊕ (q ⊕ s) ≡ (p ⊕ q) ⊕ s
-          assoc p q s = simp xors
+      go false e d i = ap₂ (λ (a b : Bool). ((a || y r) && z r) ⊕ b) e (i d) ∙ sym (⊕-assoc (y r && z r) (parity (λ s. y s && z s) rs) v)
 
   pub join-any : (x y z : R → Bool) (v : Bool) (rs : List R) → All (λ r. x r ≡ true → y r ≡ false) rs → All (λ r. x r ≡ true → z r ≡ v) rs → count x rs ≡ 1 →
       anyOf (λ r. (x r || y r) && z r) rs ≡ anyOf (λ r. y r && z r) rs || v

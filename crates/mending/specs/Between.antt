@@ -8,7 +8,8 @@ use Rattle.rules.specs.Lists.{_⊕_, parity, anyOf, count}
 use Rattle.rules.specs.declared.Axis.{Axis}
 use Rattle.rules.specs.declared.Point.{Point}
 use Rattle.rules.specs.declared.Place.{Place}
-use Rattle.rules.specs.Lattice.{Set, setOf, samePoint, edgeIn, whole, pointCount, pointOf, OfGrid}
+use Rattle.rules.specs.Lattice.{Set, setOf, samePoint, pointCount, pointOf, OfGrid}
+use Rattle.rules.specs.Inner.{AllInner}
 use Rattle.rules.specs.Cell.{oddFace}
 use Rattle.rules.specs.Rims.{rims, touch, facesWith}
 use Rattle.rules.specs.Patch.{flips, patchRim}
@@ -17,7 +18,6 @@ use Rattle.lattice.specs.Byte.{high, marksPutBy}
 use Rattle.lattice.specs.Cells.{Cell}
 use Rattle.walking.specs.Walks.{oddIn, seenB}
 use Rattle.patching.specs.Paint.{paint}
-use Rattle.patching.specs.Inner.{Inner}
 
 -- a rim has a face at the point
 abbrev pub owns : Point → List Place → Bool
@@ -63,12 +63,12 @@ pub record Finished (n : ℕ) (E : Set) (g₀ w₀ g w : List ℕ) (k : ℕ) : T
 -- what one point of the scan does, whatever rims have been hit before: the rims with a face at the point are hit too, r more
 abbrev pub Moves : ℕ → Point → List ℕ → List ℕ → List ℕ → List ℕ → ℕ → Type 0
 Moves n c g w g₂ w₂ r =
-    (E : Set) → Inner n E → (hit : List Place → Bool) (g₀ w₀ : List ℕ) (k : ℕ) → Between n E hit g₀ w₀ g w k →
+    (E : Set) → AllInner n E → (hit : List Place → Bool) (g₀ w₀ : List ℕ) (k : ℕ) → Between n E hit g₀ w₀ g w k →
     Between n E (λ s. owns c s || hit s) g₀ w₀ g₂ w₂ (k + r)
 
 -- what the whole scan does, from no rim hit
 abbrev pub AllPatched : ℕ → List ℕ → List ℕ → List ℕ → List ℕ → ℕ → Type 0
-AllPatched n g w g₂ w₂ r = (E : Set) → Inner n E → Between n E none g w g w 0 → Finished n E g w g₂ w₂ r
+AllPatched n g w g₂ w₂ r = (E : Set) → AllInner n E → Between n E none g w g w 0 → Finished n E g w g₂ w₂ r
 
 -- every rim of the grid g has been patched, r of them, with its marks put by as they came; it came with o faces of one mark and t of three
 abbrev pub Mends : ℕ → List ℕ → List ℕ → List ℕ → List ℕ → ℕ → ℕ → ℕ → Type 0

@@ -1,8 +1,8 @@
 // The rims of a grid, one after the other: each is found by a walk and patched by halving its box.
-use halving::patch_box;
 use lattice::byte::is_seen;
 use lattice::byte::none_odd;
 use lattice::level::point_count;
+use pairing::patch_box;
 use rules::Point;
 use walking::find_rim;
 ghost use mathlib.Core.Path.{_≡_};

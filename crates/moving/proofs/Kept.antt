@@ -67,11 +67,11 @@ module _ (e : ℤ) (shift : Shift) where
       puts-three l a b d (word (movedWord e (along shift 0) (wordAt l at))) (word (movedWord e (along shift 1) (wordAt l (at + 4))))
       (word (movedWord e (along shift 2) (wordAt l (at + 8)))) at (at + 4) (at + 8) f (ap (λ (n : ℕ). at + n) (sym (word-length _)))
       (g ∙ ap (λ (w : ℕ). puts a (at + 4) (word (movedWord e (along shift 1) w))) (kept-word a l (at + 4) (at + 4) u (omega arith)))
-      (eight at _ (word-length _))
+      (two-behind at _ (word-length _))
       (h ∙ ap (λ (w : ℕ). puts b (at + 8) (word (movedWord e (along shift 2) w))) (kept-word b l (at + 8) (at + 8) v (omega arith)))
     where
-      eight : (at n : ℕ) → n ≡ 4 → at + 8 ≡ at + 4 + n
-      eight at n q = omega arith
+      two-behind : (at n : ℕ) → n ≡ 4 → at + 8 ≡ at + 4 + n
+      two-behind at n q = omega arith
 
   -- and three vertices
   pub vertices-moved : (l a b d : List ℕ) (at : ℕ) → a ≡ puts l at (movedVertex e shift l at) → b ≡ puts a (at + 12) (movedVertex e shift a (at + 12)) →

@@ -1,15 +1,16 @@
 -- The whole numbers of a move: how far a coordinate lies from the shift, and twice that less one with its sign. Assumes nothing.
-use mathlib.Core.Path.{_≡_, refl, sym, ap, _∙_}
+use mathlib.Core.Path.{_≡_, refl, ap, _∙_}
 use mathlib.Core.Bool.{Bool, true, false, cond, true≢false}
-use Prim.Native.Nat.{ℕ, zero, suc, _+_, _-_, _*_, _≤_, _<_}
+use Prim.Native.Nat.{ℕ, zero, suc, _+_, _-_, _*_, _≤_}
 use native.Mathlib.Omega.{arith}
-use borrow.Author.Tests.{lt-ltb, le-ltb, ltb-true, ltb-false, le-leb}
+use borrow.Author.Tests.{le-ltb, ltb-true, ltb-false, le-leb}
 use lib.Dec.{ltb}
-use lib.IntN.{ℤ, pos, negsuc, negℤ, natAbs, subℕ, _-ℤ_, _*ℤ_}
+use lib.IntN.{ℤ, pos, negsuc, negℤ, natAbs, _-ℤ_, _*ℤ_}
 use lib.Signed.{ltZ}
 use mir.Syntax.{w32}
 use mir.Val.{SFits}
-use Rattle.rounding.specs.Pattern.{isNegative, sizeTimes, signed, roundTimes, isNear}
+use Rattle.rounding.specs.Pattern.{isNegative, sizeTimes, roundTimes, isNear}
+use Rattle.coordinates.proofs.Back.{size-of}
 use Rattle.moving.specs.Back.{Centred}
 
 -- ---- at most 2^30 + 2^20 is an i32
@@ -60,11 +61,6 @@ twice-high (pos n) h = let e = ltb-false n 1 h in simp (le-ltb (2 * n) 1 (omega 
 twice-high (negsuc k) h = absurd (true≢false h)
 
 -- ---- what write_stl writes is near
-size-of : (b : Bool) (n k : ℕ) → signed b n ≡ pos k → n ≡ k
-size-of true zero k e = ap natAbs e
-size-of true (suc n) k e = ap natAbs e
-size-of false n k e = ap natAbs e
-
 pub centred-near : (e : ℤ) (b : ℕ) → Centred e b → isNear e b ≡ true
 unfolding isNear roundTimes
 centred-near e b h =

@@ -69,8 +69,8 @@ module _ (v : Level) (s : ℕ) (x : List ℕ) where
   to : (i j : ℕ) → i ≡ j → Here i → Here j
   to i j q h = subst Here q h
 
-  nine : (at : ℕ) → Three at → Three (at + 12) → Three (at + 24) → (k : ℕ) → k < 9 → Here (at + 4 * k)
-  nine at a b c k h =
+  each-number : (at : ℕ) → Three at → Three (at + 12) → Three (at + 24) → (k : ℕ) → k < 9 → Here (at + 4 * k)
+  each-number at a b c k h =
       at-upto (λ j. Here (at + 4 * j)) 0 9 k (
         to at (at + 0) (omega arith) (a .0),
         (
@@ -108,7 +108,7 @@ module _ (v : Level) (s : ℕ) (x : List ℕ) where
     where
       first : (j : ℕ) → j < 9 → Here (verticesAt k + 4 * j)
       first =
-          nine (verticesAt k) (corner-stands (verticesAt k) (f .first) (h .0 .one) (ap (λ (m : List Going). getD m 0 nowhere .from) g))
+          each-number (verticesAt k) (corner-stands (verticesAt k) (f .first) (h .0 .one) (ap (λ (m : List Going). getD m 0 nowhere .from) g))
           (corner-stands (verticesAt k + 12) (f .second) (h .0 .two) (ap (λ (m : List Going). getD m 1 nowhere .from) g))
           (corner-stands (verticesAt k + 24) (f .third) (h .0 .three) (ap (λ (m : List Going). getD m 2 nowhere .from) g))
 

@@ -75,9 +75,9 @@ module _ (n : ℕ) (g w₀ w : List ℕ) (lg : pointCount n ≤ length g) (h : i
       let m = byte-most (oddFace (marks n g)) p in
       ap (has a) (F .at p b) ∙ packed-has 0 0 (byteAt (oddFace (marks n g)) p) (omega arith) (omega arith) (omega arith) a ∙ zero-has a
 
-  dark-bit : (p : Point) → OfGrid n p → seenB n w p ≡ false
+  unseen-bit : (p : Point) → OfGrid n p → seenB n w p ≡ false
   unfolding seenB
-  dark-bit p b =
+  unseen-bit p b =
       let m = byte-most (oddFace (marks n g)) p in
       ap seen (F .at p b) ∙ packed-flag 0 0 (byteAt (oddFace (marks n g)) p) (omega arith) (omega arith) (omega arith)
 
@@ -105,6 +105,6 @@ module _ (n : ℕ) (g w₀ w : List ℕ) (lg : pointCount n ≤ length g) (h : i
     marks-now = λ a p l. sym (ap (λ (x : Bool). stored n (gridStart n g) a p ⊕ x) (zero-sum (λ r. setOf (patchRim r) a p) (rims n (marks n g))) ∙ ⊕-false _);
     work-now = low-bit;
     odd-now = odd-start;
-    seen-now = λ q u. dark-bit q (cell-grid n q u) ∙ sym (zero-any (touch q) (rims n (marks n g)));
+    seen-now = λ q u. unseen-bit q (cell-grid n q u) ∙ sym (zero-any (touch q) (rims n (marks n g)));
     counted = sym (zero-count (rims n (marks n g)));
   }

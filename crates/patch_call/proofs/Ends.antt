@@ -21,7 +21,7 @@ use Rattle.lattice.proofs.Laws.{num-below}
 use Rattle.lattice.specs.Byte.{low, marksPutBy}
 use Rattle.lattice.proofs.Parts.{low-is}
 use Rattle.totals.specs.Totals.{trued}
-use Rattle.patching.specs.Paint.{paint, nought, allChanges}
+use Rattle.patching.specs.Paint.{paint, zeroByte, allChanges}
 use Rattle.finding.specs.Finding.{OddFound}
 use Rattle.mending.specs.Between.{Finished, AllPatched}
 use Rattle.patching.specs.Call.{counted, patchDone}
@@ -83,14 +83,14 @@ module _ (n : ℕ) (g w : List ℕ) (lg : pointCount n ≤ length g) (lw : point
       (all-weaken (OfGrid n) _ (λ p b a. (mark-is a p b, ap (has a) (D .came-in (pointNumber n p)) ∙ came-bit n g lg h a p b)) (points (suc n))
       (points-grid n))
 
-  zeros-are : take (pointCount n) (paint nought (pointCount n) w₃) ≡ replicate (pointCount n) 0
+  zeros-are : take (pointCount n) (paint zeroByte (pointCount n) w₃) ≡ replicate (pointCount n) 0
   zeros-are =
       let s = w-size in
-      let e = paint-length nought (pointCount n) w₃ in
-      let f : length (take (pointCount n) (paint nought (pointCount n) w₃)) ≡ pointCount n = length-take-le (pointCount n) (paint nought (pointCount n) w₃)
+      let e = paint-length zeroByte (pointCount n) w₃ in
+      let f : length (take (pointCount n) (paint zeroByte (pointCount n) w₃)) ≡ pointCount n = length-take-le (pointCount n) (paint zeroByte (pointCount n) w₃)
       (omega arith) in
       ext-getD 0 _ _ (f ∙ sym (length-replicate (pointCount n) 0))
-      (λ i l. getD-take (pointCount n) (paint nought (pointCount n) w₃) i 0 (omega arith) ∙ paint-at nought (pointCount n) w₃ i (omega arith) s
+      (λ i l. getD-take (pointCount n) (paint zeroByte (pointCount n) w₃) i 0 (omega arith) ∙ paint-at zeroByte (pointCount n) w₃ i (omega arith) s
       ∙ sym (getD-replicate (pointCount n) i 0 0 (omega arith)))
 
   grid-is : paint low (pointCount n) g₃ ≡ bytes n (patched n (marks n g)) ++ drop (pointCount n) g
@@ -99,14 +99,14 @@ module _ (n : ℕ) (g w : List ℕ) (lg : pointCount n ≤ length g) (lw : point
       (paint-length low (pointCount n) g₃ ∙ D .g-long ∙ paint-length marksPutBy (pointCount n) g)
       (λ j l. paint-past low (pointCount n) g₃ j l ∙ D .g-past j l ∙ paint-past marksPutBy (pointCount n) g j l)
 
-  work-is : paint nought (pointCount n) w₃ ≡ replicate (pointCount n) 0 ++ drop (pointCount n) w
+  work-is : paint zeroByte (pointCount n) w₃ ≡ replicate (pointCount n) 0 ++ drop (pointCount n) w
   work-is =
-      front (pointCount n) (paint nought (pointCount n) w₃) w _ zeros-are (paint-length nought (pointCount n) w₃ ∙ D .w-long)
-      (λ j l. paint-past nought (pointCount n) w₃ j l ∙ D .w-past j l)
+      front (pointCount n) (paint zeroByte (pointCount n) w₃) w _ zeros-are (paint-length zeroByte (pointCount n) w₃ ∙ D .w-long)
+      (λ j l. paint-past zeroByte (pointCount n) w₃ j l ∙ D .w-past j l)
 
   -- ---- the parts of the call one after the other
   pub ends-well : (g₄ w₄ : List ℕ) (f o t : ℕ) → f ≡ allChanges (pointCount n) g₃ → g₄ ≡ paint low (pointCount n) g₃ →
-      w₄ ≡ paint nought (pointCount n) w₃ → o ≡ facesWith 1 n (marks n g) → t ≡ facesWith 3 n (marks n g) →
+      w₄ ≡ paint zeroByte (pointCount n) w₃ → o ≡ facesWith 1 n (marks n g) → t ≡ facesWith 3 n (marks n g) →
       (s s₀ : List ℕ) → s ≡ trued n g₄ s₀ → counted r f o t g₄ w₄ s ≡ patchDone n g w s₀
   unfolding patchDone
   ends-well g₄ w₄ f o t ef eg ew eo et s s₀ es = λ i. record {

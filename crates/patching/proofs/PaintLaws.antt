@@ -13,7 +13,7 @@ use lib.Seq.{getD-set-same, getD-set-other}
 use Rattle.lattice.specs.Byte.{came, changes}
 use Rattle.lattice.proofs.Clearing.{cleared-more}
 use Rattle.rules.proofs.Numbers.{value-most}
-use Rattle.patching.specs.Paint.{paint, nought, allChanges}
+use Rattle.patching.specs.Paint.{paint, zeroByte, allChanges}
 
 pub paint-length : (f : ℕ → ℕ) (k : ℕ) (s : List ℕ) → length (paint f k s) ≡ length s
 unfolding paint
@@ -54,7 +54,7 @@ pub paint-kept : (f : ℕ → ℕ) (p : ℕ) (s t : List ℕ) → t ≡ paint f 
 paint-kept f p s t e = ap length e ∙ paint-length f p s
 
 -- bytes set to 0 are painted with zeros
-pub cleared-paint : (k : ℕ) (s : List ℕ) → k ≤ length s → replicate k 0 ++ drop k s ≡ paint nought k s
+pub cleared-paint : (k : ℕ) (s : List ℕ) → k ≤ length s → replicate k 0 ++ drop k s ≡ paint zeroByte k s
 unfolding paint
 cleared-paint zero s h = refl
 cleared-paint (suc k) s h =

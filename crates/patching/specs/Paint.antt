@@ -14,5 +14,5 @@ unfoldable pub allChanges : ℕ → List ℕ → ℕ
 allChanges zero s = 0
 allChanges (suc k) s = allChanges k s + changes (getD s k 0)
 
-abbrev pub nought : ℕ → ℕ
-nought b = 0
+abbrev pub zeroByte : ℕ → ℕ
+zeroByte b = 0

@@ -1,8 +1,8 @@
 // Runs patch on the examples of the rules at level 2, on the grids that pin its choices, on a sheet with a hole, and on
-// inputs that it refuses. For each it prints the number, the rims, the flips, the
-// faces with one mark and with three, the total of block 0, and the edges marked afterwards; `kept` says that no byte of either buffer
-// changed, `totals kept` that the total of block 0 did not, `clear` that the first P work bytes are 0, `rest` that the bytes behind them and the entry behind the last
-// total are as they were.
+// inputs that it refuses. For each it prints the number, the rims, the flips, the faces with one mark and with three, the total of
+// block 0, and the edges marked afterwards; `kept` says that no byte of either buffer changed, `totals kept` that the total of block 0
+// did not, `clear` that the first P work bytes are 0, `rest` that the bytes behind them and the entry behind the last total are as
+// they were.
 use patch_call::patch;
 use patching::PatchAnswer;
 use showing::all_hold;

@@ -1,4 +1,4 @@
 // The program `plate`: a binary STL file from standard input, and a word of five characters; what is told of the model.
 fn main() {
-    plating::run();
+    printing::run();
 }

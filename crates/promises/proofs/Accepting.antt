@@ -81,7 +81,7 @@ pub accept-one : (level : ℕ) (l g w : List ℕ) (x y : AcceptAnswer × List �
 accept-one level l g w = settled acceptTold outcomeRead (λ z. answer-back (z .0) (z .1) (z .2)) (acceptCall level l g w)
 
 -- 1 is a yes and 0 a no
-one→ : (b : Bool) → value b 1 ≡ 1 → b ≡ true
+pub one→ : (b : Bool) → value b 1 ≡ 1 → b ≡ true
 one→ true e = refl
 one→ false e = absurd (omega arith)
 

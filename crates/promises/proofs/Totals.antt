@@ -1,7 +1,7 @@
 -- M-108: once open, mark or patch is done, or a table is counted anew, every total is true, and none past the last block is touched; an
 -- answer by a table that is true is the one read from all the bytes. Assumes nothing.
 use mathlib.Core.Path.{_≡_, refl, sym, ap, subst, _∙_}
-use mathlib.Core.Bool.{Bool, true, false}
+use mathlib.Core.Bool.{Bool}
 use mathlib.Core.List.{List}
 use mathlib.Core.Logic.{_↔_}
 use Prim.Native.Nat.{ℕ}
@@ -30,6 +30,7 @@ use Rattle.promises.specs.Table.{cells, pastBlocks}
 use Rattle.promises.specs.Stage.{Stage, promised, Keeps, Totalled, PastKept}
 use Rattle.promises.proofs.Done.{patch-done}
 use Rattle.promises.proofs.Condition.{keeps-same}
+use Rattle.promises.proofs.Accepting.{one→}
 
 -- ---- the promised stage
 open-true : (L : ℕ) (g u : List ℕ) → openCall L g u .number ≡ 0 → True (cells L) (openCall L g u .grid) (openCall L g u .totals)
@@ -114,8 +115,4 @@ true-tells L g u e =
     let r = answered-done (λ o. o .number) Asking.refused (Asking.said (isTrue n g u)) (λ i. refl) refl (tableRows L g u) refl e in
     let y = ap (λ (o : Asking.Outcome). o .yes) (r .1) in
     let x = true-exactly n g u (ltb-false (length u) (blockCount n) (r .0 .1 .1 .0)) in
-    (λ q. x .0 (one (isTrue n g u) (sym y ∙ q)), λ q. y ∙ ap (λ (b : Bool). value b 1) (x .1 q))
-  where
-    one : (b : Bool) → value b 1 ≡ 1 → b ≡ true
-    one true q = refl
-    one false q = absurd (let z : ⊥ = omega (arith, q) in z)
+    (λ q. x .0 (one→ (isTrue n g u) (sym y ∙ q)), λ q. y ∙ ap (λ (b : Bool). value b 1) (x .1 q))

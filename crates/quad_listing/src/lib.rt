@@ -1,6 +1,4 @@
 // The call surface: the quads between inside and outside.
-pub mod quads;
-
 use fitting::signs_fit;
 use grids::is_grid;
 use lattice::level::Level;

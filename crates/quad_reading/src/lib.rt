@@ -1,9 +1,9 @@
 // A quad read as an edge and the side of it that is inside, from whatever corner it begins.
 use grids::is_inner;
 use lattice::index;
-use quad_listing::quads::cell_number;
-use quad_listing::quads::cell_step;
-use quad_listing::quads::next;
+use quads::cell_number;
+use quads::cell_step;
+use quads::next;
 use rules::Axis;
 use rules::Point;
 ghost use mathlib.Core.Path.{_≡_};

@@ -1,3 +1,2 @@
 pub mod Anew
 pub mod Cubes
-pub mod Plane

@@ -1,2 +1,2 @@
 pub mod Anew
-pub mod Plane
+pub mod Beside

@@ -1,13 +1,18 @@
 // The totals after marks were added: blocks counted anew, where a triangle can have added one. The cubes of the descent are made of
 // blocks down to a side of four cells, whose lowest corners are the points of one block; a block in a cube that an axis separates
-// from the triangle got no mark. One axis is enough here, the normal of the triangle's plane: the others would spare few blocks.
+// from the triangle got no mark. Four of the ten axes are tried: the normal of the triangle's plane, and a long side crossed with x,
+// y and z, which keep to that side where the triangle is a needle, whose normal says little. The others would spare few blocks.
+use corners::NUMBERS;
+use corners::kept_at;
 use corners::numbers_of;
 use descending::Cube;
+use descending::REACHES;
 use descending::SCANNED;
 use descending::cells_in;
 use descending::eighth;
+use descending::keep_all;
 use descending::misses;
-use descending::reach_of;
+use descending::reach_at;
 use descending::touches;
 use lattice::level::Level;
 use lattice::number_of;
@@ -17,25 +22,22 @@ use rules::Box;
 use rules::Point;
 use totals::block_box;
 use totals::box_marks;
-use triangles::Kept;
-use triangles::Span;
 use triangles::Triangle;
 ghost use mathlib.Core.Path.{_≡_};
-ghost use mathlib.Core.Bool.{true, false};
-ghost use Prim.Native.Nat.{_/_, _≤_};
+ghost use mathlib.Core.Bool.{true};
+ghost use Prim.Native.Nat.{_/_, _≤_, _<_};
 ghost use lib.ListN.{length};
 ghost use Rattle.rules.specs.Lattice.{pointCount, OfGrid};
 ghost use Rattle.lattice.specs.Levels.{cellsOf, pointsOf};
-ghost use Rattle.triangles.specs.declared.Triangle.{Triangle};
 ghost use Rattle.triangles.specs.Meets.{Inside};
-ghost use Rattle.triangles.specs.Keeping.{laterAxes};
 ghost use Rattle.meeting.specs.Within.{TriangleWithin};
 ghost use Rattle.meeting.specs.Met.{met};
 ghost use Rattle.meeting.specs.Covered.{Covers};
-ghost use Rattle.descending.specs.Cubes.{CubeOf, noneDrops};
+ghost use Rattle.descending.specs.Cubes.{CubeOf};
+ghost use Rattle.descending.specs.Reach.{Loaded};
 ghost use Rattle.totals.specs.Totals.{blockCount};
 ghost use Rattle.recounting.specs.Anew.{blockAnew, rowAnew, layerAnew, boxAnew, blocksOf, OfBlocks, Recounted, fourfold};
-ghost use Rattle.recounting.specs.Plane.{Plane, SomePlane, CubeRecounted};
+ghost use Rattle.recounting.specs.Beside.{Beside, CubeRecounted};
 
 // Counts a block anew.
 fn recount(n: usize, grid: &[u8], table: &mut [u16], c: Point)
@@ -119,35 +121,69 @@ fn cells_of(c: Cube) -> Cube
     }
 }
 
-// Whether a cube of cells lies beside the triangle's plane.
-fn is_beside(l: Level, plane: Kept, reach: Span, c: Cube) -> bool
-    requires { ⌜ SomePlane l plane reach × CubeOf (cellsOf l) c ⌝ }
-    ensures { λ r. ⌜ (r ≡ true → (t : Triangle) → Plane l t plane reach → noneDrops (laterAxes t) l t c ≡ false) ⌝ }
+// Answers whether the axis kept as number k separates a cube of cells from the triangle.
+fn is_beside(l: Level, kept: &[i64; NUMBERS], reach: &[i64; REACHES], k: usize, c: Cube) -> bool
+    requires { ⌜ Loaded l (now kept) (now reach) × CubeOf (cellsOf l) c × (k < 10) ⌝ }
+    ensures { λ r. ⌜ (r ≡ true → Beside l (now (kept .entry)) (now (reach .entry)) c) ⌝ }
 {
-    misses(plane, reach, numbers_of(c.at), signed(c.side))
+    misses(
+        kept_at(kept, k),
+        reach_at(reach, k),
+        numbers_of(c.at),
+        signed(c.side),
+    )
 }
 
-// Counts anew the blocks of a cube of blocks, but for those in a cube without a cell of the triangle's box b, or beside its plane: these
+// Answers whether a cube of cells lies beside the triangle's plane, or beside one of its sides as seen along x, y or z.
+fn is_spared(l: Level, kept: &[i64; NUMBERS], reach: &[i64; REACHES], side: usize, c: Cube) -> bool
+    requires { ⌜ Loaded l (now kept) (now reach) × CubeOf (cellsOf l) c × (side < 3) ⌝ }
+    ensures { λ r. ⌜ (r ≡ true → Beside l (now (kept .entry)) (now (reach .entry)) c) ⌝ }
+{
+    if is_beside(l, kept, reach, 0, c) {
+        return true;
+    }
+    if is_beside(l, kept, reach, side + 1, c) {
+        return true;
+    }
+    if is_beside(l, kept, reach, side + 4, c) {
+        return true;
+    }
+    is_beside(l, kept, reach, side + 7, c)
+}
+
+// Answers the longer of the first two sides, which is at least half as long as the longest. The choice saves time, and spares no block
+// that got a mark.
+fn long_side(t: Triangle) -> usize
+    requires { ⌜ Inside t ⌝ }
+    ensures { λ r. ⌜ r < 3 ⌝ }
+{
+    let p = t.side(0);
+    let q = t.side(1);
+    if p.dot(p) < q.dot(q) { 1 } else { 0 }
+}
+
+// Counts anew the blocks of a cube of blocks, but for those in a cube without a cell of the triangle's box b, or beside the triangle: these
 // got no mark.
 fn recount_cube(
     l: Level,
     n: usize,
     grid: &[u8],
     table: &mut [u16],
-    plane: Kept,
-    reach: Span,
+    kept: &[i64; NUMBERS],
+    reach: &[i64; REACHES],
+    side: usize,
     b: Box,
     c: Cube,
 )
     requires { ⌜ (n ≡ cellsOf l) × (pointsOf l ≤ length (now grid)) × (blockCount (cellsOf l) ≤ length (now table)) ⌝ }
-    requires { ⌜ CubeOf (cellsOf l / 4) c × SomePlane l plane reach ⌝ }
-    ensures { λ _. ⌜ CubeRecounted l plane reach b c (now (grid .entry)) (now (table .entry)) (now (table .exit)) ⌝ }
+    requires { ⌜ CubeOf (cellsOf l / 4) c × Loaded l (now kept) (now reach) × (side < 3) ⌝ }
+    ensures { λ _. ⌜ CubeRecounted l (now (kept .entry)) (now (reach .entry)) b c (now (grid .entry)) (now (table .entry)) (now (table .exit)) ⌝ }
 {
     let cells = cells_of(c);
     if !touches(b, cells) {
         return;
     }
-    if is_beside(l, plane, reach, cells) {
+    if is_spared(l, kept, reach, side, cells) {
         return;
     }
     if c.side == 1 {
@@ -156,7 +192,7 @@ fn recount_cube(
     }
     let mut k: usize = 0;
     while k < 8 {
-        recount_cube(l, n, grid, table, plane, reach, b, eighth(c, k));
+        recount_cube(l, n, grid, table, kept, reach, side, b, eighth(c, k));
         k += 1;
     }
 }
@@ -166,15 +202,17 @@ fn recount_cubes(l: Level, grid: &[u8], t: Triangle, table: &mut [u16], b: Box)
     requires { ⌜ Inside t × Covers l t b × (pointsOf l ≤ length (now grid)) × (blockCount (cellsOf l) ≤ length (now table)) ⌝ }
     ensures { λ _. ⌜ Recounted (cellsOf l) (now (grid .entry)) (met l t) (now (table .entry)) (now (table .exit)) ⌝ }
 {
-    let plane = t.kept(0, signed(l.side()));
-    let reach = reach_of(plane.axis);
+    let mut kept = [0i64; NUMBERS];
+    let mut reach = [0i64; REACHES];
+    keep_all(l, t, &mut kept, &mut reach);
+    let side = long_side(t);
     let n = l.cells();
     let origin = Point { i: 0, j: 0, k: 0 };
     let whole = Cube {
         at: origin,
         side: n / 4,
     };
-    recount_cube(l, n, grid, table, plane, reach, b, whole);
+    recount_cube(l, n, grid, table, &kept, &reach, side, b, whole);
 }
 
 // Counts anew blocks of a grid to which the marks of the edges that a triangle meets were added, so that every total is true that was so

@@ -14,7 +14,7 @@ use Rattle.lattice.specs.Levels.{levelOf, numberOf}
 use Rattle.refusals.specs.Columns.{badLevel, orTwo, levelAt}
 
 -- a level's number names it
-level-known : (l : Level) → levelOf (numberOf l) ≡ Known l
+pub level-known : (l : Level) → levelOf (numberOf l) ≡ Known l
 unfolding levelOf
 level-known Two = refl
 level-known Three = refl

@@ -9,7 +9,7 @@ use lib.ListN.{length}
 use Rattle.rules.specs.Lists.{All}
 use Rattle.refusals.specs.Columns.{someShort}
 
-neither : (a b : Bool) → a || b ≡ false → (a ≡ false) × (b ≡ false)
+pub neither : (a b : Bool) → a || b ≡ false → (a ≡ false) × (b ≡ false)
 neither true b e = absurd (true≢false e)
 neither false b e = (refl, e)
 

@@ -48,7 +48,8 @@ module _ (l : Level) (g : List ℕ) (long : pointsOf l ≤ length g) (grid : isG
   patch-done w room = rw (level-is, good, le-ltb (length g) (pointsOf l) long, le-ltb (length w) (pointsOf l) room, grid, lent-long l)
 
   -- ---- sign is done where no face is odd
-  sign-done : evenFaces (cellsOf l) (marks (cellsOf l) g) ≡ true → signCall (numberOf l) g ≡ done (signBytes (cellsOf l) (marks (cellsOf l) g) ++ drop (pointsOf l) g)
+  sign-done : evenFaces (cellsOf l) (marks (cellsOf l) g) ≡ true
+      → signCall (numberOf l) g ≡ done (signBytes (cellsOf l) (marks (cellsOf l) g) ++ drop (pointsOf l) g)
   unfolding signRows signCall
   sign-done even = rw (level-is, good, le-ltb (length g) (pointsOf l) long, grid, even)
 
@@ -88,7 +89,8 @@ module _ (l : Level) (g w : List ℕ) {r f o t : ℕ} {h v s : List ℕ} (e : co
   unfolding patchDone
   is-left = ap (λ (o : Patching). o .grid) e
 
-  pub patch-left : (isGrid (cellsOf l) h ≡ true) × (evenFaces (cellsOf l) (marks (cellsOf l) h) ≡ true) × (marks (cellsOf l) h ≡ patched (cellsOf l) (marks (cellsOf l) g))
+  pub patch-left : (isGrid (cellsOf l) h ≡ true) × (evenFaces (cellsOf l) (marks (cellsOf l) h) ≡ true)
+      × (marks (cellsOf l) h ≡ patched (cellsOf l) (marks (cellsOf l) g))
   patch-left = rw is-left (left-grid (cellsOf l) g, left-even (cellsOf l) g, left-marks (cellsOf l) g)
 
 -- ---- what sign leaves: a grid whose signs fit

@@ -54,7 +54,8 @@ module _ (l : Level) (g : List ℕ) {rims flips ones threes : ℕ} {h v : List �
   n = cellsOf l
 
   -- patch and sign are done, and what comes next is printed
-  pub closed-is : (next : Patching → Signing → List ℕ) → closed (levelNumber l) g next ≡ next (counted rims flips ones threes (k .patched) v (trued n (k .patched) lentTotals)) (done h)
+  pub closed-is : (next : Patching → Signing → List ℕ) → closed (levelNumber l) g next
+      ≡ next (counted rims flips ones threes (k .patched) v (trued n (k .patched) lentTotals)) (done h)
   unfolding closed
   closed-is next = rw (sym (k .is-patch), sym (k .is-sign))
 
@@ -68,7 +69,8 @@ module _ (l : Level) (g : List ℕ) {rims flips ones threes : ℕ} {h v : List �
   unfolding masked
   masks-shown = rw (closed-is (masked (levelNumber l)), known l .1)
 
-  pub masks-called : (o : List ℕ) → length (masks n (inside n h)) ≤ length o → masksCall (levelNumber l) h o ≡ pictured (closed (levelNumber l) g (masked (levelNumber l))) o
+  pub masks-called : (o : List ℕ) → length (masks n (inside n h)) ≤ length o
+      → masksCall (levelNumber l) h o ≡ pictured (closed (levelNumber l) g (masked (levelNumber l))) o
   masks-called o room = masks-done l h (k .long) (k .grid) (k .fits) o room ∙ ap (λ (f : List ℕ). pictured f o) masks-shown
 
   module _ (t : ℕ) (list′ : List ℕ) where

@@ -18,7 +18,7 @@ ghost use mathlib.Core.Path.{_≡_};
 ghost use Prim.Native.Nat.{_≤_};
 ghost use lib.ListN.{length};
 ghost use Rattle.lattice.specs.Levels.{numberOf, pointsOf};
-ghost use Rattle.text.specs.Text.{Put};
+ghost use Rattle.text.specs.Text.{PutFirst};
 ghost use Rattle.feeding.specs.Feed.{Ready};
 ghost use Rattle.reporting.specs.Report.{lentBytes, lentList, closed, surfaced, layered, masked, faced};
 ghost use Rattle.reporting.specs.Close.{Closed};
@@ -46,7 +46,7 @@ pub fn report(
     out: &mut [u8],
 ) -> usize
     requires { ⌜ (level ≡ numberOf l) × Ready l (now grid) × (now work ≡ lentBytes) × (now list ≡ lentList) × (213098 ≤ length (now out)) ⌝ }
-    ensures { λ r. ⌜ Put (now (out .entry)) 0 (closed level (now (grid .entry)) (surfaced level triangles)) (now (out .exit)) r × (r ≤ length (now (out .exit))) ⌝ }
+    ensures { λ r. ⌜ PutFirst (now (out .entry)) (closed level (now (grid .entry)) (surfaced level triangles)) (now (out .exit)) r ⌝ }
 {
     let counts = close_grid(l, grid, work);
     match list_quads(l.cells(), grid, list) {
@@ -68,7 +68,7 @@ pub fn report(
 // Closes a grid and puts the picture of its layers, and behind it the number of faces with one mark and with three; answers its length.
 pub fn show(l: Level, grid: &mut [u8], work: &mut [u8], out: &mut [u8]) -> usize
     requires { ⌜ Ready l (now grid) × (now work ≡ lentBytes) × (107845 ≤ length (now out)) ⌝ }
-    ensures { λ r. ⌜ Put (now (out .entry)) 0 (closed (numberOf l) (now (grid .entry)) (layered (numberOf l))) (now (out .exit)) r × (r ≤ length (now (out .exit))) ⌝ }
+    ensures { λ r. ⌜ PutFirst (now (out .entry)) (closed (numberOf l) (now (grid .entry)) (layered (numberOf l))) (now (out .exit)) r ⌝ }
 {
     let counts = close_grid(l, grid, work);
     let next = put_picture(out, l.cells(), grid, Drawn::Inside);
@@ -78,7 +78,7 @@ pub fn show(l: Level, grid: &mut [u8], work: &mut [u8], out: &mut [u8]) -> usize
 // Closes a grid and puts the masks of its layers; answers their length.
 pub fn show_masks(l: Level, grid: &mut [u8], work: &mut [u8], out: &mut [u8]) -> usize
     requires { ⌜ Ready l (now grid) × (now work ≡ lentBytes) × (5742 ≤ length (now out)) ⌝ }
-    ensures { λ r. ⌜ Put (now (out .entry)) 0 (closed (numberOf l) (now (grid .entry)) (masked (numberOf l))) (now (out .exit)) r × (r ≤ length (now (out .exit))) ⌝ }
+    ensures { λ r. ⌜ PutFirst (now (out .entry)) (closed (numberOf l) (now (grid .entry)) (masked (numberOf l))) (now (out .exit)) r ⌝ }
 {
     close_grid(l, grid, work);
     put_masks(out, grid, l.cells() + 1)
@@ -87,7 +87,7 @@ pub fn show_masks(l: Level, grid: &mut [u8], work: &mut [u8], out: &mut [u8]) ->
 // Puts the picture of the faces with one mark and with three, of a grid as it came in; answers its length.
 pub fn show_faces(l: Level, grid: &[u8], out: &mut [u8]) -> usize
     requires { ⌜ Ready l (now grid) × (107811 ≤ length (now out)) ⌝ }
-    ensures { λ r. ⌜ Put (now (out .entry)) 0 (faced (numberOf l) (now (grid .entry))) (now (out .exit)) r × (r ≤ length (now (out .exit))) ⌝ }
+    ensures { λ r. ⌜ PutFirst (now (out .entry)) (faced (numberOf l) (now (grid .entry))) (now (out .exit)) r ⌝ }
 {
     put_picture(out, l.cells(), grid, Drawn::Faces)
 }

@@ -7,6 +7,7 @@ use native.Mathlib.Omega.{arith}
 use lib.ListN.{getD}
 use Rattle.rules.specs.Lists.{_⊕_}
 use Rattle.rules.specs.Lattice.{OfGrid, pointNumber, points, places, Set, inner, isIn, Axis, X, Y, Z, Point, whole, sameAxis}
+use Rattle.rules.specs.Inner.{AllInner}
 use Rattle.rules.specs.Grid.{bytes, has, marks, goodByte, isGrid, stored}
 use Rattle.rules.specs.Cell.{oddFace}
 use Rattle.rules.specs.Rims.{rims}
@@ -29,7 +30,7 @@ inner-point n a p e =
     record { i = omega arith; j = omega arith; k = omega arith }
 
 -- ---- a buffer without a byte above 15 that holds marks on inner edges
-module _ (n : ℕ) (E : Set) (inside : (a : Axis) (p : Point) → E a p ≡ true → inner n a p ≡ true) (h : List ℕ)
+module _ (n : ℕ) (E : Set) (inside : AllInner n E) (h : List ℕ)
     (small : (p : Point) → OfGrid n p → getD h (pointNumber n p) 0 ≤ 15) (holds : (a : Axis) (p : Point) → OfGrid n p → stored n h a p ≡ E a p) where
   good-byte : (p : Point) → OfGrid n p → goodByte n h p ≡ true
   good-byte p o = both _ _ (leb-yes _ 15 (small p o)) (both _ _ (marked X) (both _ _ (marked Y) (marked Z)))
@@ -51,7 +52,7 @@ module _ (n : ℕ) (E : Set) (inside : (a : Axis) (p : Point) → E a p ≡ true
       go a p true e = holds a p (inner-point n a p e)
       go a p false e = sym (is-false (E a p) (λ t. true≢false (sym (inside a p t) ∙ e)))
 
-module _ (n : ℕ) (E : Set) (inside : (a : Axis) (p : Point) → E a p ≡ true → inner n a p ≡ true) where
+module _ (n : ℕ) (E : Set) (inside : AllInner n E) where
   bytes-small : (p : Point) → OfGrid n p → getD (bytes n E) (pointNumber n p) 0 ≤ 15
   bytes-small p o = let e = bytes-at n E p (o .i) (o .j) (o .k) in let m = byte-most E p in omega arith
 

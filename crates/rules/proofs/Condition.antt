@@ -3,7 +3,8 @@ use mathlib.Core.Path.{_≡_, subst, sym, _∙_}
 use mathlib.Core.Bool.{true}
 use mathlib.Core.List.{List}
 use Prim.Native.Nat.{ℕ}
-use Rattle.rules.specs.Lattice.{Axis, Point, Set, inner, setOf}
+use Rattle.rules.specs.Lattice.{Set, setOf}
+use Rattle.rules.specs.Inner.{AllInner}
 use Rattle.rules.specs.Grid.{bytes, marks, isGrid}
 use Rattle.rules.specs.Patch.{flips, patched}
 use Rattle.rules.specs.Signs.{sign}
@@ -15,7 +16,7 @@ use Rattle.rules.proofs.Patched.{patched-even, patched-inner, altered-i
 use Rattle.rules.proofs.Again.{read-back}
 
 -- for any n, and any marks on inner edges alone
-pub patched-repaired : (n : ℕ) (E : Set) → ((a : Axis) (p : Point) → E a p ≡ true → inner n a p ≡ true) → Repaired n E (patched n E)
+pub patched-repaired : (n : ℕ) (E : Set) → AllInner n E → Repaired n E (patched n E)
 unfolding patched
 patched-repaired n E inside =
     record {

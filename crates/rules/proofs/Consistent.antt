@@ -6,7 +6,8 @@ use mathlib.Core.Path.{ap, ap₂, refl, subst, sym, _∙_, _≡_}
 use Prim.Native.Nat.{suc, zero, ℕ, _<_}
 use native.Mathlib.Omega.{arith}
 use Rattle.rules.specs.Lists.{_⊕_}
-use Rattle.rules.specs.Lattice.{OfGrid, FaceOfGrid, earlier, later, coord, pointAt, up, Set, whole, inner, faceIn, Axis, X, Y, Z, Point}
+use Rattle.rules.specs.Lattice.{OfGrid, FaceOfGrid, earlier, later, coord, pointAt, up, Set, whole, faceIn, Axis, X, Y, Z, Point}
+use Rattle.rules.specs.Inner.{AllInner}
 use Rattle.rules.specs.Cell.{oddFace}
 use Rattle.rules.specs.Grid.{marks, isGrid}
 use Rattle.rules.specs.Rims.{evenFaces}
@@ -60,7 +61,7 @@ signs-exist n E = (λ c. consistent-even n E (c .0) (c .1), λ h. (sign E, sign-
 pub signs-one : (n : ℕ) (E : Set) (s t : Point → Bool) → Consistent n E s → Consistent n E t → (p : Point) → OfGrid n p → s p ≡ t p
 signs-one n E s t c d p o = sign-unique n E s c p o ∙ sym (sign-unique n E t d p o)
 
-module _ (n : ℕ) (E : Set) (inside : (a : Axis) (p : Point) → E a p ≡ true → inner n a p ≡ true) where
+module _ (n : ℕ) (E : Set) (inside : AllInner n E) where
   -- the same of marks on inner edges, with the test that finds an odd face
   pub signs-exist-inner : ((s : Point → Bool) × Consistent n E s) ↔ (evenFaces n E ≡ true)
   signs-exist-inner = (

@@ -10,7 +10,8 @@ use native.Mathlib.Omega.{arith}
 use lib.Dec.{eqb}
 use lib.ListN.{length}
 use Rattle.rules.specs.Lists.{keep, count, sumOf, upto}
-use Rattle.rules.specs.Lattice.{earlier, later, up, sameAxis, Set, isIn, edgeIn, whole, points, placesAt, places, Axis, X, Y, Z, Point, Face, Place}
+use Rattle.rules.specs.Lattice.{earlier, later, up, sameAxis, Set, isIn, whole, points, placesAt, places, Axis, X, Y, Z, Point, Face, Place}
+use Rattle.rules.specs.Inner.{AllInner}
 use Rattle.rules.specs.Cell.{faceEdges, faceMarks, isOdd}
 use Rattle.rules.specs.Rims.{oddFaces, facesWith, rimsOf, rims}
 use Rattle.rules.proofs.Bits.{is-false, eqb-yes, eqb-no}
@@ -96,7 +97,7 @@ sum-below n v h = sum-all (suc n) v ∙ cube ∙ sym (sum-all n v)
         (sum-nothing (row n n) (λ y. sum-nothing (λ x. v (at x y n)) (λ x. h (at x y n) (λ b. omega arith)) 0 n) 0 n)
 
 -- ---- the faces at coordinate n, which `places n` leaves out
-module _ (n : ℕ) (E : Set) (inner : (a : Axis) (p : Point) → E a p ≡ true → edgeIn (whole n) a p ≡ true) where
+module _ (n : ℕ) (E : Set) (inner : AllInner n E) where
   edge-below : (a : Axis) (p : Point) → E a p ≡ true → Below n p
   edge-below a p e =
       let k = inBox→ (whole n) (not (sameAxis a X)) (not (sameAxis a Y)) (not (sameAxis a Z)) p (inner a p e) in

@@ -5,17 +5,18 @@ use mathlib.Core.Logic.{_↔_}
 use mathlib.Core.Path.{subst, sym, _∙_, _≡_}
 use Prim.Native.Nat.{ℕ}
 use Rattle.rules.specs.Lists.{count, anyOf, All}
-use Rattle.rules.specs.Lattice.{Set, isIn, inner, samePlace, whole, down, Axis, Point, Box, Face, Sub}
+use Rattle.rules.specs.Lattice.{Set, isIn, samePlace, whole, down, Axis, Point, Box, Face, Sub}
+use Rattle.rules.specs.Inner.{AllInner}
 use Rattle.rules.specs.Cell.{oddFace}
 use Rattle.rules.specs.Rims.{oddFaces, elem, Chain, joins, rimsOf, rims, ownBox, boxOf}
 use Rattle.rules.proofs.Bits.{and-left, and-right, both}
 use Rattle.rules.proofs.Lists.{all-weaken, all-pair, all-keep}
 use Rattle.rules.proofs.Boxes.{inBox→}
 use Rattle.rules.proofs.Cells.{BothCells, face-cells}
-use Rattle.rules.proofs.Patched.{Inner, FaceOf, rims-all, box-all, odd-in, odd-inner}
+use Rattle.rules.proofs.Patched.{HasBelow, FaceOf, rims-all, box-all, odd-in, odd-inner}
 use Rattle.rules.proofs.Chains.{find, members, any-where, any-rims, one-rim, chain-in, rim-chain}
 use Rattle.rules.proofs.Cuts.{samePlace→}
-use Rattle.rules.proofs.RimBox.{eq6, box-holds, box-least}
+use Rattle.rules.proofs.RimBox.{same-box, box-holds, box-least}
 use Rattle.rules.proofs.OddList.{elem-odd}
 use Rattle.rules.proofs.FaceMarks.{odd-kept}
 
@@ -45,7 +46,7 @@ pub no-rim-empty : (n : ℕ) (E : Set) → All Some (rims n E)
 unfolding rims
 no-rim-empty n E = rims-some (oddFaces n E)
 
-smallest : (r : List Face) → Some r → All Inner r → Smallest r (boxOf r)
+smallest : (r : List Face) → Some r → All HasBelow r → Smallest r (boxOf r)
 smallest [] s h = absurd s
 smallest (f ∷ l) s h = record {
   holds = all-weaken (FaceOf (boxOf (f ∷ l))) _ (λ g e. face-cells (boxOf (f ∷ l)) (g .axis) (g .at) .0 e) (f ∷ l) (box-all (f ∷ l) h);
@@ -60,12 +61,12 @@ held r s h =
 
 pub box-same : (f g : Face) (r s : List Face) → ((h : Face) → elem h (f ∷ r) ≡ elem h (g ∷ s)) → boxOf (f ∷ r) ≡ boxOf (g ∷ s)
 box-same f g r s h =
-    eq6 (boxOf (f ∷ r)) (boxOf (g ∷ s))
+    same-box (boxOf (f ∷ r)) (boxOf (g ∷ s))
     (box-least f r (boxOf (g ∷ s)) (held (f ∷ r) (g ∷ s) (λ k e. sym (h k) ∙ e)))
     (box-least g s (boxOf (f ∷ r)) (held (g ∷ s) (f ∷ r) (λ k e. h k ∙ e)))
 
 -- ---- the rims of marks on inner edges
-module _ (n : ℕ) (E : Set) (inside : (a : Axis) (p : Point) → E a p ≡ true → inner n a p ≡ true) where
+module _ (n : ℕ) (E : Set) (inside : AllInner n E) where
   -- an odd face has two cells, both in the grid
   pub odd-cells : (a : Axis) (p : Point) → oddFace E a p ≡ true → BothCells (whole n) a p
   odd-cells a p e = face-cells (whole n) a p .0 (odd-in n E inside a p e)
@@ -95,4 +96,4 @@ module _ (n : ℕ) (E : Set) (inside : (a : Axis) (p : Point) → E a p ≡ true
   -- a rim's box is the smallest that holds both cells of each of its faces
   pub rim-box : All (λ r. Smallest r (boxOf r)) (rims n E)
   unfolding rims
-  rim-box = all-pair _ _ _ smallest (rims n E) (rims-some (oddFaces n E)) (rims-all Inner (oddFaces n E) (odd-inner n E inside))
+  rim-box = all-pair _ _ _ smallest (rims n E) (rims-some (oddFaces n E)) (rims-all HasBelow (oddFaces n E) (odd-inner n E inside))

@@ -5,7 +5,8 @@ use mathlib.Core.Logic.{_↔_}
 use mathlib.Core.Path.{ap, fun-ext, subst, sym, _∙_, _≡_}
 use Prim.Native.Nat.{ℕ}
 use Rattle.rules.specs.Lists.{_⊕_, count, All}
-use Rattle.rules.specs.Lattice.{samePlace, places, Set, isIn, setOf, edgeIn, whole, inner, Axis, Point, Place}
+use Rattle.rules.specs.Lattice.{samePlace, places, Set, isIn, setOf, inner, Axis, Point, Place}
+use Rattle.rules.specs.Inner.{AllInner}
 use Rattle.rules.specs.Cell.{oddFace}
 use Rattle.rules.specs.Rims.{oddFaces, evenFaces, elem, rims}
 use Rattle.rules.specs.Patch.{flips, patched}
@@ -17,7 +18,7 @@ use Rattle.rules.proofs.Chains.{find}
 use Rattle.rules.proofs.Scan.{setOf-elem, set-rims}
 use Rattle.rules.proofs.FaceMarks.{odd-list, odd-kept, even-list}
 
-module _ (n : ℕ) (E : Set) (inner : (a : Axis) (p : Point) → E a p ≡ true → edgeIn (whole n) a p ≡ true) where
+module _ (n : ℕ) (E : Set) (inner : AllInner n E) where
   -- the list has exactly the odd faces
   pub elem-odd : (f : Place) → elem f (oddFaces n E) ≡ oddFace E (f .axis) (f .at)
   elem-odd f = same-test (elem f (oddFaces n E)) (oddFace E (f .axis) (f .at))

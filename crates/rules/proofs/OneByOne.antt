@@ -4,7 +4,8 @@ use mathlib.Core.List.{List, [], _++_, _∷_}
 use mathlib.Core.Path.{ap, refl, sym, _∙_, _≡_}
 use Prim.Native.Nat.{ℕ}
 use Rattle.rules.specs.Lists.{_⊕_, parity, All}
-use Rattle.rules.specs.Lattice.{samePlace, Set, setOf, edgeIn, whole, Axis, Point, Place}
+use Rattle.rules.specs.Lattice.{samePlace, Set, setOf, Axis, Point, Place}
+use Rattle.rules.specs.Inner.{AllInner}
 use Rattle.rules.specs.Cell.{oddFace}
 use Rattle.rules.specs.Rims.{oddFaces, rims}
 use Rattle.rules.specs.Patch.{patchRim, flips, patched}
@@ -59,7 +60,7 @@ mended-odd E (r ∷ rs) h a p =
     (oddFace-symdiff E (setOf (patchRim r)) a p ∙ ap (λ (x : Bool). oddFace E a p ⊕ x) (h .0 a p))
     ∙ ⊕-assoc (oddFace E a p) (setOf r a p) (parity (λ s. setOf s a p) rs)
 
-module _ (n : ℕ) (E : Set) (inner : (a : Axis) (p : Point) → E a p ≡ true → edgeIn (whole n) a p ≡ true) where
+module _ (n : ℕ) (E : Set) (inner : AllInner n E) where
   -- the odd faces are those of the rims
   odd-rims : (a : Axis) (p : Point) → oddFace E a p ≡ parity (λ r. setOf r a p) (rims n E)
   unfolding rims

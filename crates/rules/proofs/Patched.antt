@@ -7,6 +7,7 @@ use native.Mathlib.Omega.{arith}
 use Rattle.rules.specs.Lists.{_⊕_, parity, keep, anyOf, All, each}
 use Rattle.rules.specs.Lattice.{Axis, X, Y, Z, Point, Place, Box, earlier, later, sameAxis, coord, up, samePlace, places}
 use Rattle.rules.specs.Lattice.{Set, isIn, setOf, faceIn, edgeIn, whole, inner, Sub}
+use Rattle.rules.specs.Inner.{AllInner}
 use Rattle.rules.specs.Cell.{oddFace, oddCell}
 use Rattle.rules.specs.Rims.{oddFaces, joins, rimsOf, rims, ownBox, boxOf}
 use Rattle.rules.specs.Patch.{size, patchRim, flips, patched, patchOf}
@@ -29,15 +30,15 @@ abbrev pub FaceOf : Box → Place → Type 0
 FaceOf b f = faceIn b (f .axis) (f .at) ≡ true
 
 -- a face that has a cell below it
-abbrev pub Inner : Place → Type 0
-Inner f = 0 < coord (f .axis) (f .at)
+abbrev pub HasBelow : Place → Type 0
+HasBelow f = 0 < coord (f .axis) (f .at)
 
 up-all : (a : Axis) (p : Point) → coord a (up X (up Y (up Z p))) ≡ suc (coord a p)
 up-all X p = refl
 up-all Y p = refl
 up-all Z p = refl
 
-own-at : (f : Place) → Inner f → FaceOf (ownBox f) f
+own-at : (f : Place) → HasBelow f → FaceOf (ownBox f) f
 own-at f h =
     let d = down-coord (f .axis) (f .at) in
     let x = up-all (f .axis) (f .at) in
@@ -46,7 +47,7 @@ own-at f h =
     face← (ownBox f) (f .axis) (f .at) (omega arith)
 
 -- each face of a rim has both its cells in the rim's box
-pub box-all : (r : List Place) → All Inner r → All (FaceOf (boxOf r)) r
+pub box-all : (r : List Place) → All HasBelow r → All (FaceOf (boxOf r)) r
 box-all r h =
     all-pair _ _ _ (λ f s i. sub-in (ownBox f) (boxOf r) s (sameAxis (f .axis) X) (sameAxis (f .axis) Y) (sameAxis (f .axis) Z) (f .at)
     (own-at f i)) r (box-holds r) h
@@ -59,7 +60,7 @@ within-own b r h a p = go (setOf r a p) refl
     go false e = &&-false (faceIn b a p)
 
 -- the odd faces of a rim's patch are the rim
-pub rim-ends : (r : List Place) → All Inner r → ((p : Point) → oddCell (setOf r) p ≡ false) → (a : Axis) (p : Point) →
+pub rim-ends : (r : List Place) → All HasBelow r → ((p : Point) → oddCell (setOf r) p ≡ false) → (a : Axis) (p : Point) →
     oddFace (setOf (patchRim r)) a p ≡ setOf r a p
 unfolding patchRim patchOf
 rim-ends r h e a p =
@@ -117,7 +118,7 @@ module _ (n : ℕ) (F : Set) (even : (a : Axis) (p : Point) → oddFace F a p �
   even-still = fun-ext (λ a. fun-ext (λ p. ap (λ (l : List Place). F a p ⊕ setOf l a p) even-flips ∙ ⊕-false (F a p)))
 
 -- ---- the grid
-module _ (n : ℕ) (E : Set) (inner : (a : Axis) (p : Point) → E a p ≡ true → edgeIn (whole n) a p ≡ true) where
+module _ (n : ℕ) (E : Set) (inner : AllInner n E) where
   -- an odd face has both its cells in the grid
   pub odd-in : (a : Axis) (p : Point) → oddFace E a p ≡ true → faceIn (whole n) a p ≡ true
   odd-in a p e = and-left (faceIn (whole n) a p) (oddFace E a p) (oddFace-set (whole n) E inner a p ∙ e)
@@ -129,7 +130,7 @@ module _ (n : ℕ) (E : Set) (inner : (a : Axis) (p : Point) → E a p ≡ true 
       ∙ listed n (oddFace E) (λ d q e. let k = faceIn→ (whole n) d q (odd-in d q e) in omega arith) a p
 
   -- each of them has a cell below it
-  pub odd-inner : All Inner (oddFaces n E)
+  pub odd-inner : All HasBelow (oddFaces n E)
   odd-inner =
       all-weaken _ _ (λ f e. let k = face→ (whole n) (f .axis) (f .at) (odd-in (f .axis) (f .at) e) in omega arith) (oddFaces n E) (odd-kept n E)
 
@@ -138,7 +139,7 @@ module _ (n : ℕ) (E : Set) (inner : (a : Axis) (p : Point) → E a p ≡ true 
   unfolding rims
   rims-ends =
       all-pair _ _ _ (λ r h e a p. rim-ends r h e a p) (rims n E)
-      (rims-all Inner (oddFaces n E) odd-inner)
+      (rims-all HasBelow (oddFaces n E) odd-inner)
       (all-swap (λ q r. oddCell (setOf r) q ≡ false) (rims n E)
       (rims-even (oddFaces n E) (λ q. ap (λ (F : Set). oddCell F q) (fun-ext (λ d. fun-ext (λ s. odd-listed d s))) ∙ cell-even E q)))
 

@@ -23,8 +23,8 @@ pub join-right : (b c : Box) → Sub c (joinBox b c)
 join-right b c = omega arith
 
 -- two boxes each in the other are the same
-pub eq6 : (a b : Box) → Sub a b → Sub b a → a ≡ b
-eq6 a b h k = λ i. record {
+pub same-box : (a b : Box) → Sub a b → Sub b a → a ≡ b
+same-box a b h k = λ i. record {
   lo =
       record {
         i = (let q : a .lo .i ≡ b .lo .i = omega arith in q) i;

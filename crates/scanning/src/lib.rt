@@ -1,7 +1,7 @@
 // The marking scan: only the cells that the triangle's own box touches, row by row, and at each the three table edges at its
 // lowest corner.
+use corner_marks::mark_cell;
 use corners::NUMBERS;
-use corners::mark_cell;
 use lattice::level::Level;
 use meeting::box_of;
 use meeting::is_bare;

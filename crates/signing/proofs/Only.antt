@@ -10,7 +10,8 @@ use lib.Seq.{take-at, drop-at}
 use Rattle.rules.specs.declared.Axis.{Axis}
 use Rattle.rules.specs.declared.Point.{Point}
 use Rattle.rules.specs.Lists.{_⊕_}
-use Rattle.rules.specs.Lattice.{up, origin, pointNumber, pointCount, points, inner, OfGrid, Set}
+use Rattle.rules.specs.Lattice.{up, origin, pointNumber, pointCount, points, OfGrid, Set}
+use Rattle.rules.specs.Inner.{AllInner}
 use Rattle.rules.specs.Grid.{value, has, byteAt, saysInside, inside, signedByte, marks, isGrid}
 use Rattle.rules.specs.Rims.{evenFaces}
 use Rattle.rules.specs.Signs.{sign, Consistent, signBytes}
@@ -71,7 +72,7 @@ module _ (n : ℕ) (E : Set) where
       (grid-byte n s long grid p h ∙ ap (λ (F : Set). byteAt F p) e) (sign-unique n E (inside n s) k p h)))
 
 -- the bytes of marks on inner edges, with their signs, are a grid
-module _ (n : ℕ) (E : Set) (inner-only : (a : Axis) (p : Point) → E a p ≡ true → inner n a p ≡ true) (r : List ℕ) where
+module _ (n : ℕ) (E : Set) (inner-only : AllInner n E) (r : List ℕ) where
   small : (p : Point) → OfGrid n p → getD (signBytes n E ++ r) (pointNumber n p) 0 ≤ 15
   small p h = subst (λ (k : ℕ). k ≤ 15) (sym (sign-byte n E r p h)) (signed-most E (sign E) p)
 

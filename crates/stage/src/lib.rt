@@ -93,7 +93,7 @@ pub extern "C" fn omphirun_mark_all(
         (markAllCall level (now (grid .entry)) (now (triangles .entry)) (now (totals .entry))) ⌝ }
 {
     tell_mark_all(
-        list_marking::mark_all(level, grid, triangles, totals),
+        list_call::mark_all(level, grid, triangles, totals),
         place,
         axis,
     )
@@ -319,7 +319,7 @@ pub extern "C" fn omphirun_accept(
         (record { number = r; yes = now (yes .exit); grid = now (grid .exit); work = now (work .exit) })
         (acceptCall level (now (list .entry)) (now (grid .entry)) (now (work .entry))) ⌝ }
 {
-    tell_accept(accepting::accept(level, list, grid, work), yes)
+    tell_accept(accept_call::accept(level, list, grid, work), yes)
 }
 
 // Masks (level, grid, bytes): writes a picture of each layer of points, one behind another, and returns the number of bytes.

@@ -1,14 +1,14 @@
 // Where a model stands on the plate, as it is asked for: e and the shift, and its least and greatest results.
+use choosing::choose;
+use choosing::fits_at;
+use choosing::greatest_at;
+use choosing::least_at;
+use choosing::near_at;
+use choosing::shift_at;
 use heading::Three;
 use lattice::level::Level;
 use measuring::Extent;
 use placing::Choice;
-use placing::choose;
-use placing::fits_at;
-use placing::greatest_at;
-use placing::least_at;
-use placing::near_at;
-use placing::shift_at;
 use shifting::Shift;
 ghost use mathlib.Core.Path.{_≡_};
 ghost use Prim.Native.Nat.{_≤_};

@@ -86,7 +86,8 @@ module _ (all t : ℕ) (x : Extent) (block rest : List ℕ) (at : ℕ) where
       looked : measured (all - t) (left ++ rest) t x ≡ then (all - (t + 1)) (left ++ rest) t o
       looked =
           rw one-less
-          (measured-one (all - (t + 1)) t (left ++ rest) x whole ∙ ap (then (all - (t + 1)) (left ++ rest) t) (ap (λ (y : List ℕ). lookedAt y x) ahead ∙ sym is))
+          (measured-one (all - (t + 1)) t (left ++ rest) x whole
+          ∙ ap (then (all - (t + 1)) (left ++ rest) t) (ap (λ (y : List ℕ). lookedAt y x) ahead ∙ sym is))
 
       -- 12: a number that is not finite
       pub seen-not : o ≡ Without → measured (all - t) (left ++ rest) t x ≡ Refused 12

@@ -70,4 +70,5 @@ module _ (v : Shift) where
   pub moved-all : (c : List ℤ) (k : ℕ) → length c ≡ k → take k c ++ movedFrom v k (drop k c) ≡ c
   unfolding movedFrom
   moved-all c k e =
-      ap (λ (l : List ℤ). take k c ++ movedFrom v k l) (drop-of-length-le c {i = k} (omega (arith, e))) ∙ append-nil (take k c) ∙ take-all k c (omega (arith, e))
+      ap (λ (l : List ℤ). take k c ++ movedFrom v k l) (drop-of-length-le c {i = k} (omega (arith, e))) ∙ append-nil (take k c)
+      ∙ take-all k c (omega (arith, e))

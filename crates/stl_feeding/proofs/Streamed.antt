@@ -88,7 +88,7 @@ module _ (e : ℤ) (v : Shift) where
   unfolding streamOf
   stream-none s = refl
 
-  stream-length : (n : ℕ) (s : List ℕ) → length (streamOf e v n s) ≡ 36 * n
+  pub stream-length : (n : ℕ) (s : List ℕ) → length (streamOf e v n s) ≡ 36 * n
   unfolding streamOf
   stream-length zero s = refl
   stream-length (suc n) s =

@@ -48,7 +48,8 @@ module _ (l : Level) (e : ℤ) (v : Shift) (r g : List ℕ) (f : Fault) (n : len
   recorded-mark clear c is k g′ m =
       record {
         number-is = m .number-is ∙ ap (λ (x : List ℤ). markCall (numberOf l) g x lentTotals .number) is
-            ∙ sym (record-is (numberOf l) e v r g f n h ∙ ap (λ (j : Fault). orNumber (faultNumber j) (markCall (numberOf l) g (placed e v r) lentTotals .number)) clear);
+            ∙ sym (record-is (numberOf l) e v r g f n h
+            ∙ ap (λ (j : Fault). orNumber (faultNumber j) (markCall (numberOf l) g (placed e v r) lentTotals .number)) clear);
         grid-is = λ z. m .grid-is ∙ ap (λ (x : List ℤ). markCall (numberOf l) g x lentTotals .grid) is;
         ready = m .ready;
       }

@@ -2,7 +2,7 @@
 use measuring::Extent;
 use measuring::widen;
 use stl_reading::vertices::Vertex;
-use stl_triangles::vertices::vertex_at;
+use stl_vertices::vertex_at;
 ghost use mathlib.Core.Path.{_≡_};
 ghost use Prim.Native.Nat.{_≤_, _+_};
 ghost use lib.ListN.{length};

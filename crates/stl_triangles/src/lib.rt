@@ -1,3 +1,2 @@
-// Reads the vertices of a binary STL file, tells the first fault and puts the triangles into a list.
+// Tells the first fault of a binary STL file and puts its triangles into a list.
 pub mod triangles;
-pub mod vertices;

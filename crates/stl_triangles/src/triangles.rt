@@ -1,7 +1,7 @@
 // The triangles of a file, one behind another.
-use crate::vertices::fault_at;
-use crate::vertices::put_vertex;
 use stl_reading::vertices::Fault;
+use stl_vertices::fault_at;
+use stl_vertices::put_vertex;
 ghost use mathlib.Core.Path.{_≡_};
 ghost use mathlib.Core.List.{_++_};
 ghost use Prim.Native.Nat.{_≤_, _+_, _*_};

@@ -3,11 +3,10 @@ use mathlib.Core.Path.{_≡_, refl, sym, ap, _∙_}
 use mathlib.Core.Bool.{Bool, true, false}
 use mathlib.Core.List.{List, [], _∷_}
 use Prim.Native.Nat.{ℕ, suc, _+_, _-_, _*_, _/_, _^_, _≤_, _<_}
-use native.Mathlib.Decide.{decLe}
 use native.Mathlib.Omega.{arith}
 use lib.IntN.{ℤ}
 use lib.ListN.{length, take}
-use lib.Pow.{pow-add, pow-mono}
+use lib.Pow.{pow-add}
 use Rattle.rules.specs.declared.Point.{Point}
 use Rattle.rules.specs.declared.Place.{Place}
 use Rattle.rules.specs.Lists.{count, keep, each, All}
@@ -19,7 +18,7 @@ use Rattle.rules.proofs.Numbers.{points-length}
 use Rattle.lattice.specs.declared.level.Level.{Level}
 use Rattle.lattice.specs.Cells.{Cell}
 use Rattle.lattice.specs.Levels.{numberOf, cellsOf, sideOf}
-use Rattle.lattice.proofs.LevelFacts.{cells-most, side-whole, count-is, count-most}
+use Rattle.lattice.proofs.LevelFacts.{number-most, cells-most, side-whole, count-is, count-most}
 use Rattle.surfacing.specs.Listing.{quadCount}
 use Rattle.surfacing.proofs.Exist.{quad-cells}
 use Rattle.stl_reading.specs.Call.{readCall}
@@ -113,16 +112,6 @@ module _ (level : ℕ) (g : List ℕ) (e : ℤ) (out : List ℕ) (done : writeCa
       ap (count (isGoing a b)) all ∙ facets-one-way (sideOf v) e n g (inside n g) (w .signed) a b ∙ sym (ap (count (isGoing b a)) all)
 
 -- ---- c is even at every level, so that c / 2 is its half: S is a multiple of four
-number-most : (v : Level) → numberOf v ≤ 5
-number-most v = go (decLe (numberOf v) 5)
-  where
-    go : Dec (numberOf v ≤ 5) → numberOf v ≤ 5
-    go (yes h) = h
-    go (no h) =
-        let l : 6 ≤ numberOf v = omega (arith, h) in
-        let m : 2 ^ 6 ≤ 2 ^ numberOf v = pow-mono {i = 6} {j = numberOf v} l in
-        absurd (omega (arith, m, cells-most v))
-
 side-fours : (k : ℕ) → 2 ≤ k → 2 ^ k ≡ 4 * 2 ^ (k - 2)
 side-fours k h =
     let e : 2 + (k - 2) ≡ k = omega arith in

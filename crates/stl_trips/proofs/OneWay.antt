@@ -14,7 +14,7 @@ use Rattle.rules.specs.Grid.{marks}
 use Rattle.rules.specs.Quads.{next, quadCells, quads}
 use Rattle.rules.specs.Signs.{Consistent}
 use Rattle.rules.proofs.Bits.{&&-comm}
-use Rattle.rules.proofs.Lists.{all-weaken, all-kept, each-map, map-each}
+use Rattle.rules.proofs.Lists.{all-weaken, all-kept, each-map, map-each, count-map}
 use Rattle.rules.proofs.Numbers.{marks-inner}
 use Rattle.rules.proofs.PointOf.{pointOf-number}
 use Rattle.rules.proofs.Same.{each-same}
@@ -27,7 +27,7 @@ use Rattle.surfacing.proofs.Quads.{each-each}
 use Rattle.stl_records.specs.File.{facing, facings}
 use Rattle.stl_trips.specs.Facets.{facets}
 use Rattle.stl_trips.specs.Turning.{Corner, Going, sameCorner, isGoing, cornerBits, facetGoings}
-use Rattle.stl_trips.proofs.Reversed.{flip, count-map, halves, halves-turned}
+use Rattle.stl_trips.proofs.Reversed.{flip, halves, halves-turned}
 
 -- a cell from its number
 cell-back : (n : ℕ) (p : Point) → Cell n p → pointOf (pred n) (cellNumber n p) ≡ p

@@ -9,6 +9,7 @@ use lib.Dec.{eqb}
 use Rattle.rules.specs.Lists.{count, sumOf, each}
 use Rattle.rules.specs.Grid.{value}
 use Rattle.rules.proofs.Bits.{both, and-left, and-right, eqb-yes, eqb→, &&-comm}
+use Rattle.rules.proofs.Lists.{count-map}
 use Rattle.rules.proofs.Sums.{count-sum, count-each, sum-plus}
 use Rattle.surfacing.specs.Sides.{Four, Step, sides, isStep}
 
@@ -19,11 +20,6 @@ flip t = record { from = t .to; to = t .from }
 cond-value : (b : Bool) (k : ℕ) → cond b (suc k) k ≡ value b 1 + k
 cond-value true k = omega arith
 cond-value false k = omega arith
-
-module _ {A B : Type 0} where
-  pub count-map : (w : B → Bool) (f : A → B) (l : List A) → count w (map f l) ≡ count (λ x. w (f x)) l
-  count-map w f [] = refl
-  count-map w f (x ∷ l) = ap (λ (k : ℕ). cond (w (f x)) (suc k) k) (count-map w f l)
 
 -- ---- lists with every step as often
 -- the list without the first step that is t

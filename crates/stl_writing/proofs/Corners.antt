@@ -14,7 +14,7 @@ use Rattle.rules.specs.Lattice.{coord, down, inner}
 use Rattle.rules.specs.Quads.{next, quadCells}
 use Rattle.lattice.specs.Cells.{Cell}
 use Rattle.lattice.proofs.PointSteps.{pred-most}
-use Rattle.surfacing.proofs.Around.{Inside, inner→, down-other}
+use Rattle.surfacing.proofs.Around.{InnerEdge, inner→, down-other}
 use Rattle.stl_records.specs.declared.Vertex.{Vertex}
 use Rattle.stl_records.specs.Records.{Placed, cornerOf, normalOf, pairBytes}
 use Rattle.stl_records.specs.File.{facing, quadBytes}

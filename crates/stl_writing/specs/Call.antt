@@ -12,7 +12,8 @@ use Rattle.refusals.specs.Reasons.{numberOf}
 use Rattle.refusals.specs.Columns.{badLevel, levelAt, someShort}
 use Rattle.rounding.specs.Scales.{badScale}
 use Rattle.surfacing.specs.Fit.{signsFit}
-use Rattle.stl_records.specs.File.{Facing, facings, fileOf}
+use Rattle.stl_records.specs.File.{Facing, fileOf}
+use Rattle.stl_writing.specs.Listing.{facingsIn}
 use Rattle.stl_writing.specs.declared.WriteAnswer.{WriteAnswer}
 use Rattle.stl_writing.specs.declared.WriteAnswer.the-variants.{Done, Refused}
 
@@ -48,9 +49,7 @@ written side e l out = answered (8 when shortFile side e l out ∷ []) (refused 
 
 -- the quads of a grid and its signs, at a level's cells a side
 abbrev pub quadsIn : ℕ → List ℕ → List Facing
-quadsIn level g =
-    let n = cellsOf (levelAt level) in
-    facings n (marks n g) (inside n g)
+quadsIn level g = facingsIn (cellsOf (levelAt level)) g
 
 -- when it is refused: surface's own, with 14 after 2, and 8 when the byte buffer is short
 unfoldable pub writeRows : ℕ → List ℕ → ℤ → List ℕ → List Row

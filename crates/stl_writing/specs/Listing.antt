@@ -2,17 +2,27 @@
 use mathlib.Core.Path.{_≡_}
 use mathlib.Core.Bool.{Bool, true, cond}
 use mathlib.Core.List.{List, []}
-use Prim.Native.Nat.{ℕ, _<_}
+use Prim.Native.Nat.{ℕ, _+_, _<_}
 use lib.IntN.{ℤ}
+use lib.ListN.{length}
 use Rattle.rules.specs.declared.Axis.{Axis}
 use Rattle.rules.specs.declared.Point.{Point}
 use Rattle.rules.specs.declared.Place.{Place}
 use Rattle.rules.specs.Lists.{each}
 use Rattle.rules.specs.Lattice.{coord, placesAt}
-use Rattle.rules.specs.Grid.{has}
+use Rattle.rules.specs.Grid.{has, marks, inside}
 use Rattle.rules.specs.Quads.{next}
+use Rattle.octets.specs.Octets.{puts}
 use Rattle.stl_records.specs.Records.{Placed}
-use Rattle.stl_records.specs.File.{facing, quadBytes}
+use Rattle.stl_records.specs.File.{Facing, facing, facings, quadBytes}
+
+-- the quads of a grid of n cells a side, by its marks and signs
+abbrev pub facingsIn : ℕ → List ℕ → List Facing
+facingsIn n g = facings n (marks n g) (inside n g)
+
+-- bytes were put at a place, and the next go behind them
+abbrev pub PutAt : List ℕ → ℕ → List ℕ → List ℕ → ℕ → Type 0
+PutAt before at bytes after next = (next ≡ at + length bytes) × (after ≡ puts before at bytes)
 
 -- the edge along an axis at a point
 abbrev pub edge : Axis → Point → Place

@@ -8,7 +8,7 @@ use lattice::level::Level;
 use lattice::level::LevelRead;
 use listing::put_quads;
 use octets::put_word;
-use quad_listing::quads::count_quads;
+use quads::count_quads;
 use refusals::Refusal;
 use rounding::Scale;
 use rounding::scale_of;
@@ -17,11 +17,12 @@ ghost use mathlib.Core.Bool.{true};
 ghost use Prim.Native.Nat.{_≤_, _*_};
 ghost use lib.ListN.{length};
 ghost use Rattle.rules.specs.Lattice.{pointCount};
-ghost use Rattle.rules.specs.Grid.{marks, inside, isGrid};
+ghost use Rattle.rules.specs.Grid.{isGrid};
 ghost use Rattle.octets.specs.Octets.{puts};
 ghost use Rattle.rounding.specs.Scales.{exponentOf};
-ghost use Rattle.stl_records.specs.File.{header, facings};
+ghost use Rattle.stl_records.specs.File.{header};
 ghost use Rattle.stl_writing.specs.Call.{told, written, writeCall};
+ghost use Rattle.stl_writing.specs.Listing.{facingsIn};
 
 // What the call answers: done, with the number of bytes written, or why not.
 pub enum WriteAnswer {
@@ -41,7 +42,7 @@ fn put_header(out: &mut [u8], triangles: u32)
 // Writes the file of a grid whose cells are `side` wide, with s for e + 20, if the buffer has room for it.
 fn write_file(n: usize, side: usize, s: u32, grid: &[u8], out: &mut [u8]) -> WriteAnswer
     requires { ⌜ (n ≤ 32) × (n * side ≡ 1048576) × (s ≤ 40) × (pointCount n ≤ length (now grid)) × (isGrid n (now grid) ≡ true) ⌝ }
-    ensures { λ r. ⌜ told r (now (out .exit)) ≡ written side (exponentOf s) (facings n (marks n (now (grid .entry))) (inside n (now (grid .entry)))) (now (out .entry)) ⌝ }
+    ensures { λ r. ⌜ told r (now (out .exit)) ≡ written side (exponentOf s) (facingsIn n (now (grid .entry))) (now (out .entry)) ⌝ }
 {
     let quads = count_quads(n, grid);
     let bytes = 84 + 100 * quads;

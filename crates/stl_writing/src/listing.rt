@@ -4,24 +4,24 @@ use lattice::byte::bit;
 use lattice::byte::is_inside;
 use lattice::byte::low;
 use lattice::level::point_count;
-use quad_listing::quads::next;
+use quads::next;
 use rules::Axis;
 use rules::Point;
-use stl_records::corner;
-use stl_records::normal;
-use stl_records::put_pair;
+use stl_quads::corner;
+use stl_quads::normal;
+use stl_quads::put_pair;
 ghost use mathlib.Core.Path.{_≡_};
 ghost use mathlib.Core.Bool.{true};
 ghost use Prim.Native.Nat.{_+_, _*_, _≤_, _<_};
 ghost use lib.ListN.{length};
 ghost use Rattle.rules.specs.Lists.{each};
 ghost use Rattle.rules.specs.Lattice.{coord, down, pointCount};
-ghost use Rattle.rules.specs.Grid.{has, marks, inside, isGrid};
+ghost use Rattle.rules.specs.Grid.{has, marks, isGrid};
 ghost use Rattle.surfacing.specs.Listing.{quadCount};
 ghost use Rattle.octets.specs.Octets.{puts};
 ghost use Rattle.rounding.specs.Scales.{exponentOf};
-ghost use Rattle.stl_records.specs.File.{facing, facings, quadBytes};
-ghost use Rattle.stl_writing.specs.Listing.{Surrounded, MarksSurrounded, edge, byteEdge, byteEdges};
+ghost use Rattle.stl_records.specs.File.{facing, quadBytes};
+ghost use Rattle.stl_writing.specs.Listing.{facingsIn, PutAt, Surrounded, MarksSurrounded, edge, byteEdge, byteEdges};
 
 // The cell one step down an axis.
 fn down(p: Point, a: Axis) -> Point
@@ -77,8 +77,9 @@ fn put_edge(
     out: &mut [u8],
     at: usize,
 ) -> usize
-    requires { ⌜ (4 ≤ side) × (s ≤ 40) × (has a b ≡ true → Surrounded side a q) × (at + length (byteEdge side (exponentOf s) b upward a q) ≤ length (now out)) ⌝ }
-    ensures { λ r. ⌜ (r ≡ at + length (byteEdge side (exponentOf s) b upward a q)) × (now (out .exit) ≡ puts (now (out .entry)) at (byteEdge side (exponentOf s) b upward a q)) ⌝ }
+    requires { ⌜ (4 ≤ side) × (s ≤ 40) × (has a b ≡ true → Surrounded side a q)
+        × (at + length (byteEdge side (exponentOf s) b upward a q) ≤ length (now out)) ⌝ }
+    ensures { λ r. ⌜ PutAt (now (out .entry)) at (byteEdge side (exponentOf s) b upward a q) (now (out .exit)) r ⌝ }
 {
     if !bit(b, a) {
         return at;
@@ -90,7 +91,7 @@ fn put_edge(
 // Puts the quads of the three edges at the point q, b being its byte, and answers where the next one goes. Most points have no mark.
 fn put_edges(side: usize, s: u32, b: u8, upward: bool, q: Point, out: &mut [u8], at: usize) -> usize
     requires { ⌜ (4 ≤ side) × (s ≤ 40) × MarksSurrounded side b q × (at + length (byteEdges side (exponentOf s) b upward q) ≤ length (now out)) ⌝ }
-    ensures { λ r. ⌜ (r ≡ at + length (byteEdges side (exponentOf s) b upward q)) × (now (out .exit) ≡ puts (now (out .entry)) at (byteEdges side (exponentOf s) b upward q)) ⌝ }
+    ensures { λ r. ⌜ PutAt (now (out .entry)) at (byteEdges side (exponentOf s) b upward q) (now (out .exit)) r ⌝ }
 {
     if low(b) == 0 {
         return at;
@@ -104,7 +105,7 @@ fn put_edges(side: usize, s: u32, b: u8, upward: bool, q: Point, out: &mut [u8],
 pub fn put_quads(n: usize, side: usize, s: u32, grid: &[u8], out: &mut [u8])
     requires { ⌜ (n ≤ 32) × (n * side ≡ 1048576) × (s ≤ 40) × (pointCount n ≤ length (now grid)) × (isGrid n (now grid) ≡ true) ⌝ }
     requires { ⌜ 84 + 100 * quadCount n (marks n (now grid)) ≤ length (now out) ⌝ }
-    ensures { λ _. ⌜ now (out .exit) ≡ puts (now (out .entry)) 84 (each (quadBytes side (exponentOf s)) (facings n (marks n (now (grid .entry))) (inside n (now (grid .entry))))) ⌝ }
+    ensures { λ _. ⌜ now (out .exit) ≡ puts (now (out .entry)) 84 (each (quadBytes side (exponentOf s)) (facingsIn n (now (grid .entry)))) ⌝ }
 {
     let count = point_count(n);
     let mut q = Point { i: 0, j: 0, k: 0 };

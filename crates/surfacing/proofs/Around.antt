@@ -21,12 +21,12 @@ use Rattle.lattice.proofs.PointSteps.{pred-pos}
 use Rattle.surfacing.specs.Listing.{cellStep, MarksInner}
 
 -- an inner edge has cells on both sides of it, on both axes across it
-pub record Inside (n : ℕ) (a : Axis) (p : Point) : Type 0 where
+pub record InnerEdge (n : ℕ) (a : Axis) (p : Point) : Type 0 where
   pub cell : Cell n p
   pub on-next : 0 < coord (next a) p
   pub on-last : 0 < coord (next (next a)) p
 
-pub inner→ : (n : ℕ) (a : Axis) (p : Point) → inner n a p ≡ true → Inside n a p
+pub inner→ : (n : ℕ) (a : Axis) (p : Point) → inner n a p ≡ true → InnerEdge n a p
 inner→ n X p e = let b = inBox→ (whole n) false true true p e in omega arith
 inner→ n Y p e = let b = inBox→ (whole n) true false true p e in omega arith
 inner→ n Z p e = let b = inBox→ (whole n) true true false p e in omega arith

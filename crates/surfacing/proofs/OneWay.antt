@@ -15,6 +15,7 @@ use Rattle.rules.specs.declared.Point.{Point}
 use Rattle.rules.specs.declared.Place.{Place}
 use Rattle.rules.specs.Lists.{_⊕_, count, sumOf, anyOf, All}
 use Rattle.rules.specs.Lattice.{coord, up, cellNumber, samePlace, places, OfGrid, Set, isIn, inner}
+use Rattle.rules.specs.Inner.{AllInner}
 use Rattle.rules.specs.Cell.{faceEdges, faceMarks}
 use Rattle.rules.specs.Grid.{value, marks}
 use Rattle.rules.specs.Quads.{next, quads}
@@ -28,7 +29,7 @@ use Rattle.rules.proofs.Numbers.{marks-inner}
 use Rattle.surfacing.specs.Listing.{quadCount}
 use Rattle.surfacing.specs.Call.{surfaceDone}
 use Rattle.surfacing.specs.Sides.{Four, fours, Step, sides, allSides, isStep, steps, hasSide, sharing, Neighbours, OneWay}
-use Rattle.surfacing.proofs.Around.{Inside, inner→}
+use Rattle.surfacing.proofs.Around.{InnerEdge, inner→}
 use Rattle.surfacing.proofs.Quads.{quads-length}
 use Rattle.surfacing.proofs.Fours.{quadOf, quads-sum, quads-all}
 use Rattle.surfacing.proofs.Crossed.{Between, upward, first-edge, second-edge, third-edge, fourth-edge}
@@ -37,11 +38,11 @@ use Rattle.surfacing.proofs.Round.{under, value-plus, share, round-face
 use Rattle.surfacing.proofs.Round.{four-edges, two-or-four, sum-four}
 
 -- ---- the quads of marks on inner edges, with signs that differ across an edge exactly when it is marked
-module _ (n : ℕ) (E : Set) (s : Point → Bool) (marked : (a : Axis) (p : Point) → E a p ≡ true → inner n a p ≡ true) (k : Consistent n E s) where
+module _ (n : ℕ) (E : Set) (s : Point → Bool) (marked : AllInner n E) (k : Consistent n E s) where
   abbrev list : List ℕ
   list = quads n E s
 
-  around-marked : (e : Place) → isIn E e ≡ true → Inside n (e .axis) (e .at)
+  around-marked : (e : Place) → isIn E e ≡ true → InnerEdge n (e .axis) (e .at)
   around-marked e m = inner→ n (e .axis) (e .at) (marked (e .axis) (e .at) m)
 
   -- the steps from c to d, edge by edge

@@ -17,7 +17,7 @@ use Rattle.rules.proofs.Sums.{count-sum}
 use Rattle.lattice.specs.Cells.{Cell}
 use Rattle.lattice.proofs.PointSteps.{up-down, down-cell}
 use Rattle.surfacing.specs.Sides.{four, Step, sides, isStep, Neighbours}
-use Rattle.surfacing.proofs.Around.{Inside, down-other, down-last}
+use Rattle.surfacing.proofs.Around.{InnerEdge, down-other, down-last}
 use Rattle.surfacing.proofs.Crossed.{Between, across, at, downward, round, sides-inside, sides-outside, up-not-down, up-same, upward}
 use Rattle.surfacing.proofs.Crossed.{first-face, second-face, third-face, fourth-face, first-edge, second-edge, third-edge, fourth-edge}
 use Rattle.surfacing.proofs.Crossed.{first-there, first-back, fourth-there, fourth-back}
@@ -44,7 +44,7 @@ turned-back n a p t c d = count-sum (isStep d c) (sides (four n t a p)) ∙ go t
     go false = four-swapped _ _ _ _
 
 -- each of the four faces lies between two cells
-module _ (n : ℕ) (a : Axis) (p : Point) (k : Inside n a p) where
+module _ (n : ℕ) (a : Axis) (p : Point) (k : InnerEdge n a p) where
   first-between : Between n (first-face (at a p))
   first-between = record { cell = down-cell n (next (next a)) p (k .cell); above = subst (λ (m : ℕ). 1 ≤ m) (sym (down-other (next a) p)) (k .on-next) }
 
@@ -62,7 +62,7 @@ four-tests : (w : Step → Bool) (x y z t : Step) {a b c d : Bool} → w x ≡ a
 four-tests w x y z t p q r s =
     count-sum w (x ∷ (y ∷ (z ∷ (t ∷ [])))) ∙ (λ i. value (p i) 1 + (value (q i) 1 + (value (r i) 1 + (value (s i) 1 + 0))))
 
-module _ (n : ℕ) (f : Place) (h : Between n f) (a : Axis) (p : Point) (k : Inside n a p) where
+module _ (n : ℕ) (f : Place) (h : Between n f) (a : Axis) (p : Point) (k : InnerEdge n a p) where
   abbrev lo : ℕ
   lo = upward n f .from
 
@@ -120,7 +120,7 @@ joined n g b =
       record { axis = a; low = low; low-cell = c; high-cell = d; numbers = inr (refl, ap (cellNumber n) (sym there)) },
     )
 
-pub sides-join : (n : ℕ) (a : Axis) (p : Point) → Inside n a p → (t : Bool) → All (λ r. Neighbours n (r .from) (r .to)) (sides (four n t a p))
+pub sides-join : (n : ℕ) (a : Axis) (p : Point) → InnerEdge n a p → (t : Bool) → All (λ r. Neighbours n (r .from) (r .to)) (sides (four n t a p))
 sides-join n a p k true =
     subst (All (λ r. Neighbours n (r .from) (r .to))) (sym (sides-inside n a p)) (
       joined n _ (first-between n a p k) .0,

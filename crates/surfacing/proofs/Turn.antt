@@ -14,7 +14,7 @@ use Rattle.rules.specs.Grid.{marks}
 use Rattle.rules.specs.Quads.{next, quadCells}
 use Rattle.rules.proofs.Numbers.{marks-inner}
 use Rattle.surfacing.specs.Turn.{sumAround, forward, backward, counterclockwise}
-use Rattle.surfacing.proofs.Around.{Inside, inner→, down-other, down-last}
+use Rattle.surfacing.proofs.Around.{InnerEdge, inner→, down-other, down-last}
 use Rattle.lattice.proofs.PointSteps.{pred-pos}
 
 -- the coordinates of the cells below, on the two axes across the edge
@@ -38,7 +38,7 @@ more : (x y : ℕ) → x ≡ y + 8 → ltb y x ≡ true
 more x y e = lt-ltb y x (omega arith)
 
 -- twice the area is 8 in half cells, which is one face of a cell; it is counted forward when the lower end is inside, else backward
-module _ (n : ℕ) (a : Axis) (p : Point) (k : Inside n a p) where
+module _ (n : ℕ) (a : Axis) (p : Point) (k : InnerEdge n a p) where
   pub area-inside : forward a (quadCells (λ q. true) (record { axis = a; at = p })) ≡ backward a (quadCells (λ q. true) (record { axis = a; at = p })) + 8
   area-inside =
       let b = next a in

@@ -1,22 +1,23 @@
 -- What stands in the buffers, and how much of each is written. Assumes nothing.
 use mathlib.Core.Path.{_≡_}
 use mathlib.Core.List.{List, _++_}
-use Prim.Native.Nat.{ℕ, _*_, _≤_}
+use Prim.Native.Nat.{ℕ, suc, _≤_}
 use lib.ListN.{length, take}
 use Rattle.lattice.specs.declared.level.Level.{Level}
-use Rattle.lattice.specs.Levels.{numberOf}
-use Rattle.rounding.specs.Scales.{exponentOf}
-use Rattle.shifting.specs.declared.Shift.{Shift}
-use Rattle.surfacing.specs.Call.{surfaceCall}
-use Rattle.stl_writing.specs.Call.{writeCall}
-use Rattle.moving.specs.Moved.{movedFile}
-use Rattle.job_parts.specs.Parts.{halves}
-use Rattle.text.specs.Listing.{refusedLine}
-use Rattle.reporting.specs.Report.{unless}
+use Rattle.rules.specs.Lists.{count}
+use Rattle.rules.specs.Lattice.{points}
+use Rattle.rules.specs.Grid.{inside}
+use Rattle.lattice.specs.Levels.{numberOf, cellsOf}
+use Rattle.masks.specs.Mask.{masks}
+use Rattle.picture.specs.declared.Drawn.the-variants.{Inside}
+use Rattle.picture.specs.Picture.{drawn, picture}
+use Rattle.reporting.specs.Report.{lentBytes}
+use Rattle.reporting.specs.Close.{Closed}
+use Rattle.heading.specs.declared.PlateHead.{PlateHead}
+use Rattle.heading.specs.Head.{plateHead}
 use Rattle.standing.specs.declared.Standing.{Standing}
 use Rattle.telling.specs.declared.Parts.{Parts}
-use Rattle.telling.specs.declared.Surface.{Surface}
-use Rattle.telling.specs.declared.Surface.the-variants.{Done, Refused}
+use Rattle.telling.specs.declared.Views.{Views}
 use Rattle.telling.specs.Told.{toldOf}
 
 -- so many bytes of the first buffer, and nothing else
@@ -38,23 +39,23 @@ pub record Fits (head faces layers masks quads file : List ℕ) (p : Parts) : Ty
   pub in-quads : p .quads ≤ length quads
   pub in-file : p .file ≤ length file
 
--- surface and write_stl are done, and the quads and the moved file stand in their buffers
-pub record Whole (level s : ℕ) (v : Shift) (g list file : List ℕ) (q b : ℕ) (quads′ file′ : List ℕ) : Type 0 where
-  pub listed : surfaceCall level g list .number ≡ 0
-  pub written : writeCall level g (exponentOf s) file .number ≡ 0
-  pub count-is : q ≡ surfaceCall level g list .quads
-  pub bytes-are : b ≡ writeCall level g (exponentOf s) file .bytes
-  pub few : 4 * q ≤ length list
-  pub quads-fit : 8 * q ≤ length quads′
-  pub file-fits : b ≤ length file′
-  pub quads-are : take (8 * q) quads′ ≡ halves (take (4 * q) (surfaceCall level g list .list))
-  pub file-is : file′ ≡ movedFile (exponentOf s) v (2 * q) (writeCall level g (exponentOf s) file .file)
+-- patch and sign are done, with work bytes that are lent
+pub record ClosedBy (l : Level) (g : List ℕ) (rims flips ones threes : ℕ) (h : List ℕ) : Type 0 where
+  pub work : List ℕ
+  pub closed : Closed l g lentBytes rims flips ones threes h work
 
--- what is done with a surface, or the first number that it is refused by
-abbrev pub Surfaced : ℕ → ℕ → Shift → List ℕ → List ℕ → List ℕ → Surface → List ℕ → List ℕ → Type 0
-Surfaced level s v g list file (Done q b) quads′ file′ = Whole level s v g list file q b quads′ file′
-Surfaced level s v g list file (Refused k) quads′ file′ =
-    (next : List ℕ) → unless (surfaceCall level g list .number) (unless (writeCall level g (exponentOf s) file .number) next) ≡ refusedLine k
+-- the layers and the masks of a closed grid stand in their buffers, and its points inside are counted
+pub record Viewed (l : Level) (h layers pictures : List ℕ) (v : Views) : Type 0 where
+  pub layers-are : take (v .layers) layers ≡ picture (cellsOf l) (drawn Inside (cellsOf l) h)
+  pub masks-are : take (v .masks) pictures ≡ masks (cellsOf l) (inside (cellsOf l) h)
+  pub inside-is : v .inside ≡ count (inside (cellsOf l) h) (points (suc (cellsOf l)))
+  pub in-layers : v .layers ≤ length layers
+  pub in-masks : v .masks ≤ length pictures
+
+-- the five lines stand in a buffer
+pub record Lined (p : PlateHead) (head : List ℕ) (k : ℕ) : Type 0 where
+  pub lines-are : take k head ≡ plateHead p
+  pub in-head : k ≤ length head
 
 -- what is written is what is told of a grid with the marks of t triangles
 pub record Tells (l : Level) (t : ℕ) (at : Standing) (g head faces layers masks quads file : List ℕ) (p : Parts) : Type 0 where

@@ -8,8 +8,9 @@ use native.Mathlib.Omega.{arith}
 use lib.IntN.{ℤ}
 use lib.ListN.{length, getD, set, take, drop, length-append, List·getD-append}
 use lib.Seq.{length-take-le, take-all, getD-drop, take-suc-set}
-use Rattle.rules.specs.Lists.{All, upto}
+use Rattle.rules.specs.Lists.{upto}
 use Rattle.rules.proofs.Lists.{all-below}
+use Rattle.rules.proofs.Same.{map-same}
 use Rattle.octets.specs.Octets.{wordAt}
 use Rattle.text.specs.Words.{signedOf, numberAt, numbers}
 
@@ -24,11 +25,6 @@ module _ {A : Type 0} (f : ℕ → A) where
   map-length : (i k : ℕ) → length (map f (upto i k)) ≡ k
   map-length i zero = refl
   map-length i (suc k) = ap suc (map-length (suc i) k)
-
-module _ {A B : Type 0} where
-  map-same : (f g : A → B) (l : List A) → All (λ x. f x ≡ g x) l → map f l ≡ map g l
-  map-same f g [] h = refl
-  map-same f g (x ∷ l) h = λ i. h .0 i ∷ map-same f g l (h .1) i
 
 -- a word of what is left of a list from a place on
 pub word-drop : (s : List ℕ) (at k : ℕ) → wordAt s (at + k) ≡ wordAt (drop at s) k

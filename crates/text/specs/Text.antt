@@ -3,7 +3,7 @@ use mathlib.Core.Path.{_≡_}
 use mathlib.Core.Bool.{cond}
 use mathlib.Core.List.{List, [], _∷_, _++_}
 use Prim.Native.Char.{code}
-use Prim.Native.Nat.{ℕ, zero, suc, _+_, _/_, _%_}
+use Prim.Native.Nat.{ℕ, zero, suc, _+_, _/_, _%_, _≤_}
 use Prim.Native.String.{String, [] as empty, _∷_ as _then_}
 use lib.Dec.{ltb}
 use lib.IntN.{ℤ, pos, negsuc}
@@ -39,6 +39,10 @@ pub record Put (before : List ℕ) (at : ℕ) (text after : List ℕ) (next : �
   pub place : next ≡ at + length text
   pub holds : take next after ≡ take at before ++ text
   pub behind : drop next after ≡ drop next before
+
+-- a text was put at the front of a buffer, which holds all of it
+abbrev pub PutFirst : List ℕ → List ℕ → List ℕ → ℕ → Type 0
+PutFirst before text after next = Put before 0 text after next × (next ≤ length after)
 
 -- a text and a number behind it
 abbrev pub field : String → ℕ → List ℕ

@@ -6,7 +6,7 @@ ghost use mathlib.Core.Path.{_≡_};
 ghost use Prim.Native.Nat.{_≤_, _<_, _+_, _*_};
 ghost use lib.ListN.{length};
 ghost use Rattle.rules.specs.Lists.{each, upto};
-ghost use Rattle.text.specs.Text.{Put};
+ghost use Rattle.text.specs.Text.{Put, PutFirst};
 ghost use Rattle.text.specs.Listing.{refusedLine, facesLine, quadLine, head, listing};
 
 // What was done: the numbers of the listing's first two lines.
@@ -71,7 +71,7 @@ fn put_head(
 // Puts the whole listing, and answers its length.
 pub fn put_listing(out: &mut [u8], done: Repaired, list: &[u16]) -> usize
     requires { ⌜ (106 + 26 * done .quads ≤ length (now out)) × (4 * done .quads ≤ length (now list)) ⌝ }
-    ensures { λ r. ⌜ Put (now (out .entry)) 0 (listing done (now (list .entry))) (now (out .exit)) r × (r ≤ length (now (out .exit))) ⌝ }
+    ensures { λ r. ⌜ PutFirst (now (out .entry)) (listing done (now (list .entry))) (now (out .exit)) r ⌝ }
 {
     let quads = done.quads as usize;
     let at = put_head(
@@ -99,7 +99,7 @@ pub fn put_faces(out: &mut [u8], at: usize, ones: u32, threes: u32) -> usize
 // Puts a refusal alone, and answers its length.
 pub fn put_refusal(out: &mut [u8], number: u32) -> usize
     requires { ⌜ 106 ≤ length (now out) ⌝ }
-    ensures { λ r. ⌜ Put (now (out .entry)) 0 (refusedLine number) (now (out .exit)) r × (r ≤ length (now (out .exit))) ⌝ }
+    ensures { λ r. ⌜ PutFirst (now (out .entry)) (refusedLine number) (now (out .exit)) r ⌝ }
 {
     let next = put_field(out, 0, b"refused ", number);
     put_text(out, next, b"\n")

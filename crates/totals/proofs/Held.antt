@@ -42,8 +42,8 @@ sum-split f i (suc a) b =
     rw (e, k) (omega arith)
 
 -- a range in which nothing counts
-sum-nought : (f : ℕ → ℕ) (i k : ℕ) → ((j : ℕ) → Bounds i (i + k) j → f j ≡ 0) → sumOf f (upto i k) ≡ 0
-sum-nought f i k h = sum-same f (λ j. 0) (upto i k) (all-weaken _ _ h (upto i k) (all-upto i k)) ∙ none (upto i k)
+sum-none : (f : ℕ → ℕ) (i k : ℕ) → ((j : ℕ) → Bounds i (i + k) j → f j ≡ 0) → sumOf f (upto i k) ≡ 0
+sum-none f i k h = sum-same f (λ j. 0) (upto i k) (all-weaken _ _ h (upto i k) (all-upto i k)) ∙ none (upto i k)
   where
     none : (l : List ℕ) → sumOf (λ j. 0) l ≡ 0
     none [] = refl
@@ -59,9 +59,9 @@ along-block f n c h =
     let e : suc n ≡ 4 * c + (min (4 * c + 4) (n + 1) - 4 * c + (suc n - min (4 * c + 4) (n + 1))) = omega arith in
     let off : (i : ℕ) → (i / 4 ≡ c → ⊥) → g i ≡ 0 = λ i q. ap (λ (b : Bool). value b (f i)) (eqb-no (i / 4) c q) in
     let on : (i : ℕ) → i / 4 ≡ c → g i ≡ f i = λ i q. ap (λ (b : Bool). value b (f i)) (eqb-yes (i / 4) c q) in
-    let u = sum-nought g 0 lo (λ i b. off i (λ (q : i / 4 ≡ c). let z : ⊥ = omega (arith, b .high) in z)) in
+    let u = sum-none g 0 lo (λ i b. off i (λ (q : i / 4 ≡ c). let z : ⊥ = omega (arith, b .high) in z)) in
     let m = sum-same g f (upto lo w) (all-weaken _ _ (λ i b. on i (omega (arith, b .low, b .high))) (upto lo w) (all-upto lo w)) in
-    let v = sum-nought g (0 + lo + w) (suc n - min (4 * c + 4) (n + 1))
+    let v = sum-none g (0 + lo + w) (suc n - min (4 * c + 4) (n + 1))
     (λ i b. off i (λ (q : i / 4 ≡ c). let z : ⊥ = omega (arith, b .low, b .high) in z)) in
     let s = sum-split g 0 lo (w + (suc n - min (4 * c + 4) (n + 1))) in
     let r = sum-split g (0 + lo) w (suc n - min (4 * c + 4) (n + 1)) in

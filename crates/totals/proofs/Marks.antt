@@ -57,7 +57,7 @@ pub blank-true : (n : ℕ) (g t : List ℕ) → pointCount n ≤ length g → is
 blank-true n g t gl gg none long =
     let h = held-start n (marksAt n g) t long in
     held-end n g t (replicate (blockCount n) 0 ++ drop (blockCount n) t) long
-    (record { long = h .long; past = h .past; counts = λ c o. let e = h .counts c o in let z = nought c in omega (arith, e, z) })
+    (record { long = h .long; past = h .past; counts = λ c o. let e = h .counts c o in let z = no-share c in omega (arith, e, z) })
   where
     bare : (p : Point) → OfGrid n p → marksAt n g p ≡ 0
     bare p o = marks-by-set n g gl gg p o ∙ ap (λ (E : Set). value (E X p) 1 + (value (E Y p) 1 + value (E Z p) 1)) none
@@ -70,8 +70,8 @@ blank-true n g t gl gg none long =
     zeros [] = refl
     zeros (p ∷ l) = let e = zeros l in omega arith
 
-    nought : (c : Point) → sumOf (share (marksAt n g) c) (points (suc n)) ≡ 0
-    nought c =
+    no-share : (c : Point) → sumOf (share (marksAt n g) c) (points (suc n)) ≡ 0
+    no-share c =
         sum-same (share (marksAt n g) c) (λ p. 0) (points (suc n))
         (all-points _ (suc n) (λ p x y z. still (samePoint (blockOf p) c) (marksAt n g p)
         (bare p (record { i = omega arith; j = omega arith; k = omega arith }))))

@@ -178,7 +178,8 @@ pub fn count_held(n: usize, grid: &[u8], table: &mut [u16])
 // Looks at every byte of a buffer, as `read_grid` does, and counts the totals of all blocks in the same scan.
 pub fn read_held(n: usize, grid: &[u8], table: &mut [u16]) -> GridRead
     requires { ⌜ (n ≤ 32) × (pointCount n ≤ length (now grid)) × (blockCount n ≤ length (now table)) ⌝ }
-    ensures { λ r. ⌜ (r ≡ readOf n (now (grid .entry))) × (isGrid n (now (grid .entry)) ≡ true → now (table .exit) ≡ trued n (now (grid .entry)) (now (table .entry))) ⌝ }
+    ensures { λ r. ⌜ (r ≡ readOf n (now (grid .entry)))
+        × (isGrid n (now (grid .entry)) ≡ true → now (table .exit) ≡ trued n (now (grid .entry)) (now (table .entry))) ⌝ }
 {
     clear_totals(n, table);
     let count = point_count(n);

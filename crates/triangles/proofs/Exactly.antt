@@ -9,7 +9,7 @@ use lib.ListN.{length, getD}
 use Rattle.triangles.specs.declared.Vector.{Vector}
 use Rattle.triangles.specs.declared.Triangle.{Triangle}
 use Rattle.triangles.specs.declared.Ends.{Ends}
-use Rattle.triangles.specs.Vectors.{nought}
+use Rattle.triangles.specs.Vectors.{zeroVector}
 use Rattle.triangles.specs.Axes.{axes, units, sides, crossEach, crossed}
 use Rattle.triangles.specs.Meets.{separates, noneSeparates, edgeMet}
 
@@ -18,7 +18,7 @@ unfolding axes units crossed crossEach sides
 thirteen t = refl
 
 module _ (t : Triangle) (e : Ends) where
-  each-clear : (l : List Vector) → noneSeparates l t e ≡ true → (k : ℕ) → k < length l → separates (getD l k nought) t e ≡ false
+  each-clear : (l : List Vector) → noneSeparates l t e ≡ true → (k : ℕ) → k < length l → separates (getD l k zeroVector) t e ≡ false
   unfolding noneSeparates
   each-clear [] h k b = absurd (not-suc-le-zero b)
   each-clear (n ∷ l) h zero b = first (separates n t e) h
@@ -32,18 +32,18 @@ module _ (t : Triangle) (e : Ends) where
       rest true g = absurd (false≢true g)
       rest false g = g
 
-  all-clear : (l : List Vector) → ((k : ℕ) → k < length l → separates (getD l k nought) t e ≡ false) → noneSeparates l t e ≡ true
+  all-clear : (l : List Vector) → ((k : ℕ) → k < length l → separates (getD l k zeroVector) t e ≡ false) → noneSeparates l t e ≡ true
   unfolding noneSeparates
   all-clear [] f = refl
   all-clear (n ∷ l) f = rw (f zero (suc-le-suc zero-le)) (all-clear l (λ k b. f (suc k) (suc-le-suc b)))
 
   -- no axis separates, if the edge is met; and it is met, if no axis separates
-  pub met-exactly : (edgeMet t e ≡ true) ↔ ((k : ℕ) → k < 13 → separates (getD (axes t) k nought) t e ≡ false)
+  pub met-exactly : (edgeMet t e ≡ true) ↔ ((k : ℕ) → k < 13 → separates (getD (axes t) k zeroVector) t e ≡ false)
   unfolding edgeMet axes units crossed crossEach sides
   met-exactly = (each-clear (axes t), all-clear (axes t))
 
   -- an axis that separates is enough
-  pub separated-not-met : (k : ℕ) → k < 13 → separates (getD (axes t) k nought) t e ≡ true → edgeMet t e ≡ false
+  pub separated-not-met : (k : ℕ) → k < 13 → separates (getD (axes t) k zeroVector) t e ≡ true → edgeMet t e ≡ false
   separated-not-met k b s = go (edgeMet t e) refl
     where
       go : (m : Bool) → edgeMet t e ≡ m → m ≡ false

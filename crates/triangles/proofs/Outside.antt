@@ -10,7 +10,7 @@ use lib.Signed.{_≤ℤ_, _<ℤ_}
 use Rattle.triangles.specs.declared.Span.{Span}
 use Rattle.triangles.specs.declared.Triangle.{Triangle}
 use Rattle.triangles.specs.declared.Ends.{Ends}
-use Rattle.triangles.specs.Vectors.{nought, along}
+use Rattle.triangles.specs.Vectors.{zeroVector, along}
 use Rattle.triangles.specs.Spans.{before, apart}
 use Rattle.triangles.specs.Axes.{units, normal, crossed, axes}
 use Rattle.triangles.specs.Meets.{separates, edgeMet}
@@ -19,9 +19,9 @@ use Rattle.triangles.proofs.Order.{lt-true, ≤ℤ-<ℤ-trans, of-lesse
 use Rattle.triangles.proofs.Exactly.{separated-not-met}
 
 -- the first three axes are the unit vectors
-axis-unit : (t : Triangle) (d : ℕ) → d < 3 → getD (axes t) d nought ≡ getD units d nought
+axis-unit : (t : Triangle) (d : ℕ) → d < 3 → getD (axes t) d zeroVector ≡ getD units d zeroVector
 unfolding axes units
-axis-unit t d h = List·getD-append units (normal t ∷ crossed t) nought d h
+axis-unit t d h = List·getD-append units (normal t ∷ crossed t) zeroVector d h
 
 -- spans on the two sides of a number are apart
 left-apart : (s u : Span) (m : ℤ) → s .high ≤ℤ m → m <ℤ u .low → apart s u ≡ true
@@ -33,7 +33,7 @@ unfolding apart
 right-apart s u m h k = simp (lt-true (≤ℤ-<ℤ-trans h k)) (or-true (before s u))
 
 module _ (t : Triangle) (e : Ends) (d : ℕ) (h : d < 3) (m : ℤ) where
-  unit-enough : separates (getD units d nought) t e ≡ true → edgeMet t e ≡ false
+  unit-enough : separates (getD units d zeroVector) t e ≡ true → edgeMet t e ≡ false
   unit-enough s = separated-not-met t e d (omega arith) (rw (axis-unit t d h) s)
 
   -- no vertex reaches past m, and both ends lie past it

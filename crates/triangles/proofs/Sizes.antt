@@ -6,7 +6,7 @@ use lib.IntN.{pos}
 use lib.ListN.{getD}
 use Rattle.triangles.specs.declared.Vector.{Vector}
 use Rattle.triangles.specs.declared.Triangle.{Triangle}
-use Rattle.triangles.specs.Vectors.{Each, Size, OnLattice, Terms, latticeMost, axisMost, dotMost, nought, minus, cross, dot}
+use Rattle.triangles.specs.Vectors.{Each, Size, OnLattice, Terms, latticeMost, axisMost, dotMost, zeroVector, minus, cross, dot}
 use Rattle.triangles.specs.Axes.{units, sides, normal, crossEach, crossed, axes}
 use Rattle.triangles.specs.Meets.{Inside}
 use Rattle.triangles.specs.Keeping.{laterAxes}
@@ -48,7 +48,7 @@ abbrev pub All : (Vector → Type 0) → List Vector → Type 0
 All P [] = Unit
 All P (v ∷ l) = P v × All P l
 
-pub all-at : (P : Vector → Type 0) (l : List Vector) → P nought → All P l → (k : ℕ) → P (getD l k nought)
+pub all-at : (P : Vector → Type 0) (l : List Vector) → P zeroVector → All P l → (k : ℕ) → P (getD l k zeroVector)
 all-at P [] z h k = z
 all-at P (v ∷ l) z h zero = h .0
 all-at P (v ∷ l) z h (suc k) = all-at P l z (h .1) k
@@ -61,8 +61,8 @@ all-append P (v ∷ l) m h k = (h .0, all-append P l m (h .1) k)
 literal : {m : ℕ} {n : ℕ} → T (leb n m) → Size m (pos n)
 literal {m} {n} t = record { most = leb→le n m t }
 
-nought-size : Each (Size latticeMost) nought
-nought-size = record { on-x = literal tt; on-y = literal tt; on-z = literal tt }
+zero-size : Each (Size latticeMost) zeroVector
+zero-size = record { on-x = literal tt; on-y = literal tt; on-z = literal tt }
 
 units-size : All (Each (Size latticeMost)) units
 unfolding units
@@ -96,26 +96,26 @@ pub normal-size : {t : Triangle} → Inside t → Each (Size axisMost) (normal t
 unfolding normal
 normal-size h = cross-size (minus-size (h .b-in) (h .a-in)) (minus-size (h .c-in) (h .a-in))
 
-pub side-size : {t : Triangle} (k : ℕ) → Inside t → Each (Size latticeMost) (getD (sides t) k nought)
-side-size {t} k h = all-at (Each (Size latticeMost)) (sides t) nought-size (sides-size h) k
+pub side-size : {t : Triangle} (k : ℕ) → Inside t → Each (Size latticeMost) (getD (sides t) k zeroVector)
+side-size {t} k h = all-at (Each (Size latticeMost)) (sides t) zero-size (sides-size h) k
 
 all-crossed : {t : Triangle} → Inside t → All (Each (Size axisMost)) (crossed t)
 unfolding crossed
 all-crossed {t} h = cross-each-size units (sides t) units-size (sides-size h)
 
 -- every axis behind the unit vectors stays within 2^41 in size
-pub later-size : {t : Triangle} (k : ℕ) → Inside t → Each (Size axisMost) (getD (laterAxes t) k nought)
+pub later-size : {t : Triangle} (k : ℕ) → Inside t → Each (Size axisMost) (getD (laterAxes t) k zeroVector)
 unfolding laterAxes
-later-size {t} k h = all-at (Each (Size axisMost)) (normal t ∷ crossed t) (wider nought-size) (normal-size h, all-crossed h) k
+later-size {t} k h = all-at (Each (Size axisMost)) (normal t ∷ crossed t) (wider zero-size) (normal-size h, all-crossed h) k
 
 -- every axis of the thirteen stays within 2^41 in size
-pub axis-size : {t : Triangle} (k : ℕ) → Inside t → Each (Size axisMost) (getD (axes t) k nought)
+pub axis-size : {t : Triangle} (k : ℕ) → Inside t → Each (Size axisMost) (getD (axes t) k zeroVector)
 unfolding axes units
 axis-size {t} k h =
     let u = units-size in
-    all-at (Each (Size axisMost)) (axes t) (wider nought-size)
+    all-at (Each (Size axisMost)) (axes t) (wider zero-size)
     (wider (u .0), (wider (u .1 .0), (wider (u .1 .1 .0), (normal-size h, all-crossed h)))) k
 
 -- and its dot product with a place on the lattice within 3 * 2^61
-pub axis-dot-size : {t : Triangle} {v : Vector} (k : ℕ) → Inside t → OnLattice v → Size dotMost (dot (getD (axes t) k nought) v)
+pub axis-dot-size : {t : Triangle} {v : Vector} (k : ℕ) → Inside t → OnLattice v → Size dotMost (dot (getD (axes t) k zeroVector) v)
 axis-dot-size k h p = dot-size (axis-size k h) p

@@ -9,7 +9,7 @@ use Rattle.triangles.specs.declared.Vector.{Vector}
 use Rattle.triangles.specs.declared.Span.{Span}
 use Rattle.triangles.specs.declared.Triangle.{Triangle}
 use Rattle.triangles.specs.declared.Ends.{Ends}
-use Rattle.triangles.specs.Vectors.{nought, dot}
+use Rattle.triangles.specs.Vectors.{zeroVector, dot}
 use Rattle.triangles.specs.Spans.{spanAt, spanWith, apart, Holds}
 use Rattle.triangles.specs.Axes.{axes}
 use Rattle.triangles.specs.Meets.{triangleSpan, edgeSpan, separates, edgeMet}
@@ -67,6 +67,6 @@ ends-held n e =
 
 -- and an edge whose spans share a number with the triangle's on each axis is met
 pub touching-meets : (t : Triangle) (e : Ends) (p : ℕ → ℤ) →
-    ((k : ℕ) → k < 13 → Holds (triangleSpan (getD (axes t) k nought) t) (p k) × Holds (edgeSpan (getD (axes t) k nought) e) (p k)) → edgeMet t e ≡ true
+    ((k : ℕ) → k < 13 → Holds (triangleSpan (getD (axes t) k zeroVector) t) (p k) × Holds (edgeSpan (getD (axes t) k zeroVector) e) (p k)) → edgeMet t e ≡ true
 unfolding separates
 touching-meets t e p h = met-exactly t e .1 (λ k b. touching-not-apart (h k b .0) (h k b .1))

@@ -46,8 +46,8 @@ abbrev pub vector : ℤ → ℤ → ℤ → Vector
 vector x y z = record { x = x; y = y; z = z }
 
 -- The zero axis.
-abbrev pub nought : Vector
-nought = vector (pos 0) (pos 0) (pos 0)
+abbrev pub zeroVector : Vector
+zeroVector = vector (pos 0) (pos 0) (pos 0)
 
 -- The coordinate along x, y or z.
 unfoldable pub along : Vector → ℕ → ℤ

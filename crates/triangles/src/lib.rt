@@ -4,7 +4,7 @@ ghost use mathlib.Core.Path.{_≡_};
 ghost use Prim.Native.Nat.{ℕ, _<_};
 ghost use lib.IntN.{pos};
 ghost use lib.ListN.{getD};
-ghost use Rattle.triangles.specs.Vectors.{Each, Size, UpTo, OnLattice, Terms, latticeMost, axisMost, nought, along, minus, cross, dot};
+ghost use Rattle.triangles.specs.Vectors.{Each, Size, UpTo, OnLattice, Terms, latticeMost, axisMost, zeroVector, along, minus, cross, dot};
 ghost use Rattle.triangles.specs.Spans.{lesser, greater, spanAt, spanWith};
 ghost use Rattle.triangles.specs.Axes.{units, sides, normal, crossed};
 ghost use Rattle.triangles.specs.Meets.{Inside, triangleSpan};
@@ -60,7 +60,7 @@ impl Vector {
     pub fn unit_cross(self, d: usize) -> Vector
         requires { ⌜ Each (Size latticeMost) self ⌝ }
         requires { ⌜ d < 3 ⌝ }
-        ensures { λ r. ⌜ r ≡ cross (getD units d nought) self ⌝ }
+        ensures { λ r. ⌜ r ≡ cross (getD units d zeroVector) self ⌝ }
     {
         match d {
             0 => Vector {
@@ -160,7 +160,7 @@ impl Triangle {
     pub fn side(self, k: usize) -> Vector
         requires { ⌜ Inside self ⌝ }
         requires { ⌜ k < 3 ⌝ }
-        ensures { λ r. ⌜ r ≡ getD (sides self) k nought ⌝ }
+        ensures { λ r. ⌜ r ≡ getD (sides self) k zeroVector ⌝ }
     {
         match k {
             0 => self.b.minus(self.a),
@@ -183,7 +183,7 @@ impl Triangle {
     pub fn crossed(self, k: usize) -> Vector
         requires { ⌜ Inside self ⌝ }
         requires { ⌜ k < 9 ⌝ }
-        ensures { λ r. ⌜ r ≡ getD (crossed self) k nought ⌝ }
+        ensures { λ r. ⌜ r ≡ getD (crossed self) k zeroVector ⌝ }
     {
         self.side(k % 3).unit_cross(k / 3)
     }
@@ -203,7 +203,7 @@ impl Triangle {
     // Answers its span on a unit vector: a dot product with it is a coordinate.
     pub fn along(self, d: usize) -> Span
         requires { ⌜ d < 3 ⌝ }
-        ensures { λ r. ⌜ r ≡ triangleSpan (getD units d nought) self ⌝ }
+        ensures { λ r. ⌜ r ≡ triangleSpan (getD units d zeroVector) self ⌝ }
     {
         let p = self.a.along(d);
         let q = self.b.along(d);
@@ -215,7 +215,7 @@ impl Triangle {
     pub fn axis(self, k: usize) -> Vector
         requires { ⌜ Inside self ⌝ }
         requires { ⌜ k < 10 ⌝ }
-        ensures { λ r. ⌜ r ≡ getD (laterAxes self) k nought ⌝ }
+        ensures { λ r. ⌜ r ≡ getD (laterAxes self) k zeroVector ⌝ }
     {
         if k == 0 {
             return self.normal();
@@ -227,7 +227,7 @@ impl Triangle {
     pub fn kept(self, k: usize, s: i64) -> Kept
         requires { ⌜ Inside self ⌝ }
         requires { ⌜ (k < 10) × UpTo latticeMost s ⌝ }
-        ensures { λ r. ⌜ ((w : ℕ) → s ≡ pos w → r ≡ keptOf w (getD (laterAxes self) k nought) self) ⌝ }
+        ensures { λ r. ⌜ ((w : ℕ) → s ≡ pos w → r ≡ keptOf w (getD (laterAxes self) k zeroVector) self) ⌝ }
     {
         let n = self.axis(k);
         Kept {

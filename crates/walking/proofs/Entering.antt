@@ -68,10 +68,10 @@ module _ (n : ℕ) (F : Set) (w₀ : List ℕ) (seed : Point) (inside : (a : Axi
       where
         go : (getD w (pointNumber n d) 0 ≡ getD w₀ (pointNumber n d) 0) ⊎ New n F w₀ w seed d → seenB n w₀ d ≡ false
         go (inl e) = sym (seen-same n w₀ w _ e) ∙ unseen
-        go (inr k) = absurd (true≢false (sym (k .lit) ∙ unseen))
+        go (inr k) = absurd (true≢false (sym (k .seen-after) ∙ unseen))
 
     new : New n F w₀ u seed d
-    new = record { cell = cross .cell; dark = before; lit = see-seen n _ f small w size′ in-grid; route = over (old .route) f l odd }
+    new = record { cell = cross .cell; unseen-before = before; seen-after = see-seen n _ f small w size′ in-grid; joined = over (old .joined) f l odd }
 
     kept : (trailOf n u (s .walk .depth) c ≡ trailOf n w (s .walk .depth) c)
         × Trail n F w₀ seed u (s .walk .depth) c

@@ -111,7 +111,7 @@ module _ (n : ℕ) (F : Set) (w₀ : List ℕ) (seed : Point) (inside : (a : Axi
             )
 
     leave-unseen : unseenCells n u ≡ unseenCells n w
-    leave-unseen = unseen-leave n _ _ little w size″ (at .cell) (at .lit)
+    leave-unseen = unseen-leave n _ _ little w size″ (at .cell) (at .seen-after)
 
     -- ---- back to the cell before
     pub pop-inv : (k : ℕ) → s .walk .depth ≡ suc k → Inv n F w₀ seed (popOf n s)

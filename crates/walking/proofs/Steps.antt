@@ -55,7 +55,7 @@ module _ (n : ℕ) (F : Set) (w₀ : List ℕ) (seed : Point) (inside : (a : Axi
       in-grid = cell-grid n seed cell
 
       new : New n F w₀ (seeOf n seed 0 w₀) seed seed
-      new = record { cell = cell; dark = unseen; lit = see-seen n seed 0 zero-small w₀ size in-grid; route = here }
+      new = record { cell = cell; unseen-before = unseen; seen-after = see-seen n seed 0 zero-small w₀ size in-grid; joined = here }
 
       sub-self : (b : Box) → Sub b b
       sub-self b = omega arith
@@ -65,7 +65,7 @@ module _ (n : ℕ) (F : Set) (w₀ : List ℕ) (seed : Point) (inside : (a : Axi
         where
           go : (q ≡ seed) ⊎ New n F w₀ w₀ seed q → q ≡ seed
           go (inl e) = e
-          go (inr k) = absurd (true≢false (sym (k .lit) ∙ k .dark))
+          go (inr k) = absurd (true≢false (sym (k .seen-after) ∙ k .unseen-before))
 
   -- ---- one step
   pub step-live : (s : Walked) → Inv n F w₀ seed s → Live n F w₀ seed (stepOf n F s) ×

@@ -48,7 +48,7 @@ module _ (n : ℕ) (F : Set) (w₀ : List ℕ) (seed : Point) where
   -- a cell that has not been seen is not on the trail
   pub trail-seen : (w : List ℕ) (d : Point) → seenB n w d ≡ false → (k : ℕ) (c : Point) → Trail w k c → anyOf (samePoint d) (trailOf n w k c) ≡ false
   trail-seen w d e zero c h = is-false (samePoint d c || false)
-      (λ t. true≢false (sym (h .lit) ∙ ap (seenB n w) (sym (samePoint→ d c (one (samePoint d c) t))) ∙ e))
+      (λ t. true≢false (sym (h .seen-after) ∙ ap (seenB n w) (sym (samePoint→ d c (one (samePoint d c) t))) ∙ e))
     where
       one : (x : Bool) → x || false ≡ true → x ≡ true
       one true t = refl
@@ -57,7 +57,7 @@ module _ (n : ℕ) (F : Set) (w₀ : List ℕ) (seed : Point) where
     where
       go : (x : Bool) → samePoint d c ≡ x → anyOf (samePoint d) (trailOf n w k (backOf n w c)) ≡ false → x || anyOf (samePoint d)
           (trailOf n w k (backOf n w c)) ≡ false
-      go true t i = absurd (true≢false (sym (h .0 .new .lit) ∙ ap (seenB n w) (sym (samePoint→ d c t)) ∙ e))
+      go true t i = absurd (true≢false (sym (h .0 .new .seen-after) ∙ ap (seenB n w) (sym (samePoint→ d c t)) ∙ e))
       go false t i = i
 
   -- ---- a cell d is seen
@@ -69,7 +69,12 @@ module _ (n : ℕ) (F : Set) (w₀ : List ℕ) (seed : Point) where
     byte-on q h e = see-other n d v small w long b (pointNumber n q) (λ k. e (number-inj n q d h b k))
 
     pub new-on : (q : Point) → New n F w₀ w seed q → New n F w₀ (seeOf n d v w) seed q
-    new-on q h = record { cell = h .cell; dark = h .dark; lit = see-grows n d v small w long b q (cell-grid n q (h .cell)) (h .lit); route = h .route }
+    new-on q h = record {
+      cell = h .cell;
+      unseen-before = h .unseen-before;
+      seen-after = see-grows n d v small w long b q (cell-grid n q (h .cell)) (h .seen-after);
+      joined = h .joined;
+    }
 
     -- the rest of the trail stays as it is
     pub trail-on : (k : ℕ) (c : Point) → anyOf (samePoint d) (trailOf n w k c) ≡ false → Trail w k c →
@@ -102,7 +107,9 @@ module _ (n : ℕ) (F : Set) (w₀ : List ℕ) (seed : Point) where
       where
         go : Dec (pointNumber n q ≡ pointNumber n d) → (q ≡ d) ⊎ New n F w₀ w seed q
         go (yes e) = inl (number-inj n q d g b e)
-        go (no e) = absurd (true≢false (sym (h .lit) ∙ seen-same n w₀ (seeOf n d v w) q (see-other n d v small w long b (pointNumber n q) e ∙ k) ∙ h .dark))
+        go (no e) =
+            let same = seen-same n w₀ (seeOf n d v w) q (see-other n d v small w long b (pointNumber n q) e ∙ k) in
+            absurd (true≢false (sym (h .seen-after) ∙ same ∙ h .unseen-before))
 
     pub each-on : New n F w₀ (seeOf n d v w) seed d → (q : Point) → OfGrid n q → (getD w (pointNumber n q) 0 ≡ getD w₀ (pointNumber n q) 0) ⊎ New n
         F w₀ w seed q →

@@ -125,17 +125,17 @@ stepOf n F s =
 
 -- ---- what a walk from a seed has found
 
--- a way from the seed across faces of the set
-pub data Route (F : Set) (s : Point) : Point → Type 0 where
-  here : Route F s s
-  over : {q : Point} → Route F s q → (f : ℕ) → f < 6 → oddAt F f q ≡ true → Route F s (acrossOf f q)
+-- a cell that faces of the set join to the seed
+pub data Joined (F : Set) (s : Point) : Point → Type 0 where
+  here : Joined F s s
+  over : {q : Point} → Joined F s q → (f : ℕ) → f < 6 → oddAt F f q ≡ true → Joined F s (acrossOf f q)
 
 -- a cell that this walk has seen
 pub record New (n : ℕ) (F : Set) (w₀ w : List ℕ) (s : Point) (q : Point) : Type 0 where
   pub cell : Cell n q
-  pub dark : seenB n w₀ q ≡ false
-  pub lit : seenB n w q ≡ true
-  pub route : Route F s q
+  pub unseen-before : seenB n w₀ q ≡ false
+  pub seen-after : seenB n w q ≡ true
+  pub joined : Joined F s q
 
 -- every odd face of a cell leads to a cell that has been seen
 abbrev pub AllSeen : ℕ → Set → List ℕ → Point → Type 0

@@ -29,9 +29,9 @@ scaleOf a b =
 unfoldable pub isMode : ℕ → Bool
 isMode c = eqb c 102 || (eqb c 99 || eqb c 107)
 
--- W: `r` for the repair, `s` for the stream
+-- W: `r` for the repair, `j` for the job
 unfoldable pub isWant : ℕ → Bool
-isWant c = eqb c 114 || eqb c 115
+isWant c = eqb c 114 || eqb c 106
 
 -- what is asked for, where mode and want are letters of theirs
 abbrev pub asked : LevelRead → ℕ → ℕ → Bool → Scale → ℕ → Bool → Word
@@ -45,5 +45,6 @@ asked (Known l) level m true (At s) w true = Asks (record { level = level; l = l
 unfoldable pub wordOf : List ℕ → Word
 wordOf w =
     cond (eqb (length w) 5)
-    (asked (levelOf (digitOf (getD w 0 0))) (digitOf (getD w 0 0)) (getD w 1 0) (isMode (getD w 1 0)) (scaleOf (getD w 2 0) (getD w 3 0)) (getD w 4 0) (isWant (getD w 4 0)))
+    (asked (levelOf (digitOf (getD w 0 0))) (digitOf (getD w 0 0)) (getD w 1 0) (isMode (getD w 1 0)) (scaleOf (getD w 2 0) (getD w 3 0))
+    (getD w 4 0) (isWant (getD w 4 0)))
     Bad

@@ -63,14 +63,14 @@ fn is_mode(c: u8) -> bool
     c == b'k'
 }
 
-// Answers whether a letter names what is written: `r` or `s`.
+// Answers whether a letter names what is written: `r` or `j`.
 fn is_want(c: u8) -> bool
     ensures { λ r. ⌜ r ≡ isWant c ⌝ }
 {
     if c == b'r' {
         return true;
     }
-    c == b's'
+    c == b'j'
 }
 
 // Reads a word.

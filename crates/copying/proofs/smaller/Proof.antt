@@ -1,4 +1,4 @@
--- `smaller` meets its contract. Assumes nothing.
+-- `smaller` compares once, and what it answers is the number that the comparison found not to be greater. Assumes nothing.
 use borrow.Author.Needs.{needs}
 use Rattle.copying.proofs.smaller.Statement.{statement}
 use Rattle.copying.proofs.smaller.Tie as tie

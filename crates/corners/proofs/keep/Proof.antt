@@ -1,4 +1,4 @@
--- `keep` meets its contract. Assumes nothing.
+-- `keep`: five writes one behind another, which come to one run of five numbers. Assumes nothing.
 use mathlib.Core.Path.{_∙_}
 use Prim.Native.Nat.{_+_, _*_}
 use borrow.Author.Needs.{needs}

@@ -1,4 +1,4 @@
--- `kept_at` meets its contract. Assumes nothing.
+-- `kept_at`: five reads within the fifty numbers, each the list's own on the machine. Assumes nothing.
 use Prim.Native.Nat.{_+_, _*_}
 use borrow.Author.Needs.{needs}
 use lib.IntN.{pos}

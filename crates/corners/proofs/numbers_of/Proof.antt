@@ -1,4 +1,4 @@
--- `numbers_of` meets its contract. Assumes nothing.
+-- `numbers_of`: three numbers below 2^31 as signed ones, each the same on the machine. Assumes nothing.
 use borrow.Author.Needs.{needs}
 use mir.Syntax.{w64}
 use Rattle.corners.specs.Corner.{numbersOf}

@@ -73,7 +73,8 @@ mark-cube-returns t c =
     let e = fails (c .before .touches .ensures) (c .if1 .taken) in
     λ u y v. outside-dropped (s .args .l) u (s .args .c) (s .args .b) v (s .args .grid .now) e
 
-mark-cube-mark-single-requires : (t : ℕ) → mark-cube-lts.Need-mark-single-requires (claims t) (mark-cube-at t) mark-cube.Post mark-cube-Inv-loop mark-cube-μ-loop
+mark-cube-mark-single-requires : (t : ℕ) →
+    mark-cube-lts.Need-mark-single-requires (claims t) (mark-cube-at t) mark-cube.Post mark-cube-Inv-loop mark-cube-μ-loop
 mark-cube-mark-single-requires t c κs =
     let s = c .before .before .before .before .before .before in
     (s .pre .1 .0, s .pre .1 .1, single-cell (cellsOf (s .args .l)) (s .args .c) (c .before .if2 .taken) (s .pre .1 .2), s .pre .1 .3)

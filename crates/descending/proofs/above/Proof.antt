@@ -1,4 +1,4 @@
--- `above` meets its contract. Assumes nothing.
+-- `above` compares the whole number with 0, since it fits in its machine number. Assumes nothing.
 use mir.Facts.{toZ-ofZ}
 use Rattle.descending.specs.Reach.{above}
 use Rattle.descending.proofs.above.Statement.{statement}

@@ -1,4 +1,4 @@
--- `below` meets its contract. Assumes nothing.
+-- `below` compares the whole number with 0, since it fits in its machine number. Assumes nothing.
 use mir.Facts.{toZ-ofZ}
 use Rattle.descending.specs.Reach.{below}
 use Rattle.descending.proofs.below.Statement.{statement}

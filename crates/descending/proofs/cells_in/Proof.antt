@@ -1,4 +1,4 @@
--- `cells_in` meets its contract. Assumes nothing.
+-- `cells_in` multiplies three sides of 32 at most, so that the products fit. Assumes nothing.
 use Prim.Native.Nat.{ℕ, _*_, _-_, _≤_}
 use native.Mathlib.Nat.{mul-le-mul, lt-of-le-of-lt}
 use native.Mathlib.Omega.{arith}

@@ -1,4 +1,4 @@
--- `eighth` meets its contract. Assumes nothing.
+-- `eighth` shifts each coordinate by its digit of k, as the definition does. Assumes nothing.
 use Prim.Native.Nat.{_/_}
 use borrow.Author.Needs.{needs}
 use Rattle.descending.specs.Cubes.{eighthOf}

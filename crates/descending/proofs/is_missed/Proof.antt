@@ -59,7 +59,8 @@ missed-told : (c : tie.After-misses Inv-loop μ-loop) →
     let w = s .args .kept .now in
     let k = c .before .before .before .before .loop .k in
     let u = c .before .before .before .before .before in
-    c .misses .result ≡ apart (keptAt w k .span) (reachSpan (keptAt w k .axis) (reachAt (s .args .reach .now) k) (u .before .numbers-of .result) (held (u .signed .result)))
+    c .misses .result ≡ apart (keptAt w k .span)
+    (reachSpan (keptAt w k .axis) (reachAt (s .args .reach .now) k) (u .before .numbers-of .result) (held (u .signed .result)))
 missed-told c =
     c .misses .ensures
     ∙ (λ i. apart (c .before .before .kept-at .ensures i .span)

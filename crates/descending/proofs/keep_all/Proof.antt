@@ -9,7 +9,7 @@ use lib.ListN.{getD}
 use Rattle.lattice.specs.Levels.{sideOf}
 use Rattle.lattice.proofs.LevelFacts.{side-most}
 use Rattle.triangles.specs.declared.Kept.{Kept}
-use Rattle.triangles.specs.Vectors.{nought}
+use Rattle.triangles.specs.Vectors.{zeroVector}
 use Rattle.triangles.specs.Keeping.{laterAxes, keptOf}
 use Rattle.triangles.proofs.Sizes.{later-size}
 use Rattle.triangles.proofs.Held.{held, plain}
@@ -48,7 +48,7 @@ kept-requires c κs = let s = c .before .before .before .before in (s .pre .0, (
 -- the axis that is built
 axis-is : (c : tie.After-kept Inv-loop μ-loop) →
     let s = c .before .before .before .before .before in
-    c .kept .result ≡ keptOf (sideOf (s .args .l)) (getD (laterAxes (s .args .t)) (c .before .before .before .before .loop .k) nought) (s .args .t)
+    c .kept .result ≡ keptOf (sideOf (s .args .l)) (getD (laterAxes (s .args .t)) (c .before .before .before .before .loop .k) zeroVector) (s .args .t)
 axis-is c = c .kept .ensures (sideOf (c .before .before .before .before .before .args .l)) (side-is (c .before))
 
 keep-requires : tie.Need-keep-requires Inv-loop μ-loop
@@ -59,7 +59,7 @@ unfolding keptOf
 reach-of-requires c κs =
     let s = c .before .before .before .before .before .before .before .before in
     let k = c .before .before .before .before .before .before .before .loop .k in
-    rw (axis-is (c .before .before .before)) (kept-size (s .args .l) (getD (laterAxes (s .args .t)) k nought) (later-size k (s .pre .0)))
+    rw (axis-is (c .before .before .before)) (kept-size (s .args .l) (getD (laterAxes (s .args .t)) k zeroVector) (later-size k (s .pre .0)))
 
 keep-reach-requires : tie.Need-keep-reach-requires Inv-loop μ-loop
 keep-reach-requires c κs = omega arith

@@ -1,4 +1,4 @@
--- `keep_reach` meets its contract. Assumes nothing.
+-- `keep_reach` writes the span's two numbers at 2 k and behind it, which are whole numbers that fit. Assumes nothing.
 use Prim.Native.Nat.{_+_, _*_}
 use borrow.Author.Needs.{needs}
 use lib.ListN.{set}

@@ -1,4 +1,4 @@
--- `mark_cubed` meets its contract. Assumes nothing.
+-- `mark_cubed` marks nothing where the box is bare, since no edge is met then; else what the cubes add are the edges met. Assumes nothing.
 use mathlib.Core.Path.{sym, _∙_}
 use native.Mathlib.Omega.{arith}
 use Rattle.rules.specs.declared.Axis.the-variants.{X, Y, Z}

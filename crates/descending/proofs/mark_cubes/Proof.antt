@@ -1,4 +1,4 @@
--- `mark_cubes` meets its contract. Assumes nothing.
+-- `mark_cubes` keeps the ten axes and goes down from the whole grid, which is a cube that holds every cell of the box. Assumes nothing.
 use borrow.Author.Needs.{needs}
 use Rattle.descending.proofs.Cubes.{whole-cube, whole-all}
 use Rattle.descending.proofs.mark_cubes.Statement.{statement}

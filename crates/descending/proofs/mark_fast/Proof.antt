@@ -1,4 +1,4 @@
--- `mark_fast` meets its contract. Assumes nothing.
+-- `mark_fast` marks nothing where the box is bare; else scan and descent both add the edges met, so that either may be taken. Assumes nothing.
 use mathlib.Core.Path.{sym, _∙_}
 use native.Mathlib.Nat.{le-of-lt}
 use native.Mathlib.Omega.{arith}

@@ -1,4 +1,4 @@
--- `mark_single` meets its contract. Assumes nothing.
+-- `mark_single` keeps the edges that no axis separates: none is left exactly where none is met, and those left are turned. Assumes nothing.
 use mathlib.Core.Path.{_≡_, _∙_}
 use mathlib.Core.Bool.{false, _&&_, not}
 use native.Mathlib.Nat.{le-refl, lt-of-lt-of-le}
@@ -39,7 +39,8 @@ left-of-kept-requires c κs =
     let y = s .pre .3 in (
       c .unit-clear .ensures .0,
       le-refl 10,
-      λ k h. rw (y .ready .keeps .axis k h, c .before .before .numbers-of .ensures) (kept-fits (s .args .l) (y .whose) (y .ready .inside) k (s .args .c) (s .pre .2)),
+      λ k h. rw (y .ready .keeps .axis k h, c .before .before .numbers-of .ensures)
+          (kept-fits (s .args .l) (y .whose) (y .ready .inside) k (s .args .c) (s .pre .2)),
     )
 
 -- what the ten axes leave

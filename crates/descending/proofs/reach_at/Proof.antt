@@ -1,4 +1,4 @@
--- `reach_at` meets its contract. Assumes nothing.
+-- `reach_at` reads two numbers that fit, so that the machine's are the whole numbers kept. Assumes nothing.
 use Prim.Native.Nat.{_+_, _*_}
 use borrow.Author.Needs.{needs}
 use lib.IntN.{pos}

@@ -1,4 +1,4 @@
--- `reach_of` meets its contract. Assumes nothing.
+-- `reach_of` adds up the parts below 0 and those above; each part is no greater than its term, so that both sums fit. Assumes nothing.
 use mathlib.Core.Path.{_≡_, sym, ap, subst, _∙_}
 use borrow.Author.Needs.{needs}
 use lib.IntN.{ℤ, _+ℤ_}

@@ -1,4 +1,4 @@
--- `shares` meets its contract. Assumes nothing.
+-- `shares` makes the definition's two comparisons, one after the other. Assumes nothing.
 use borrow.Author.Needs.{needs}
 use borrow.Author.Tests.{lt-ltb, le-ltb}
 use Rattle.descending.proofs.shares.Statement.{statement}

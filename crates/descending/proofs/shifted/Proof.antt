@@ -1,4 +1,4 @@
--- `shifted` meets its contract. Assumes nothing.
+-- `shifted` compares the digit with 0 as the definition does. Assumes nothing.
 use borrow.Author.Tests.{eq-eqb, ne-eqb}
 use borrow.Author.Needs.{needs}
 use Rattle.descending.specs.Cubes.{shifted}

@@ -1,4 +1,4 @@
--- `touches` meets its contract. Assumes nothing.
+-- `touches` asks axis by axis whether a cell is shared; the first that has none decides. Assumes nothing.
 use mathlib.Core.Path.{sym, _∙_}
 use mathlib.Core.Bool.{_&&_}
 use borrow.Author.Needs.{needs}

@@ -75,8 +75,10 @@ triangle-of-requires c κs = search needs
 
 mark-fast-requires : tie.Need-mark-fast-requires
 mark-fast-requires c κs =
-    let s = c .before .before .before .before .before in
-    let p = passed (s .args .l) (s .args .c .now) _ (s .pre .0) (c .before .before .before .first-out .ensures) _ (c .before .before .if1 .left) (c .triangle-of .ensures) in
+    let tested = c .before .before in
+    let found = tested .before in
+    let s = found .before .before in
+    let p = passed (s .args .l) (s .args .c .now) _ (s .pre .0) (found .first-out .ensures) _ (tested .if1 .left) (c .triangle-of .ensures) in
     (p .lies, (s .pre .1 .long, s .pre .1 .grid, s .pre .1 .unsigned))
 
 same-length : tie.Need-same-length
@@ -84,8 +86,11 @@ same-length c = search needs
 
 returns-2 : tie.Need-returns-2
 returns-2 c =
-    let s = c .before .before .before .before .before .before .before .before in
-    let p = passed (s .args .l) (s .args .c .now) _ (s .pre .0) (c .before .before .before .before .before .before .first-out .ensures) _ (c .before .before .before .before .before .if1 .left) (c .before .before .before .triangle-of .ensures) in
+    let formed = c .before .before .before in
+    let tested = formed .before .before in
+    let found = tested .before in
+    let s = found .before .before in
+    let p = passed (s .args .l) (s .args .c .now) _ (s .pre .0) (found .first-out .ensures) _ (tested .if1 .left) (formed .triangle-of .ensures) in
     let is = c .before .before .mark-fast .ensures ∙ ap (λ (t : Triangle). marked (s .args .l) t (s .args .grid .now)) (p .is) in
     let o = sym (mark-in (s .args .l) _ (s .pre .1) _ (s .pre .0) (p .fits)) in
     record {

@@ -1,4 +1,4 @@
--- `write_surface` meets its contract. Assumes nothing.
+-- `write_surface` writes the file of the closed grid, or the refusal that `write_stl` answers; the buffer that is lent holds either. Assumes nothing.
 use mathlib.Core.Path.{_∙_}
 use native.Mathlib.Omega.{arith}
 use Rattle.reporting.proofs.Lent.{bytes-long}

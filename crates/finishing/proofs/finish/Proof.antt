@@ -4,13 +4,14 @@ use Prim.Native.Nat.{ℕ, _-_, _+_, _≤_}
 use native.Mathlib.Nat.{le-antisymm}
 use native.Mathlib.Omega.{arith}
 use Rattle.lattice.specs.Byte.{low}
-use Rattle.patching.specs.Paint.{paint, allChanges, nought}
+use Rattle.patching.specs.Paint.{paint, allChanges, zeroByte}
 use Rattle.patching.proofs.PaintLaws.{paint-none, paint-room, paint-kept, paint-more, paint-read, changes-most, changes-more, changes-none}
 use Rattle.finishing.proofs.finish.Statement.{statement}
 use Rattle.finishing.proofs.finish.Tie as tie
 
 abbrev Inv-loop : tie.InvT-loop
-Inv-loop count grid₀ work₀ flips₀ p₀ grid work flips p = (p ≤ count) × (grid ≡ paint low p grid₀) × (work ≡ paint nought p work₀) × (flips ≡ allChanges p grid₀)
+Inv-loop count grid₀ work₀ flips₀ p₀ grid work flips p =
+    (p ≤ count) × (grid ≡ paint low p grid₀) × (work ≡ paint zeroByte p work₀) × (flips ≡ allChanges p grid₀)
 
 abbrev μ-loop : tie.MeasureT-loop
 μ-loop count grid₀ work₀ flips₀ p₀ grid work flips p = count - p
@@ -58,7 +59,7 @@ slice-write-work c =
     let start = c .before .before .before .before .before .before .before .before in
     let turn = c .before .before .before .before .before .loop in
     let test = c .before .before .before .before .loop-test in
-    paint-room nought _ _ _ _ (turn .inv .2) (test .taken) (start .pre .2)
+    paint-room zeroByte _ _ _ _ (turn .inv .2) (test .taken) (start .pre .2)
 
 add-p : tie.Need-add-p Inv-loop μ-loop
 add-p c =
@@ -77,7 +78,7 @@ loop-again c =
     let changes = c .before .before .changes in (
       omega (arith, test .taken),
       paint-more low _ _ _ _ (turn .inv .1) (c .low .ensures .0),
-      paint-more nought _ _ _ 0 (turn .inv .2) refl,
+      paint-more zeroByte _ _ _ 0 (turn .inv .2) refl,
       ap (λ (x : ℕ). turn .flips + x) (changes .ensures .0)
           ∙ changes-more (turn .p) (turn .flips) (start .args .grid .now) _ (turn .inv .3) (paint-read low _ _ _ (turn .inv .1)),
     )
@@ -86,7 +87,7 @@ same-length : tie.Need-same-length Inv-loop μ-loop
 same-length c = paint-kept low _ _ _ (c .before .loop .inv .1)
 
 same-length-2 : tie.Need-same-length-2 Inv-loop μ-loop
-same-length-2 c = paint-kept nought _ _ _ (c .before .loop .inv .2)
+same-length-2 c = paint-kept zeroByte _ _ _ (c .before .loop .inv .2)
 
 returns : tie.Need-returns Inv-loop μ-loop
 returns c =

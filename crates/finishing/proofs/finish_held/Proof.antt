@@ -14,7 +14,7 @@ use Rattle.grids.proofs.Points.{pointsFrom, At, at-start, at-grid, at-next}
 use Rattle.totals.specs.Totals.{marksAt, blockCount, trued}
 use Rattle.totals.specs.Counting.{Held}
 use Rattle.totals.proofs.Held.{at-most, scan-start, scan-trued, scan-room, scan-on, scan-end}
-use Rattle.patching.specs.Paint.{paint, allChanges, nought}
+use Rattle.patching.specs.Paint.{paint, allChanges, zeroByte}
 use Rattle.patching.proofs.PaintLaws.{paint-none, paint-room, paint-kept, paint-more, paint-read, paint-at, changes-most, changes-more, changes-none}
 use Rattle.finishing.proofs.finish_held.Statement.{statement}
 use Rattle.finishing.proofs.finish_held.Tie as tie
@@ -25,7 +25,7 @@ left n g = paint low (pointCount n) g
 
 abbrev Inv-loop : tie.InvT-loop
 Inv-loop n grid₀ work₀ totals₀ count flips₀ q₀ p₀ grid work totals flips q p =
-    (count ≡ pointCount n) × (p ≤ count) × (grid ≡ paint low p grid₀) × (work ≡ paint nought p work₀) × (flips ≡ allChanges p grid₀)
+    (count ≡ pointCount n) × (p ≤ count) × (grid ≡ paint low p grid₀) × (work ≡ paint zeroByte p work₀) × (flips ≡ allChanges p grid₀)
     × At n p q × Held n (marksAt n (left n grid₀)) (pointsFrom n p) totals₀ totals
 
 abbrev μ-loop : tie.MeasureT-loop
@@ -101,7 +101,7 @@ slice-write-work c =
     let c5 = c4 .before in
     let c14 = c5 .before .before .before .before .before .before .before .before .before in
     let l = c5 .loop in
-    paint-room nought (pointCount (c14 .args .n)) (l .p) _ _ (l .inv .3) (omega (arith, l .inv .0, c4 .loop-test .taken)) (c14 .pre .2)
+    paint-room zeroByte (pointCount (c14 .args .n)) (l .p) _ _ (l .inv .3) (omega (arith, l .inv .0, c4 .loop-test .taken)) (c14 .pre .2)
 
 hold-requires : tie.Need-hold-requires Inv-loop μ-loop
 hold-requires c κs =
@@ -158,7 +158,7 @@ loop-again c =
       l .inv .0,
       omega (arith, c9 .loop-test .taken),
       paint-more low _ _ _ _ (l .inv .2) (c5 .low .ensures .0),
-      paint-more nought _ _ _ 0 (l .inv .3) refl,
+      paint-more zeroByte _ _ _ 0 (l .inv .3) refl,
       d ∙ changes-more (l .p) (l .flips) g _ (l .inv .4) (paint-read low _ _ _ (l .inv .2)),
       rw (add-one, c .next-point .ensures) (at-next n (l .p) (l .q) (l .inv .5) h),
       rw (add-one, c3 .hold .ensures) v,
@@ -168,7 +168,7 @@ same-length : tie.Need-same-length Inv-loop μ-loop
 same-length c = paint-kept low _ _ _ (c .before .loop .inv .2)
 
 same-length-2 : tie.Need-same-length-2 Inv-loop μ-loop
-same-length-2 c = paint-kept nought _ _ _ (c .before .loop .inv .3)
+same-length-2 c = paint-kept zeroByte _ _ _ (c .before .loop .inv .3)
 
 same-length-3 : tie.Need-same-length-3 Inv-loop μ-loop
 same-length-3 c = c .before .loop .inv .6 .long ∙ c .before .before .before .before .before .clear-totals .kept .1 .0
@@ -186,7 +186,7 @@ returns c =
     let a = l .inv .2 ∙ ap (λ (i : ℕ). paint low i g) e in
     let t = scan-end n (left n g) _ (l .totals) (l .p) (omega (arith, k, s .pre .3)) (omega (arith, e)) (l .inv .6)
     ∙ ap (trued n (left n g)) (c5 .clear-totals .ensures) ∙ scan-trued n (s .args .totals .now) (s .pre .3) (left n g) in
-    ((l .inv .4 ∙ ap (λ (i : ℕ). allChanges i g) e, a), (l .inv .3 ∙ ap (λ (i : ℕ). paint nought i (s .args .work .now)) e, rw a t))
+    ((l .inv .4 ∙ ap (λ (i : ℕ). allChanges i g) e, a), (l .inv .3 ∙ ap (λ (i : ℕ). paint zeroByte i (s .args .work .now)) e, rw a t))
 
 pub finish-held-spec : {M : Type 1} → statement M
 finish-held-spec =

@@ -1,4 +1,4 @@
--- `fitting::point_fits` meets its contract. Assumes nothing.
+-- `point_fits` asks for the edges along x, y and z; the first that does not fit decides. Assumes nothing.
 use mathlib.Core.Path.{sym, _∙_}
 use Rattle.rules.specs.Grid.{marks, inside}
 use Rattle.lattice.proofs.Tests.{fails, holds}

@@ -1,4 +1,4 @@
--- `is_grid` meets its contract. Assumes nothing.
+-- `is_grid` is what `read_grid` tells: there is a count of points inside exactly where there is a grid. Assumes nothing.
 use mathlib.Core.Path.{sym, _∙_}
 use borrow.Author.Needs.{needs}
 use Rattle.grids.proofs.Unsigning.{read-none, read-some}

@@ -1,4 +1,4 @@
--- `put_one` meets its contract. Assumes nothing.
+-- `put_one` is `put_signed_field` with its room bounded: a number of 32 bits takes a sign and ten digits at most. Assumes nothing.
 use native.Mathlib.Omega.{arith}
 use lib.ListN.{length-append}
 use mir.Syntax.{w32}

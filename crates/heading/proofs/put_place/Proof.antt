@@ -1,4 +1,4 @@
--- `put_place` meets its contract. Assumes nothing.
+-- `put_place` puts four texts, one behind another, in the room that each is known to take. Assumes nothing.
 use native.Mathlib.Omega.{arith}
 use mir.Syntax.{w32}
 use mir.ValLaws.{toZ-ofZ}

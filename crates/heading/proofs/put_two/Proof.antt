@@ -1,4 +1,4 @@
--- `put_two` meets its contract. Assumes nothing.
+-- `put_two` is `put_fields` with its room bounded: a number of 32 bits takes ten digits at most. Assumes nothing.
 use native.Mathlib.Omega.{arith}
 use Rattle.text.proofs.Texts.{u32-digits, fields-length}
 use borrow.Author.Needs.{needs}

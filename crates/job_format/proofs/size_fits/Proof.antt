@@ -1,4 +1,4 @@
--- `size_fits` meets its contract. Assumes nothing.
+-- `size_fits` asks for the kind as the definition does, one kind after the other. Assumes nothing.
 use borrow.Author.Tests.{eq-eqb, ne-eqb}
 use Rattle.job_format.specs.Table.{sizeFits}
 use Rattle.job_format.proofs.size_fits.Statement.{statement}

@@ -1,4 +1,4 @@
--- `contents_of` meets its contract. Assumes nothing.
+-- `contents_of` finds each kind of body among the entries; that the grid was found so is asked of the caller. Assumes nothing.
 use borrow.Author.Needs.{needs}
 use Rattle.job_reading.proofs.contents_of.Statement.{statement}
 use Rattle.job_reading.proofs.contents_of.Tie as tie

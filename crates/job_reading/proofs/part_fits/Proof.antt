@@ -1,4 +1,4 @@
--- `part_fits` meets its contract. Assumes nothing.
+-- `part_fits` tests the body's bytes, which lie within the file; what is absent fits. Assumes nothing.
 use mathlib.Core.Path.{_≡_, refl, sym, ap, subst, _∙_}
 use mathlib.Core.Bool.{true}
 use mathlib.Core.List.{List}

@@ -1,4 +1,4 @@
--- `grid_fits` meets its contract. Assumes nothing.
+-- `grid_fits` tests the body where it is wanted; what is not wanted fits. Assumes nothing.
 use Rattle.job_writing.proofs.grid_fits.Statement.{statement}
 use Rattle.job_writing.proofs.grid_fits.Tie as tie
 

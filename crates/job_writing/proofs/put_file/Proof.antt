@@ -1,4 +1,4 @@
--- `put_file` meets its contract. Assumes nothing.
+-- `put_file` puts two bytes, the lines and the bodies, one behind another, which is the file; where they end bounds every place. Assumes nothing.
 use mathlib.Core.Path.{_≡_, ap, _∙_}
 use native.Mathlib.Omega.{arith}
 use Prim.Native.Nat.{ℕ}

@@ -1,4 +1,4 @@
--- `write_sized` meets its contract. Assumes nothing.
+-- `write_sized` refuses kinds above 7, and hands the others to `write_bodies` as the bodies that they ask for. Assumes nothing.
 use mathlib.Core.Path.{ap, _∙_}
 use borrow.Author.Tests.{lt-ltb, le-ltb}
 use Rattle.job_writing.specs.declared.bodies.Wanted.{Wanted}

@@ -1,4 +1,4 @@
--- `clear` meets its contract. Assumes nothing.
+-- `clear`: the loop's invariant is that p zeros stand before the rest of the buffer as it came. Assumes nothing.
 use mathlib.Core.Path.{_≡_, refl, ap, _∙_}
 use mathlib.Core.List.{_++_}
 use Prim.Native.Nat.{ℕ, _+_, _-_, _≤_}

@@ -1,4 +1,4 @@
--- `up` meets its contract. Assumes nothing.
+-- `up` adds 1 to one coordinate, axis by axis. Assumes nothing.
 use Rattle.lattice.proofs.up.Tie as tie
 use borrow.Author.Needs.{needs}
 use Rattle.lattice.proofs.up.Statement.{statement}

@@ -1,3 +1,4 @@
+-- `box_from` reaches one further than the highest point on each axis; the grid's coordinates are small, so that each sum fits. Assumes nothing.
 use borrow.Author.Needs.{needs}
 use native.Mathlib.Numerals.{add-one}
 use Rattle.looking.proofs.box_from.Statement.{statement}

@@ -1,4 +1,4 @@
--- `first_inside` meets its contract. Assumes nothing.
+-- `first_inside` rounds l / 4 up by the comparison of the definition. Assumes nothing.
 use borrow.Author.Needs.{needs}
 use Rattle.looking.proofs.first_inside.Statement.{statement}
 use Rattle.looking.proofs.first_inside.Tie as tie

@@ -1,4 +1,4 @@
--- `inside` meets its contract. Assumes nothing.
+-- `inside` forms the definition's six coordinates. Assumes nothing.
 use borrow.Author.Needs.{needs}
 use Rattle.looking.specs.Inside.{insideOf}
 use Rattle.looking.proofs.inside.Statement.{statement}

@@ -1,4 +1,4 @@
--- `is_empty` meets its contract. Assumes nothing.
+-- `is_empty` compares axis by axis; the first on which the box ends before it begins decides. Assumes nothing.
 use Rattle.rules.proofs.Bits.{leb-yes, leb-no}
 use Rattle.looking.specs.Inside.{emptyBox}
 use Rattle.looking.proofs.is_empty.Statement.{statement}

@@ -1,4 +1,4 @@
--- `past_inside` meets its contract. Assumes nothing.
+-- `past_inside` has two cases: where every point lies before h the last block counts too, though it may be short. Assumes nothing.
 use mathlib.Core.Path.{sym}
 use borrow.Author.Needs.{needs}
 use Rattle.looking.proofs.Parts.{past-all, past-some}

@@ -1,4 +1,4 @@
--- `points_of` meets its contract. Assumes nothing.
+-- `points_of` forms the definition's six coordinates; block coordinates are 9 at most, so that all fit. Assumes nothing.
 use borrow.Author.Needs.{needs}
 use Rattle.looking.specs.Inside.{pointsOf}
 use Rattle.looking.proofs.points_of.Statement.{statement}

@@ -1,4 +1,4 @@
--- `table_says` meets its contract. Assumes nothing.
+-- `table_says` has the rule's three cases; where blocks lie inside, their points are a box within the box, and the rest lies around it. Assumes nothing.
 use mathlib.Core.Path.{_≡_, sym, ap, ap₂, _∙_}
 use mathlib.Core.Bool.{true, false}
 use Prim.Native.Nat.{ℕ, suc, _/_, _≤_}

@@ -1,4 +1,4 @@
--- `mark_by` meets its contract. Assumes nothing.
+-- `mark_by` gives the first row that applies, and marks where none does: with no coordinate out of range the triangle is within the lattice. Assumes nothing.
 use mathlib.Core.Path.{_≡_, sym, ap, _∙_}
 use mathlib.Core.Bool.{true, false}
 use Prim.Native.Nat.{ℕ, _≤_, _<_}

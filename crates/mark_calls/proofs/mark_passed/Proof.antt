@@ -1,4 +1,4 @@
--- `mark_passed` meets its contract. Assumes nothing.
+-- `mark_passed` counts totals while it reads the grid; only blocks near the triangle get marks, so that these alone are counted anew. Assumes nothing.
 use mathlib.Core.Path.{_≡_, refl, sym, ap, ap₂, _∙_}
 use mathlib.Core.Bool.{true, false}
 use mathlib.Core.List.{List, _++_}

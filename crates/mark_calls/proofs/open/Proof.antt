@@ -1,4 +1,4 @@
--- `open` meets its contract. Assumes nothing.
+-- `open` gives the first row that applies, and clears both buffers where none does: the totals of a grid without marks are zeros. Assumes nothing.
 use mathlib.Core.Path.{_≡_, sym, ap, ap₂, _∙_}
 use mathlib.Core.Bool.{true, false}
 use mathlib.Core.List.{List, _++_}

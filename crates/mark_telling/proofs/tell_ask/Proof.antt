@@ -1,4 +1,4 @@
--- `tell_ask` meets its contract. Assumes nothing.
+-- `tell_ask` has a case for each answer: what is written is what the answer tells. Assumes nothing.
 use mathlib.Core.Path.{sym, ap}
 use borrow.Author.Needs.{needs}
 use Rattle.asking.specs.Call.{told}

@@ -1,4 +1,4 @@
--- `out_of_range` meets its contract. Assumes nothing.
+-- `out_of_range`: what `is_below` answers is the test by which the number is defined, in either branch. Assumes nothing.
 use mathlib.Core.Path.{_≡_}
 use mathlib.Core.Bool.{true, false}
 use borrow.Author.Needs.{needs}

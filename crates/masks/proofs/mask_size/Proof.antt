@@ -1,4 +1,4 @@
--- `mask_size` meets its contract. Assumes nothing.
+-- `mask_size` counts the head's digits: a width of 33 at most has one or two, and its rows are few. Assumes nothing.
 use borrow.Author.Needs.{needs}
 use native.Mathlib.Omega.{arith}
 use Rattle.masks.proofs.Sizes.{digits-one, digits-two, rows-small}

@@ -1,4 +1,4 @@
--- `pixel` meets its contract. Assumes nothing.
+-- `pixel` has the definition's three cases: behind the row, inside, and outside. Assumes nothing.
 use mathlib.Core.Path.{sym, _∙_}
 use native.Mathlib.Omega.{arith}
 use borrow.Author.Needs.{needs}

@@ -1,4 +1,4 @@
--- `higher` meets its contract. Assumes nothing.
+-- `higher` compares the two keys as the definition does. Assumes nothing.
 use borrow.Author.Tests.{lt-ltb, le-ltb}
 use Rattle.measuring.specs.Extents.{higher}
 use Rattle.measuring.proofs.higher.Statement.{statement}

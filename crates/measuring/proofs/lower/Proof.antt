@@ -1,4 +1,4 @@
--- `lower` meets its contract. Assumes nothing.
+-- `lower` compares the two keys as the definition does. Assumes nothing.
 use borrow.Author.Tests.{lt-ltb, le-ltb}
 use Rattle.measuring.specs.Extents.{lower}
 use Rattle.measuring.proofs.lower.Statement.{statement}

@@ -1,4 +1,4 @@
--- `no_extent` meets its contract. Assumes nothing.
+-- `no_extent` has no run on any axis. Assumes nothing.
 use Rattle.measuring.specs.Extents.{extentOf}
 use borrow.Author.Needs.{needs}
 use Rattle.measuring.proofs.no_extent.Statement.{statement}

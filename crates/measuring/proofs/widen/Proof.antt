@@ -1,4 +1,4 @@
--- `widen` meets its contract. Assumes nothing.
+-- `widen` takes each axis from its own place on: x, y and z of a vertex stand four bytes apart. Assumes nothing.
 use Rattle.measuring.specs.Extents.{widened}
 use borrow.Author.Needs.{needs}
 use Rattle.measuring.proofs.widen.Statement.{statement}

@@ -1,4 +1,4 @@
--- `widen_run` meets its contract. Assumes nothing.
+-- `widen_run` takes one coordinate of each vertex, twelve bytes apart, one after the other. Assumes nothing.
 use mathlib.Core.Path.{ap, _∙_}
 use Rattle.measuring.specs.Extents.{runWith}
 use borrow.Author.Needs.{needs}

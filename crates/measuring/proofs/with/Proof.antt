@@ -1,4 +1,4 @@
--- `with` meets its contract. Assumes nothing.
+-- `with` compares keys, which rise as the numbers do. Assumes nothing.
 use mathlib.Core.Path.{ap, _∙_}
 use Rattle.measuring.specs.Extents.{lower, higher, runWith}
 use borrow.Author.Needs.{needs}

@@ -1,4 +1,4 @@
--- `box_of` meets its contract. Assumes nothing.
+-- `box_of` takes the cells of each axis from the triangle's span on it, which lies within the lattice because its vertices do. Assumes nothing.
 use borrow.Author.Needs.{needs}
 use Rattle.rules.specs.declared.Axis.the-variants.{X, Y, Z}
 use Rattle.meeting.proofs.Within.{span-within, on-each}

@@ -1,4 +1,4 @@
--- `cells_along` meets its contract. Assumes nothing.
+-- `cells_along` divides two lattice coordinates by the side: an edge can be touched from the cell before the span's first plane on. Assumes nothing.
 use mathlib.Core.Path.{sym, _∙_}
 use Prim.Native.Nat.{zero-le, _≤_}
 use native.Mathlib.Nat.{div-le-self}

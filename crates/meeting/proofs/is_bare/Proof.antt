@@ -1,4 +1,4 @@
--- `is_bare` meets its contract. Assumes nothing.
+-- `is_bare` asks for two thin axes among three: the answers to the first tests decide which one is still asked. Assumes nothing.
 use mathlib.Core.Path.{sym, _∙_}
 use borrow.Author.Needs.{needs}
 use Rattle.meeting.specs.Covered.{bareOf}

@@ -1,4 +1,4 @@
--- `is_thin` meets its contract. Assumes nothing.
+-- `is_thin` compares the two coordinates that the definition compares. Assumes nothing.
 use Prim.Native.Nat.{_+_}
 use lib.Dec.{eqb}
 use borrow.Author.Needs.{needs}

@@ -1,4 +1,4 @@
--- `plain` meets its contract. Assumes nothing.
+-- `plain` casts a number that is not below 0, so that it is its own size. Assumes nothing.
 use mathlib.Core.Path.{sym}
 use lib.Signed.{yes-nonNeg, pos-natAbs}
 use mir.Syntax.{w64}

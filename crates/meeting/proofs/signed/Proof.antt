@@ -1,4 +1,4 @@
--- `signed` meets its contract. Assumes nothing.
+-- `signed` casts a number that is far below 2^63. Assumes nothing.
 use borrow.Author.Needs.{needs}
 use mir.Syntax.{w64}
 use mir.Facts.{toZ-pos}

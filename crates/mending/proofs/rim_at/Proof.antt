@@ -4,7 +4,7 @@ use mathlib.Core.Bool.{false}
 use native.Mathlib.Omega.{arith}
 use lib.ListN.{getD}
 use Rattle.lattice.specs.Byte.{noneOdd, seen}
-use Rattle.mending.proofs.Point.{fit-of, at-none, at-cell, at-seen, at-dark, at-rim}
+use Rattle.mending.proofs.Point.{fit-of, at-none, at-cell, at-seen, at-unseen, at-rim}
 use borrow.Author.Needs.{needs}
 use Rattle.mending.proofs.rim_at.Statement.{statement}
 use Rattle.mending.proofs.rim_at.Tie as tie
@@ -55,14 +55,14 @@ find-rim-requires c κs =
     let given = start .args in
     let cell = at-cell (given .n) (given .grid .now) (given .work .now) (given .p) (start .pre .3) (start .pre .4)
     (some-odd (c .before .before .before .before)) in
-    let dark = at-dark (given .n) (given .grid .now) (given .work .now) (given .p) (start .pre .3) (unseen (c .before .before)) in
-    rw (c .point-of .ensures) (start .pre .0, start .pre .2, cell, start .pre .4, dark)
+    let not-seen = at-unseen (given .n) (given .grid .now) (given .work .now) (given .p) (start .pre .3) (unseen (c .before .before)) in
+    rw (c .point-of .ensures) (start .pre .0, start .pre .2, cell, start .pre .4, not-seen)
 
 patch-box-requires : tie.Need-patch-box-requires
 patch-box-requires c κs =
     let start = c .before .before .before .before .before .before .before .before .before .before .before .before .before .before in
     let f = c .before .before .before .before .find-rim in
-    (start .pre .0, start .pre .1, rw (f .kept .1 .0) (start .pre .2), fit-of _ _ _ _ _ _ (f .ensures))
+    ((start .pre .0, start .pre .1, rw (f .kept .1 .0) (start .pre .2)), fit-of _ _ _ _ _ _ (f .ensures))
 
 same-length : tie.Need-same-length
 same-length c = search needs

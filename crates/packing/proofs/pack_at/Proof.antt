@@ -1,8 +1,10 @@
--- `pack_at` meets its contract. Assumes nothing.
-use mathlib.Core.Path.{_∙_}
-use Rattle.reporting.proofs.Lent.{bytes-lent, list-lent}
+-- `pack_at`: the bytes that feed_all took explain it: their refusal, or what make_job put of the grid they left. Assumes nothing.
+use mathlib.Core.Path.{ap, _∙_}
+use native.Mathlib.Omega.{arith}
+use lib.ListN.{length}
+use Rattle.reporting.proofs.Lent.{bytes-lent, list-lent, list-long}
 use Rattle.streaming.proofs.Opened.{lent-ready}
-use Rattle.packing.proofs.Packs.{marked-few, packed-done, packed-stopped}
+use Rattle.packing.proofs.Packs.{packed-done, packed-stopped}
 use borrow.Author.Needs.{needs}
 use Rattle.packing.proofs.pack_at.Statement.{statement}
 use Rattle.packing.proofs.pack_at.Tie as tie
@@ -25,32 +27,24 @@ empty-grid-requires-2 c κs = search needs
 empty-list-requires : tie.Need-empty-list-requires
 empty-list-requires c κs = search needs
 
-slice-aggregate-pack-grid : tie.Need-slice-aggregate-pack-grid
-slice-aggregate-pack-grid c = search needs
+slice-aggregate-make-job : tie.Need-slice-aggregate-make-job
+slice-aggregate-make-job c = search needs
 
-slice-aggregate-pack-grid-2 : tie.Need-slice-aggregate-pack-grid-2
-slice-aggregate-pack-grid-2 c = search needs
+slice-aggregate-make-job-2 : tie.Need-slice-aggregate-make-job-2
+slice-aggregate-make-job-2 c = search needs
 
-slice-aggregate-pack-grid-3 : tie.Need-slice-aggregate-pack-grid-3
-slice-aggregate-pack-grid-3 c = search needs
+slice-aggregate-make-job-3 : tie.Need-slice-aggregate-make-job-3
+slice-aggregate-make-job-3 c = search needs
 
-pack-grid-requires : tie.Need-pack-grid-requires
-pack-grid-requires c κs =
+make-job-requires : tie.Need-make-job-requires
+make-job-requires c κs =
     let c5 = c .before .before .before .before .before in
     let c6 = c5 .before in
-    let c8 = c6 .before .before in
-    let c11 = c8 .before .before .before in
-    let c13 = c11 .before .before in
-    let c16 = c13 .before .before .before in
-    let s = rw (c8 .triangles .given .1, c13 .empty-grid .ensures ∙ bytes-lent) at (c11 .feed-all .ensures) in (
-      (
-        c16 .pre .0,
-        marked-few (c16 .args .l) _ (c16 .args .front .now) (c16 .args .back .now) _ s,
-        c11 .feed-all .ensures .ready,
-        c6 .empty-grid2 .ensures ∙ bytes-lent,
-        c5 .empty-list .ensures ∙ list-lent,
-      ),
-      (c16 .pre .1, c16 .pre .2),
+    let c11 = c6 .before .before .before .before .before in
+    let c16 = c11 .before .before .before .before .before in
+    let n = ap length (c5 .empty-list .ensures ∙ list-lent) ∙ list-long in (
+      (c16 .pre .0, c11 .feed-all .ensures .ready, c6 .empty-grid2 .ensures ∙ bytes-lent),
+      (omega (arith, n), c16 .pre .1, omega (arith, n, c16 .pre .2)),
     )
 
 enum-known-number : tie.Need-enum-known-number
@@ -71,12 +65,13 @@ same-length-2 c = search needs
 returns : tie.Need-returns
 returns c =
     let c7 = c .before .before .before .before .before .before .before in
-    let c16 = c7 .before .before .before .before .before .before .before .before .before in
+    let c13 = c7 .before .before .before .before .before .before in
+    let c16 = c13 .before .before .before in
     let c19 = c16 .before .before .before in
     let c21 = c19 .before .before in
     let c24 = c21 .before .before .before in
     let s = rw (c16 .triangles .given .1, c21 .empty-grid .ensures ∙ bytes-lent) at (c19 .feed-all .ensures) in
-    packed-done (c24 .args .l) _ _ _ (c16 .triangles .given .0 .0) s _ (c7 .pack-grid .ensures)
+    packed-done (c24 .args .l) _ _ _ (c16 .triangles .given .0 .0) s _ (rw (c13 .empty-list .ensures ∙ list-lent) at (c7 .make-job .ensures))
 
 same-length-3 : tie.Need-same-length-3
 same-length-3 c = search needs
@@ -102,10 +97,10 @@ pack-at-spec =
     enum-known-triangles
     empty-grid-requires-2
     empty-list-requires
-    slice-aggregate-pack-grid
-    slice-aggregate-pack-grid-2
-    slice-aggregate-pack-grid-3
-    pack-grid-requires
+    slice-aggregate-make-job
+    slice-aggregate-make-job-2
+    slice-aggregate-make-job-3
+    make-job-requires
     enum-known-number
     put-refusal-requires
     nothing-behind-requires

@@ -1,4 +1,4 @@
--- `run` meets its contract. Assumes nothing.
+-- `run`: what is written of each buffer fits it, as pack_stream promises. Assumes nothing.
 use mathlib.Core.Path.{sym}
 use lib.Seq.{length-take-le}
 use borrow.Author.Needs.{needs}

@@ -1,4 +1,4 @@
--- `character_of` meets its contract. Assumes nothing.
+-- `character_of` asks the byte's sign as the definition does. Assumes nothing.
 use mathlib.Core.Path.{sym, _∙_}
 use borrow.Author.Needs.{needs}
 use Rattle.picture.proofs.character_of.Statement.{statement}

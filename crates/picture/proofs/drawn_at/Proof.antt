@@ -1,4 +1,4 @@
--- `drawn_at` meets its contract. Assumes nothing.
+-- `drawn_at` has a case for each of what is drawn; the byte read is the point's, since p is its number. Assumes nothing.
 use mathlib.Core.Path.{ap, _∙_}
 use Prim.Native.Nat.{ℕ}
 use native.Mathlib.Omega.{arith}

@@ -1,4 +1,4 @@
--- `quad_reading::axis_for` meets its contract. Assumes nothing.
+-- `axis_for` has the definition's two cases, by whether the second step's axis is next to the first one's. Assumes nothing.
 use mathlib.Core.Path.{_≡_, sym, ap, _∙_}
 use mathlib.Core.Bool.{Bool, true, false, cond}
 use Rattle.rules.specs.declared.Axis.{Axis}

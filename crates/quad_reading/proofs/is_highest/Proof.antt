@@ -1,4 +1,4 @@
--- `quad_reading::is_highest` meets its contract. Assumes nothing.
+-- `is_highest` makes the definition's two comparisons, one after the other. Assumes nothing.
 use mathlib.Core.Path.{refl}
 use borrow.Author.Tests.{le-ltb, lt-ltb}
 use Rattle.quad_reading.specs.Read.{highest}

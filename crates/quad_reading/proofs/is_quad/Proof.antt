@@ -1,4 +1,4 @@
--- `quad_reading::is_quad` meets its contract. Assumes nothing.
+-- `is_quad` refuses an edge that is not inner; an inner one has four cells around it, so that the steps back from the third can be taken. Assumes nothing.
 use Rattle.quad_reading.proofs.Told.{quad-not, quad-in, quad-out}
 use Rattle.surfacing.proofs.Around.{inner→, Around, around}
 use Rattle.surfacing.specs.Listing.{cellStep}

@@ -1,4 +1,4 @@
--- `quad_reading::read` meets its contract. Assumes nothing.
+-- `read` turns the four until the third is the highest; the first turn for which it is decides, and the last is not asked. Assumes nothing.
 use mathlib.Core.Path.{sym, _∙_}
 use Rattle.quad_reading.specs.Read.{read}
 use borrow.Author.Needs.{needs}

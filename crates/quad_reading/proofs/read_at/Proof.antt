@@ -1,4 +1,4 @@
--- `quad_reading::read_at` meets its contract. Assumes nothing.
+-- `read_at` forms what the definition forms, part by part: two steps, the turn, the axis and the cell, and tries that edge. Assumes nothing.
 use Rattle.quad_reading.proofs.Told.{at-told}
 use borrow.Author.Needs.{needs}
 use Rattle.quad_reading.proofs.read_at.Statement.{statement}

@@ -1,4 +1,4 @@
--- `quad_reading::same_axis` meets its contract. Assumes nothing.
+-- `same_axis` compares two indices, which are equal exactly where the axes are. Assumes nothing.
 use mathlib.Core.Path.{ap₂, _∙_}
 use lib.Dec.{eqb}
 use Rattle.quad_reading.proofs.Told.{index-same}

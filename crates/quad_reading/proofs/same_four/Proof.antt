@@ -1,4 +1,4 @@
--- `quad_reading::same_four` meets its contract. Assumes nothing.
+-- `same_four` compares four pairs; the first that differs decides. Assumes nothing.
 use Rattle.quad_reading.proofs.Told.{four-1, four-2, four-3, four-4}
 use Rattle.quad_reading.proofs.same_four.Statement.{statement}
 use Rattle.quad_reading.proofs.same_four.Tie as tie

@@ -1,4 +1,4 @@
--- `quad_reading::step_axis` meets its contract. Assumes nothing.
+-- `step_axis` makes the definition's two comparisons, one after the other. Assumes nothing.
 use mathlib.Core.Path.{refl}
 use borrow.Author.Tests.{eq-eqb, ne-eqb}
 use Rattle.quad_reading.specs.Read.{stepAxis}

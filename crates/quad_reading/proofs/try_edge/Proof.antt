@@ -1,4 +1,4 @@
--- `quad_reading::try_edge` meets its contract. Assumes nothing.
+-- `try_edge` has two cases: the numbers are the edge's quad, or they are not. Assumes nothing.
 use Rattle.quad_reading.proofs.Told.{try-no, try-yes}
 use Rattle.lattice.proofs.Tests.{fails, holds}
 use borrow.Author.Needs.{needs}

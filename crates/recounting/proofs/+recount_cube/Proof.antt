@@ -12,7 +12,7 @@ use Rattle.recounting.proofs.recount_cube.Reads as cube
 use Rattle.recounting.proofs.recount_cube.Kinds as kinds
 use Rattle.recounting.proofs.+recount_cube.Lts-recount_cube as lts
 use Rattle.descending.proofs.eighth.Reads as eighth-reads
-use Rattle.recounting.proofs.is_beside.Reads as is-beside-reads
+use Rattle.recounting.proofs.is_spared.Reads as is-spared-reads
 use Rattle.descending.proofs.touches.Reads as touches-reads
 use Rattle.recounting.proofs.cells_of.Reads as cells-of-reads
 use Rattle.recounting.proofs.recount.Reads as recount-reads
@@ -22,31 +22,31 @@ use Rattle.lattice.proofs.Tests.{fails}
 use Rattle.triangles.specs.declared.Triangle.{Triangle}
 use Rattle.meeting.specs.Met.{met}
 use Rattle.meeting.specs.Covered.{Covers}
+use Rattle.descending.specs.Reach.{Ready}
 use Rattle.descending.proofs.Cubes.{halves, eighth-ok, cube-wider}
 use Rattle.recounting.specs.Anew.{Recounted, inFirstBlocks}
-use Rattle.recounting.specs.Plane.{Plane}
 use Rattle.recounting.proofs.Cubes.{few-blocks, fourfold-cube, outside-kept, missed-kept, single-block, single-recounted}
 use Rattle.recounting.proofs.Cubes.{first-kept, first-more, first-whole}
 use Rattle.recounting.proofs.+recount_cube.{statement}
 use Rattle.recounting.proofs.+recount_cube.Tie.{close}
 
-abbrev size : Measures 2 kinds.ps ℕ
-size κs a = a .1 .1 .1 .1 .1 .1 .1 .0 .side
+abbrev size : Measures 4 kinds.ps ℕ
+size κs a = a .1 .1 .1 .1 .1 .1 .1 .1 .0 .side
 
-abbrev at-size : ℕ → In 2 kinds.ps
-at-size t = and 2 kinds.ps (is 2 kinds.ps size t) cube.Pre
+abbrev at-size : ℕ → In 4 kinds.ps
+at-size t = and 4 kinds.ps (is 4 kinds.ps size t) cube.Pre
 
-abbrev below-size : ℕ → In 2 kinds.ps
+abbrev below-size : ℕ → In 4 kinds.ps
 below-size t =
-    and 2 kinds.ps (falls 2 kinds.ps _<_ size t) cube.Pre
+    and 4 kinds.ps (falls 4 kinds.ps _<_ size t) cube.Pre
 
 abbrev Inv : lts.InvT-loop
-Inv l n grid table₀ plane reach b c k₀ table k =
+Inv l n grid table₀ kept reach side b c k₀ table k =
     (k ≤ 8) × (length table ≡ length table₀)
-    × ((t : Triangle) → Plane l t plane reach → Covers l t b → Recounted (cellsOf l) grid (inFirstBlocks c k (met l t)) table₀ table)
+    × ((t : Triangle) → Ready l t kept reach → Covers l t b → Recounted (cellsOf l) grid (inFirstBlocks c k (met l t)) table₀ table)
 
 abbrev fuel : lts.MeasureT-loop
-fuel l n grid table₀ plane reach b c k₀ table k = 8 - k
+fuel l n grid table₀ kept reach side b c k₀ table k = 8 - k
 
 -- what each call asks and gives
 abbrev claims : ℕ → lts.Claims
@@ -55,8 +55,8 @@ claims t = (
   cells-of-reads.Learnt,
   touches-reads.Asked,
   touches-reads.Learnt,
-  is-beside-reads.Asked,
-  is-beside-reads.Learnt,
+  is-spared-reads.Asked,
+  is-spared-reads.Learnt,
   recount-reads.Asked,
   recount-reads.Learnt,
   eighth-reads.Asked,
@@ -80,16 +80,16 @@ recount-cube-returns t c =
     let e = rw (c .before .before .cells-of .ensures) at (fails (c .before .touches .ensures) (c .if1 .taken)) in
     λ u y v. outside-kept (s .args .l) u (s .args .c) (s .args .grid .now) (s .args .table .now) (s .args .b) v e
 
-recount-cube-is-beside-requires : (t : ℕ) → lts.Need-is-beside-requires (claims t) (at-size t) cube.Post Inv fuel
-recount-cube-is-beside-requires t c κs =
+recount-cube-is-spared-requires : (t : ℕ) → lts.Need-is-spared-requires (claims t) (at-size t) cube.Post Inv fuel
+recount-cube-is-spared-requires t c κs =
     let s = c .before .before .before .before .before in
-    (s .pre .1 .1 .1, rw (c .before .before .cells-of .ensures) (fourfold-cube (cellsOf (s .args .l)) (s .args .c) (s .pre .1 .1 .0)))
+    (s .pre .1 .1 .1, rw (c .before .before .cells-of .ensures) (fourfold-cube (cellsOf (s .args .l)) (s .args .c) (s .pre .1 .1 .0)), s .pre .1 .1 .2)
 
 recount-cube-returns-2 : (t : ℕ) → lts.Need-returns-2 (claims t) (at-size t) cube.Post Inv fuel
 recount-cube-returns-2 t c =
     let s = c .before .before .before .before .before .before .before in
     λ u y v.
-    let e = rw (c .before .before .before .before .cells-of .ensures) at (c .before .is-beside .ensures (c .if2 .taken) u y) in
+    let e = rw (c .before .before .before .before .cells-of .ensures) at (c .before .is-spared .ensures (c .if2 .taken) u y) in
     missed-kept (s .args .l) u (s .args .c) (s .args .grid .now) (s .args .table .now) (s .args .b) v e
 
 recount-cube-recount-requires : (t : ℕ) → lts.Need-recount-requires (claims t) (at-size t) cube.Post Inv fuel
@@ -126,7 +126,7 @@ recount-cube-recount-cube-requires t c κs =
     let s = c .before .before .before .before .before .before .before .before .before .before .before .before .before in
     let two = c .before .before .before .before .if3 .left in
     let e = eighth-ok (cellsOf (s .args .l) / 4) (s .args .c) (s .pre .1 .1 .0) two _ t _ (s .pre .0) (c .eighth .ensures) in
-    (e .0, ((s .pre .1 .0 .0, s .pre .1 .0 .1, rw (c .before .before .before .loop .inv .1) (s .pre .1 .0 .2)), (e .1, s .pre .1 .1 .1)))
+    (e .0, ((s .pre .1 .0 .0, s .pre .1 .0 .1, rw (c .before .before .before .loop .inv .1) (s .pre .1 .0 .2)), (e .1, s .pre .1 .1 .1, s .pre .1 .1 .2)))
 
 recount-cube-add-k : (t : ℕ) → lts.Need-add-k (claims t) (at-size t) cube.Post Inv fuel
 recount-cube-add-k t c = omega arith
@@ -165,7 +165,7 @@ pub +recount-cube-spec : {M : Type 1} → statement M
     (recount-cube-cells-of-requires t)
     (recount-cube-touches-requires t)
     (recount-cube-returns t)
-    (recount-cube-is-beside-requires t)
+    (recount-cube-is-spared-requires t)
     (recount-cube-returns-2 t)
     (recount-cube-recount-requires t)
     (recount-cube-same-length t)

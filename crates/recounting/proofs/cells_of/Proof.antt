@@ -1,4 +1,4 @@
--- `cells_of` meets its contract. Assumes nothing.
+-- `cells_of`: each number of a cube of blocks times four, far below the machine's end. Assumes nothing.
 use borrow.Author.Needs.{needs}
 use Rattle.recounting.proofs.cells_of.Statement.{statement}
 use Rattle.recounting.proofs.cells_of.Tie as tie

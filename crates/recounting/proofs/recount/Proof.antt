@@ -1,4 +1,4 @@
--- `recount` meets its contract. Assumes nothing.
+-- `recount`: the block's own box is counted and written as its entry; a block has few points, so that 16 bits hold it. Assumes nothing.
 use mathlib.Core.Path.{_≡_, ap}
 use Prim.Native.Nat.{ℕ, _≤_}
 use borrow.Author.Needs.{needs}

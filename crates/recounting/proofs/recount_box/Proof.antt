@@ -1,4 +1,4 @@
--- `recount_box` meets its contract. Assumes nothing.
+-- `recount_box`: the blocks of a box of cells go from a quarter of its lowest numbers to a quarter, rounded up, of its highest. Assumes nothing.
 use borrow.Author.Needs.{needs}
 use Rattle.recounting.proofs.recount_box.Statement.{statement}
 use Rattle.recounting.proofs.recount_box.Tie as tie

@@ -1,4 +1,4 @@
--- `recount_met` meets its contract. Assumes nothing.
+-- `recount_met`: the triangle's own box covers the edges it meets: few cells are counted as a box of blocks, more by cubes. Assumes nothing.
 use native.Mathlib.Nat.{le-of-lt}
 use native.Mathlib.Omega.{arith}
 use borrow.Author.Needs.{needs}

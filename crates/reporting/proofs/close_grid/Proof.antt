@@ -1,4 +1,4 @@
--- `close_grid` meets its contract. Assumes nothing.
+-- `close_grid` patches and signs: a patched grid has even faces, which is what signing asks for. Assumes nothing.
 use borrow.Author.Needs.{needs}
 use Rattle.lattice.proofs.LevelFacts.{cells-some, cells-most}
 use Rattle.feeding.specs.Lent.{lentTotals}
@@ -16,10 +16,12 @@ patch-grid-requires c κs =
 
 sign-grid-requires : tie.Need-sign-grid-requires
 sign-grid-requires c κs =
-    let s = c .before .before .before .before .before .before .before .before .before .before .before in
-    let p = c .before .before .before .before .before .patch-grid in
-    let h = patch-left (s .args .l) _ _ (rw (c .before .before .before .before .before .before .before .before .cells .ensures) at (p .ensures lentTotals)) in
-    rw (c .before .before .before .before .before .before .before .before .cells .ensures) ((cells-most (s .args .l), rw (p .kept .1 .0) (s .pre .0 .long)), (h .0, h .1))
+    let patched = c .before .before .before .before .before in
+    let sized = patched .before .before .before in
+    let s = sized .before .before .before in
+    let p = patched .patch-grid in
+    let h = patch-left (s .args .l) _ _ (rw (sized .cells .ensures) at (p .ensures lentTotals)) in
+    rw (sized .cells .ensures) ((cells-most (s .args .l), rw (p .kept .1 .0) (s .pre .0 .long)), (h .0, h .1))
 
 same-length : tie.Need-same-length
 same-length c = search needs
@@ -29,10 +31,17 @@ same-length-2 c = search needs
 
 returns : tie.Need-returns
 returns c =
-    let s = c .before .before .before .before .before .before .before .before .before .before .before .before .before .before in
-    let p = c .before .before .before .before .before .before .before .before .patch-grid in
-    let e = c .before .before .before .before .before .before .before .before .before .before .before .cells .ensures in
-    closing (s .args .l) _ _ (s .pre .0) (s .pre .1) (rw e at (p .ensures lentTotals)) (rw (p .kept .1 .0) (s .pre .0 .long)) (rw e at (c .before .before .sign-grid .ensures)) (rw (c .before .before .sign-grid .kept .1 .0, p .kept .1 .0) (s .pre .0 .long))
+    let patched = c .before .before .before .before .before .before .before .before in
+    let sized = patched .before .before .before in
+    let s = sized .before .before .before in
+    let p = patched .patch-grid in
+    let q = c .before .before .sign-grid in
+    let e = sized .cells .ensures in
+    closing (s .args .l) _ _ (s .pre .0) (s .pre .1)
+    (rw e at (p .ensures lentTotals))
+    (rw (p .kept .1 .0) (s .pre .0 .long))
+    (rw e at (q .ensures))
+    (rw (q .kept .1 .0, p .kept .1 .0) (s .pre .0 .long))
 
 pub close-grid-spec : {M : Type 1} → statement M
 close-grid-spec =

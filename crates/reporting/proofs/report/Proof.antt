@@ -1,4 +1,4 @@
--- `report` meets its contract. Assumes nothing.
+-- `report` lists the closed grid's quads: the listing or the refusal is the definition's, and the list's room bounds the listing's length. Assumes nothing.
 use mathlib.Core.Path.{_≡_, ap, _∙_}
 use Prim.Native.Nat.{_≤_}
 use native.Mathlib.Omega.{arith}
@@ -16,28 +16,35 @@ work-long : (c : tie.Start) → pointsOf (c .args .l) ≤ length (c .args .work 
 work-long c = rw (c .pre .2) (bytes-long (c .args .l))
 
 close-grid-requires : tie.Need-close-grid-requires
-close-grid-requires c κs = (c .before .before .before .before .before .before .pre .1, work-long (c .before .before .before .before .before .before))
+close-grid-requires c κs = let s = c .before .before .before .before .before .before in (s .pre .1, work-long s)
 
 cells-requires : tie.Need-cells-requires
 cells-requires c κs = search needs
 
 list-quads-requires : tie.Need-list-quads-requires
 list-quads-requires c κs =
-    let s = c .before .before .before .before .before .before .before .before .before .before .before .before .before .before in
-    let k = c .before .before .before .before .before .before .before .close-grid in
+    let closed = c .before .before .before .before .before .before .before in
+    let s = closed .before .before .before .before .before .before .before in
+    let k = closed .close-grid in
     rw (c .before .before .cells .ensures) (cells-most (s .args .l), k .ensures .long, k .ensures .grid)
 
 enum-known-quads : tie.Need-enum-known-quads
 enum-known-quads c = search needs
 
 count-inside-requires : tie.Need-count-inside-requires
-count-inside-requires c κs = c .before .before .before .before .before .before .before .before .before .before .before .before .before .before .close-grid .ensures .long
+count-inside-requires c κs =
+    let listed = c .before .before .before .before .before .before in
+    let closed = listed .before .before .before .before .before .before .before .before in
+    closed .close-grid .ensures .long
 
 put-listing-requires : tie.Need-put-listing-requires
 put-listing-requires c κs =
-    let s = c .before .before .before .before .before .before .before .before .before .before .before .before .before .before .before .before .before .before .before .before .before .before .before .before in
-    let q = c .before .before .before .before .before .before .before .before .before .list-quads in
-    let r = listed-room _ _ _ _ _ _ (rw (c .before .before .before .before .before .quads .given .1) at (q .ensures)) in
+    let found = c .before .before .before .before .before in
+    let listed = found .before .before .before .before in
+    let closed = listed .before .before .before .before .before .before .before .before in
+    let s = closed .before .before .before .before .before .before .before in
+    let q = listed .list-quads in
+    let r = listed-room _ _ _ _ _ _ (rw (found .quads .given .1) at (q .ensures)) in
     let e : length (s .args .list .now) ≡ 32768 = ap length (s .pre .3) ∙ list-long in
     (omega (arith, r, e, s .pre .4), omega (arith, r, q .kept .1 .1 .0))
 
@@ -64,11 +71,16 @@ same-length-4 c = search needs
 
 returns : tie.Need-returns
 returns c =
-    let s = c .before .before .before .before .before .before .before .before .before .before .before .before .before .before .before .before .before .before .before .before .before .before .before .before .before .before .before in
-    let k = c .before .before .before .before .before .before .before .before .before .before .before .before .before .before .before .before .before .before .before .before .close-grid in
+    let counted = c .before .before .before .before .before in
+    let found = counted .before .before .before in
+    let listed = found .before .before .before .before in
+    let sized = listed .before .before .before in
+    let closed = sized .before .before .before .before .before in
+    let s = closed .before .before .before .before .before .before .before in
+    let k = rw (s .pre .2) at (closed .close-grid .ensures) in
     let p = c .before .before .put-listing .ensures in
-    let e = rw (c .before .before .before .before .before .before .before .before .quads .given .1, c .before .before .before .before .before .before .before .before .before .before .before .before .before .before .before .cells .ensures, s .pre .3) at (c .before .before .before .before .before .before .before .before .before .before .before .before .list-quads .ensures) in
-    let i = listing-is (s .args .l) _ (rw (s .pre .2) at (k .ensures)) (s .args .triangles) _ _ _ e (c .before .before .before .before .before .count-inside .ensures) in
+    let e = rw (found .quads .given .1, sized .cells .ensures, s .pre .3) at (listed .list-quads .ensures) in
+    let i = listing-is (s .args .l) _ k (s .args .triangles) _ _ _ e (counted .count-inside .ensures) in
     (rw (s .pre .0, ← i) (rw (s .pre .0) at (p .0)), p .1)
 
 same-length-5 : tie.Need-same-length-5
@@ -85,11 +97,15 @@ same-length-8 c = search needs
 
 returns-2 : tie.Need-returns-2
 returns-2 c =
-    let s = c .before .before .before .before .before .before .before .before .before .before .before .before .before .before .before .before .before .before .before .before .before .before .before .before .before in
-    let k = c .before .before .before .before .before .before .before .before .before .before .before .before .before .before .before .before .before .before .close-grid in
+    let told = c .before .before .before .before .before .before in
+    let listed = told .before .before .before .before in
+    let sized = listed .before .before .before in
+    let closed = sized .before .before .before .before .before in
+    let s = closed .before .before .before .before .before .before .before in
+    let k = rw (s .pre .2) at (closed .close-grid .ensures) in
     let p = c .before .before .put-refusal .ensures in
-    let e = rw (c .before .before .before .before .before .before .why .given .1, c .before .before .before .before .before .before .before .before .before .before .before .before .before .cells .ensures, s .pre .3) at (c .before .before .before .before .before .before .before .before .before .before .list-quads .ensures) in
-    let i = refused-is (s .args .l) _ (rw (s .pre .2) at (k .ensures)) (s .args .triangles) _ (c .before .before .before .before .before .before .why .given .0 .0) e in
+    let e = rw (told .why .given .1, sized .cells .ensures, s .pre .3) at (listed .list-quads .ensures) in
+    let i = refused-is (s .args .l) _ k (s .args .triangles) _ (told .why .given .0 .0) e in
     (rw (s .pre .0, ← i, ← c .before .before .before .number .ensures) (p .0), p .1)
 
 pub report-spec : {M : Type 1} → statement M

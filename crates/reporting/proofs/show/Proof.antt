@@ -1,4 +1,4 @@
--- `show` meets its contract. Assumes nothing.
+-- `show` puts the closed grid's picture and the two counts behind it; 107845 bytes hold those of any level. Assumes nothing.
 use mathlib.Core.Path.{sym}
 use Prim.Native.Nat.{_≤_}
 use native.Mathlib.Omega.{arith}

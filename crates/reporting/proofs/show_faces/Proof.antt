@@ -1,4 +1,4 @@
--- `show_faces` meets its contract. Assumes nothing.
+-- `show_faces` puts the picture of the grid as it came, which is one of the faces; 107811 bytes hold that of any level. Assumes nothing.
 use mathlib.Core.Path.{sym}
 use native.Mathlib.Omega.{arith}
 use borrow.Author.Needs.{needs}

@@ -1,4 +1,4 @@
--- `show_masks` meets its contract. Assumes nothing.
+-- `show_masks` puts the masks of the closed grid, which are those of the signs given; 5742 bytes hold the pictures of any level. Assumes nothing.
 use mathlib.Core.Path.{_≡_, sym}
 use Prim.Native.Nat.{suc, _+_, _≤_}
 use native.Mathlib.Numerals.{add-one}
@@ -21,14 +21,18 @@ cells-requires : tie.Need-cells-requires
 cells-requires c κs = search needs
 
 add-put-masks : tie.Need-add-put-masks
-add-put-masks c = let s = c .before .before .before .before .before .before .before .before .before .before .before .before .before in omega (arith, c .cells .ensures, cells-most (s .args .l))
+add-put-masks c =
+    let closed = c .before .before .before .before .before .before .before in
+    let s = closed .before .before .before .before .before .before in
+    omega (arith, c .cells .ensures, cells-most (s .args .l))
 
 put-masks-requires : tie.Need-put-masks-requires
 put-masks-requires c κs =
-    let s = c .before .before .before .before .before .before .before .before .before .before .before .before .before in
+    let closed = c .before .before .before .before .before .before .before in
+    let s = closed .before .before .before .before .before .before in
     let n = cellsOf (s .args .l) in
     let small : suc n ≤ 33 = omega (arith, cells-most (s .args .l)) in
-    rw (c .cells .ensures, add-one n) (small, c .before .before .before .before .before .before .before .close-grid .ensures .long, omega (arith, pictures-most (suc n) small, s .pre .2))
+    rw (c .cells .ensures, add-one n) (small, closed .close-grid .ensures .long, omega (arith, pictures-most (suc n) small, s .pre .2))
 
 same-length : tie.Need-same-length
 same-length c = search needs
@@ -41,12 +45,14 @@ same-length-3 c = search needs
 
 returns : tie.Need-returns
 returns c =
-    let s = c .before .before .before .before .before .before .before .before .before .before .before .before .before .before .before .before in
+    let closed = c .before .before .before .before .before .before .before .before .before .before in
+    let s = closed .before .before .before .before .before .before in
+    let k = rw (s .pre .1) at (closed .close-grid .ensures) in
     let n = cellsOf (s .args .l) in
-    let h = c .before .before .before .before .before .before .before .before .before .before .close-grid .last .1 .0 in
+    let h = closed .close-grid .last .1 .0 in
     let small : suc n ≤ 33 = omega (arith, cells-most (s .args .l)) in
     let p = rw (c .before .before .before .cells .ensures, add-one n, ← masks-are n h) at (c .before .before .put-masks .ensures) in (
-      rw (sym (masks-shown (s .args .l) _ (rw (s .pre .1) at (c .before .before .before .before .before .before .before .before .before .before .close-grid .ensures)))) p,
+      rw (sym (masks-shown (s .args .l) _ k)) p,
       omega (arith, p .place, masks-length n h, pictures-most (suc n) small, s .pre .2, c .before .before .put-masks .kept .0),
     )
 

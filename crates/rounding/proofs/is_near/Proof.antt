@@ -1,4 +1,4 @@
--- `is_near` meets its contract. Assumes nothing.
+-- `is_near` compares bits: without their sign they rise as the sizes do. Assumes nothing.
 use borrow.Author.Needs.{needs}
 use Rattle.rounding.proofs.Near.{near-test}
 use Rattle.rounding.proofs.is_near.Statement.{statement}

@@ -1,4 +1,4 @@
--- `rounded` meets its contract. Assumes nothing.
+-- `rounded` answers 0 where the size is less than a half; else the half is added to what the shift leaves, which is the law of rounding. Assumes nothing.
 use borrow.Author.Needs.{needs}
 use mathlib.Core.Path.{_≡_, refl, sym, ap, _∙_}
 use mathlib.Core.Bool.{Bool, true, false}

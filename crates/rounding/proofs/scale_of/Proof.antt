@@ -1,4 +1,4 @@
--- `scale_of` meets its contract. Assumes nothing.
+-- `scale_of` refuses e below -20 and above 20, and between them e + 20 is a plain number up to 40. Assumes nothing.
 use native.Mathlib.Omega.{arith}
 use lib.IntN.{pos}
 use mir.Syntax.{w32}

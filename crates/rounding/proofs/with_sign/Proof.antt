@@ -1,4 +1,4 @@
--- `with_sign` meets its contract. Assumes nothing.
+-- `with_sign` tells the sign by a comparison with 2^31; a size below 2^31 and its opposite both fit. Assumes nothing.
 use mathlib.Core.Path.{_≡_, ap, _∙_}
 use Prim.Native.Nat.{ℕ, zero, suc, _<_}
 use native.Mathlib.Omega.{arith}

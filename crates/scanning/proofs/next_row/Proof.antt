@@ -1,4 +1,4 @@
--- `next_row` meets its contract. Assumes nothing.
+-- `next_row` compares the next row with the box's end as the definition does. Assumes nothing.
 use borrow.Author.Needs.{needs}
 use borrow.Author.Tests.{lt-ltb, le-ltb}
 use Rattle.scanning.specs.Scan.{nextRow}

@@ -1,4 +1,4 @@
--- `signing::across` meets its contract. Assumes nothing.
+-- `across` compares the sign with the mark: two truth values differ exactly where their sum is true. Assumes nothing.
 use borrow.Author.Needs.{needs}
 use mathlib.Core.Path.{ap, _∙_}
 use mathlib.Core.Bool.{Bool}

@@ -1,4 +1,4 @@
--- `omphirun_count_totals` meets its contract. Assumes nothing.
+-- `omphirun_count_totals` hands on to the call, and the number is its answer's. Assumes nothing.
 use borrow.Author.Needs.{needs}
 use Rattle.stage.proofs.omphirun_count_totals.Statement.{statement}
 use Rattle.stage.proofs.omphirun_count_totals.Tie as tie

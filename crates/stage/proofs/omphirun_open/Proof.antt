@@ -1,4 +1,4 @@
--- `omphirun_open` meets its contract. Assumes nothing.
+-- `omphirun_open` hands on to the call, and the number is its answer's. Assumes nothing.
 use borrow.Author.Needs.{needs}
 use Rattle.stage.proofs.omphirun_open.Statement.{statement}
 use Rattle.stage.proofs.omphirun_open.Tie as tie

@@ -1,4 +1,4 @@
--- `omphirun_sign` meets its contract. Assumes nothing.
+-- `omphirun_sign` hands on to the call, and the number is its answer's. Assumes nothing.
 use borrow.Author.Needs.{needs}
 use Rattle.stage.proofs.omphirun_sign.Statement.{statement}
 use Rattle.stage.proofs.omphirun_sign.Tie as tie

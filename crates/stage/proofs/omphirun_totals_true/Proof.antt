@@ -1,4 +1,4 @@
--- `omphirun_totals_true` meets its contract. Assumes nothing.
+-- `omphirun_totals_true` hands on to the call and tells its answer. Assumes nothing.
 use mathlib.Core.Path.{_∙_}
 use borrow.Author.Needs.{needs}
 use Rattle.stage.proofs.omphirun_totals_true.Statement.{statement}

@@ -1,4 +1,4 @@
--- `centre` meets its contract. Assumes nothing.
+-- `centre` refuses what does not fit; what fits is near, and its shift is small, so that where it stands is sound. Assumes nothing.
 use mathlib.Core.Path.{_≡_, sym, ap, _∙_}
 use mathlib.Core.Bool.{true}
 use borrow.Author.Tests.{not-true, not-false}

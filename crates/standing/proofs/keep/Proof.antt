@@ -1,4 +1,4 @@
--- `keep` meets its contract. Assumes nothing.
+-- `keep` refuses what is too far; what is near stands soundly without a shift. Assumes nothing.
 use mathlib.Core.Path.{_≡_, refl, sym, ap, _∙_}
 use mathlib.Core.Bool.{true}
 use borrow.Author.Tests.{not-true, not-false}
@@ -36,7 +36,10 @@ returns-2 c =
     let s = c3 in
     let m = s .pre .1 .model in
     let h = s .pre .1 .measures in
-    (sound-at (s .args .s) still still m _ (s .pre .0) (c .stand .ensures m h) refl still-near, λ m h. rw (sym (c2 .near-at .ensures m h) ∙ not-false _ (c .before .if1 .left)) (ap Stands (c .stand .ensures m h)))
+    let near-now = not-false _ (c .before .if1 .left) in (
+      sound-at (s .args .s) still still m _ (s .pre .0) (c .stand .ensures m h) refl still-near,
+      λ m h. rw (sym (c2 .near-at .ensures m h) ∙ near-now) (ap Stands (c .stand .ensures m h)),
+    )
 
 pub keep-spec : {M : Type 1} → statement M
 keep-spec = tie.close (tie.spec near-at-requires returns stand-requires returns-2)

@@ -1,4 +1,4 @@
--- `plan_for` meets its contract. Assumes nothing.
+-- `plan_for` has a case for each letter; the largest e that fits, which `choose` answers, is one that `centre` may be asked for. Assumes nothing.
 use mathlib.Core.Path.{sym, ap, _∙_}
 use borrow.Author.Tests.{eq-eqb, ne-eqb}
 use Rattle.placing.proofs.Told.{chosen-largest}

@@ -1,4 +1,4 @@
--- `stand` meets its contract. Assumes nothing.
+-- `stand` takes the least and the greatest result of each axis, which are whole numbers that fit. Assumes nothing.
 use mathlib.Core.Path.{_∙_}
 use mir.Syntax.{w32}
 use mir.ValLaws.{toZ-ofZ}

@@ -1,4 +1,4 @@
--- `read_stl` meets its contract. Assumes nothing.
+-- `read_stl` gives the first row that applies, and puts every triangle where none does; that its length is right bounds every place read. Assumes nothing.
 use borrow.Author.Needs.{needs}
 use Rattle.stl_call.proofs.read_stl.Statement.{statement}
 use Rattle.stl_call.proofs.read_stl.Tie as tie

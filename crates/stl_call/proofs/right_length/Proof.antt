@@ -1,4 +1,4 @@
--- `right_length` meets its contract. Assumes nothing.
+-- `right_length` reads the count where there are 84 bytes; with fewer the length is wrong anyway. Assumes nothing.
 use borrow.Author.Needs.{needs}
 use Rattle.stl_call.proofs.right_length.Statement.{statement}
 use Rattle.stl_call.proofs.right_length.Tie as tie

@@ -1,4 +1,4 @@
--- `along` meets its contract. Assumes nothing.
+-- `along`: 0 is x, 1 is y, and z is left. Assumes nothing.
 use mathlib.Core.Path.{_∙_}
 use mir.Syntax.{w32}
 use borrow.Author.Needs.{needs}

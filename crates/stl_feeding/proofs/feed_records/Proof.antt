@@ -89,8 +89,12 @@ mark-record-requires c κs =
     let c5 = c2 .before .before .before in
     let c8 = c5 .before .before .before in
     let l = c5 .loop in
-    let a = c8 .args in
-    (ap length (here (l .at) (a .block .now)) ∙ length-take-le 50 (drop (l .at) (a .block .now)) (omega (arith, length-drop (l .at) (a .block .now), c2 .if2 .left)), c8 .pre .1, l .inv .5)
+    let a = c8 .args in (
+      ap length (here (l .at) (a .block .now))
+          ∙ length-take-le 50 (drop (l .at) (a .block .now)) (omega (arith, length-drop (l .at) (a .block .now), c2 .if2 .left)),
+      c8 .pre .1,
+      l .inv .5,
+    )
 
 same-length-3 : tie.Need-same-length-3 Inv-loop μ-loop
 same-length-3 c = c .before .before .before .mark-record .kept .1 .0 ∙ c .before .before .before .before .before .before .before .before .before .loop .inv .4

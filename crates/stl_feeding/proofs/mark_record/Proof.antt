@@ -1,4 +1,4 @@
--- `mark_record` meets its contract. Assumes nothing.
+-- `mark_record`: what is wrong with a vertex is told first; where nothing is, the numbers are placed and marked. Assumes nothing.
 use mathlib.Core.Path.{refl, sym, ap, _∙_}
 use Prim.Native.Nat.{_≤_}
 use native.Mathlib.Omega.{arith}

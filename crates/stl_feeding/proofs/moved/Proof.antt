@@ -17,7 +17,8 @@ module _ (c : tie.After-wide2) where
   both : Summed (c .before .before .args .v) (c .before .before .args .by) (c .before .wide .result) (c .wide2 .result)
   both =
       let s = c .before .before in
-      summed (s .args .v) (s .args .by) _ _ (s .fits .v) (s .fits .by) (c .before .wide .ensures ∙ toZ-ofZ (s .fits .v)) (c .wide2 .ensures ∙ toZ-ofZ (s .fits .by))
+      summed (s .args .v) (s .args .by) _ _ (s .fits .v) (s .fits .by) (c .before .wide .ensures ∙ toZ-ofZ (s .fits .v))
+      (c .wide2 .ensures ∙ toZ-ofZ (s .fits .by))
 
 wide-requires : tie.Need-wide-requires
 wide-requires c κs = search needs

@@ -1,4 +1,4 @@
--- `wide` meets its contract. Assumes nothing.
+-- `wide`: 64 bits hold every number that 32 do. Assumes nothing.
 use mathlib.Core.Path.{_∙_}
 use mir.Syntax.{w32}
 use mir.Facts.{toZ-ofZ, sfits-widen, sfits-toZ, fits-ofZ}

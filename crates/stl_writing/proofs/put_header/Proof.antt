@@ -1,4 +1,4 @@
--- `put_header` meets its contract. Assumes nothing.
+-- `put_header` puts the count behind 80 zeros, which is the header. Assumes nothing.
 use borrow.Author.Needs.{needs}
 use Rattle.stl_writing.proofs.put_header.Statement.{statement}
 use Rattle.stl_writing.proofs.put_header.Tie as tie

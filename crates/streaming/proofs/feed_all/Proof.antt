@@ -1,4 +1,4 @@
--- `feed_all` meets its contract. Assumes nothing.
+-- `feed_all`: the loop's invariant is that the bytes read so far came to this grid; each whole block raises the count. Assumes nothing.
 use mathlib.Core.Path.{_≡_, refl, _∙_}
 use mathlib.Core.List.{[]}
 use Prim.Native.Nat.{_-_, _≤_}

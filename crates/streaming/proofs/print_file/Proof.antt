@@ -1,4 +1,4 @@
--- `print_file` meets its contract. Assumes nothing.
+-- `print_file` writes as many bytes as were put, which lie within the file that is lent. Assumes nothing.
 use mathlib.Core.Path.{sym, _∙_}
 use lib.Seq.{length-take-le}
 use Rattle.filing.proofs.Filed.{file-lent}

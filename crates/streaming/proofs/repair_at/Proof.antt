@@ -1,4 +1,4 @@
--- `repair_at` meets its contract. Assumes nothing.
+-- `repair_at` has a case for each thing wanted: the grid that the stream left is ready for each, and the buffer has room for it. Assumes nothing.
 use mathlib.Core.Path.{_∙_}
 use native.Mathlib.Omega.{arith}
 use Rattle.streaming.specs.declared.Wanted.the-variants.{Listing, Layers, Masks, Faces, Surface}

@@ -1,4 +1,4 @@
--- `repair_stream` meets its contract. Assumes nothing.
+-- `repair_stream` reads the level byte; a stream without one and one with a bad level are refused, the rest is the triangles of a level. Assumes nothing.
 use mathlib.Core.Path.{sym, _∙_}
 use mathlib.Core.List.{[], _∷_}
 use Rattle.streaming.proofs.Opened.{printed-none, printed-bad, printed-level, read-number, room-some}

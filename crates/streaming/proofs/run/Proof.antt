@@ -1,4 +1,4 @@
--- `run` meets its contract. Assumes nothing.
+-- `run` writes as many bytes as were put, which lie within the text that is lent; what is no file fits in that. Assumes nothing.
 use mathlib.Core.Path.{sym, _∙_}
 use native.Mathlib.Omega.{arith}
 use lib.Seq.{length-take-le}

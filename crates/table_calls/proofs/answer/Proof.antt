@@ -1,3 +1,4 @@
+-- `answer` has a case for each of the two. Assumes nothing.
 use Rattle.table_calls.proofs.answer.Statement.{statement}
 use Rattle.table_calls.proofs.answer.Tie as tie
 

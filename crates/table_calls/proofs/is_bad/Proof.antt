@@ -1,3 +1,4 @@
+-- `is_bad` asks for x, y and z; the first that is bad decides. Assumes nothing.
 use mathlib.Core.Path.{sym, _∙_}
 use borrow.Author.Needs.{needs}
 use Rattle.asking.specs.Call.{badBox}

@@ -1,3 +1,4 @@
+-- `is_bad_along` makes the definition's two comparisons, one after the other. Assumes nothing.
 use borrow.Author.Tests.{lt-ltb, le-ltb}
 use Rattle.table_calls.proofs.is_bad_along.Statement.{statement}
 use Rattle.table_calls.proofs.is_bad_along.Tie as tie

@@ -1,4 +1,4 @@
--- `head_of` meets its contract. Assumes nothing.
+-- `head_of`: field by field the definition's record. Assumes nothing.
 use mathlib.Core.Path.{_≡_, _∙_}
 use mir.Syntax.{w32}
 use mir.ValLaws.{toZ-ofZ}

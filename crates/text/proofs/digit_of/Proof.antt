@@ -1,4 +1,4 @@
--- `digit_of` meets its contract. Assumes nothing.
+-- `digit_of` adds the digit to that of 0, and the sum is a byte. Assumes nothing.
 use borrow.Author.Needs.{needs}
 use Rattle.text.proofs.digit_of.Statement.{statement}
 use Rattle.text.proofs.digit_of.Tie as tie

@@ -1,4 +1,4 @@
--- `put_field` meets its contract. Assumes nothing.
+-- `put_field` puts the number where the text ends. Assumes nothing.
 use native.Mathlib.Omega.{arith}
 use lib.ListN.{length-append}
 use Rattle.text.proofs.Texts.{put-both}

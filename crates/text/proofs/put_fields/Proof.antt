@@ -1,4 +1,4 @@
--- `put_fields` meets its contract. Assumes nothing.
+-- `put_fields` puts the second field where the first ends. Assumes nothing.
 use borrow.Author.Needs.{needs}
 use mathlib.Core.List.{_++_}
 use native.Mathlib.Omega.{arith}

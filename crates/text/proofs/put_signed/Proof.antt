@@ -1,4 +1,4 @@
--- `put_signed` meets its contract. Assumes nothing.
+-- `put_signed` puts a minus sign and the number's opposite where it is negative; else the number is its own size, which fits in 32 bits. Assumes nothing.
 use borrow.Author.Needs.{needs}
 use mathlib.Core.Path.{_≡_, sym, ap, _∙_, subst}
 use mathlib.Core.Bool.{true, false}

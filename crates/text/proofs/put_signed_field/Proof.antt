@@ -1,4 +1,4 @@
--- `put_signed_field` meets its contract. Assumes nothing.
+-- `put_signed_field` puts the number where the text ends. Assumes nothing.
 use borrow.Author.Needs.{needs}
 use native.Mathlib.Omega.{arith}
 use lib.ListN.{length-append}

@@ -1,4 +1,4 @@
--- `put_text` meets its contract. Assumes nothing.
+-- `put_text`: the loop's invariant is that the text's first k bytes stand at the place. Assumes nothing.
 use mathlib.Core.Path.{_≡_, refl, ap, _∙_}
 use Prim.Native.Nat.{ℕ, _+_, _-_, _≤_}
 use native.Mathlib.Nat.{add-zero, le-antisymm}

@@ -1,4 +1,4 @@
--- `block_box` meets its contract. Assumes nothing.
+-- `block_box` forms the definition's six coordinates; block coordinates are 8 at most, so that all fit. Assumes nothing.
 use borrow.Author.Needs.{needs}
 use Rattle.totals.proofs.block_box.Statement.{statement}
 use Rattle.totals.proofs.block_box.Tie as tie

@@ -1,4 +1,4 @@
--- `clear_totals` meets its contract. Assumes nothing.
+-- `clear_totals`: the loop's invariant is that q zeros stand before the rest of the table as it came. Assumes nothing.
 use mathlib.Core.Path.{_≡_, refl, ap, _∙_}
 use mathlib.Core.List.{_++_}
 use Prim.Native.Nat.{ℕ, _-_, _≤_}

@@ -1,4 +1,4 @@
--- `four_marks` meets its contract. Assumes nothing.
+-- `four_marks` adds up four bytes' marks, 3 at most each: the sum of a row of four, written out. Assumes nothing.
 use native.Mathlib.Omega.{arith}
 use borrow.Author.Needs.{needs}
 use lib.ListN.{getD}

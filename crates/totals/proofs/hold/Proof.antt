@@ -1,4 +1,4 @@
--- `hold` meets its contract. Assumes nothing.
+-- `hold` adds to the total of the block that the point's quarters number; a byte of 0 has no mark to add. Assumes nothing.
 use mathlib.Core.Path.{_≡_, sym, ap, _∙_}
 use Prim.Native.Nat.{ℕ, _+_, _≤_, _<_}
 use native.Mathlib.Nat.{add-zero}

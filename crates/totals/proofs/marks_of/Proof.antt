@@ -1,4 +1,4 @@
--- `marks_of` meets its contract. Assumes nothing.
+-- `marks_of` adds up three bits, so that the sum is 3 at most. Assumes nothing.
 use borrow.Author.Needs.{needs}
 use Rattle.totals.proofs.marks_of.Statement.{statement}
 use Rattle.totals.proofs.marks_of.Tie as tie

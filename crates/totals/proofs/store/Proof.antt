@@ -1,4 +1,4 @@
--- `store` meets its contract. Assumes nothing.
+-- `store`: the loop's invariant is that with the totals from q on written the table is as with all of them written. Assumes nothing.
 use mathlib.Core.Path.{_≡_, refl, sym, ap, _∙_}
 use mathlib.Core.List.{List, map, _++_}
 use Prim.Native.Nat.{ℕ, _-_, _≤_, _<_}

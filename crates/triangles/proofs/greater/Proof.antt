@@ -1,4 +1,4 @@
--- `greater` meets its contract. Assumes nothing.
+-- `greater` compares the whole numbers, since both fit in their machine numbers. Assumes nothing.
 use mir.Facts.{toZ-ofZ}
 use Rattle.triangles.specs.Spans.{greater}
 use Rattle.triangles.proofs.greater.Statement.{statement}

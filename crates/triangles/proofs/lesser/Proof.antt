@@ -1,4 +1,4 @@
--- `lesser` meets its contract. Assumes nothing.
+-- `lesser` compares the whole numbers, since both fit in their machine numbers. Assumes nothing.
 use mir.Facts.{toZ-ofZ}
 use Rattle.triangles.specs.Spans.{lesser}
 use Rattle.triangles.proofs.lesser.Statement.{statement}

@@ -1,4 +1,4 @@
--- `run` meets its contract. Assumes nothing.
+-- `run` writes what stands before the piece, which lies within the text, and copies the piece. Assumes nothing.
 use mathlib.Core.Path.{sym}
 use lib.Seq.{length-take-le}
 use borrow.Author.Needs.{needs}

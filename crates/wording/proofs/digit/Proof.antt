@@ -1,4 +1,4 @@
--- `digit` meets its contract. Assumes nothing.
+-- `digit`: 10, which is no digit, for a byte below `0`, and for another its distance from `0`. Assumes nothing.
 use mathlib.Core.Path.{ap}
 use Prim.Native.Nat.{ℕ, _-_}
 use native.Mathlib.Omega.{arith}

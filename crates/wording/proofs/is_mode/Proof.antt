@@ -1,4 +1,4 @@
--- `is_mode` meets its contract. Assumes nothing.
+-- `is_mode`: the three letters in turn, as the definition has them. Assumes nothing.
 use borrow.Author.Tests.{eq-eqb, ne-eqb}
 use Rattle.wording.specs.Word.{isMode}
 use Rattle.wording.proofs.is_mode.Statement.{statement}

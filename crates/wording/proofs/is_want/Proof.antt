@@ -1,4 +1,4 @@
--- `is_want` meets its contract. Assumes nothing.
+-- `is_want`: the two letters in turn, as the definition has them. Assumes nothing.
 use borrow.Author.Tests.{eq-eqb, ne-eqb}
 use Rattle.wording.specs.Word.{isWant}
 use Rattle.wording.proofs.is_want.Statement.{statement}

@@ -1,4 +1,4 @@
--- `read_word` meets its contract. Assumes nothing.
+-- `read_word`: the definition's tests in its order; each character lies within the five that there are. Assumes nothing.
 use mathlib.Core.Path.{_≡_, refl, sym, ap, _∙_}
 use mathlib.Core.Bool.{true, false}
 use Prim.Native.Nat.{ℕ}

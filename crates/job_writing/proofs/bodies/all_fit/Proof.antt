@@ -1,4 +1,4 @@
--- `all_fit` meets its contract. Assumes nothing.
+-- `all_fit` asks body by body, each at the place behind those before it; that these fit keeps the place small enough to be formed. Assumes nothing.
 use mathlib.Core.Path.{_∙_}
 use native.Mathlib.Omega.{arith}
 use Rattle.lattice.proofs.Tests.{fails, holds}

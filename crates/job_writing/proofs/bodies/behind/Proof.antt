@@ -1,4 +1,4 @@
--- `behind` meets its contract. Assumes nothing.
+-- `behind` adds the length of a body that is wanted; that it fits keeps the sum small. Assumes nothing.
 use native.Mathlib.Omega.{arith}
 use Rattle.job_writing.proofs.Kept.{end-none, end-one}
 use Rattle.job_writing.proofs.bodies.behind.Statement.{statement}

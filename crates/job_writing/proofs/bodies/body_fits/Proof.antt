@@ -1,4 +1,4 @@
--- `body_fits` meets its contract. Assumes nothing.
+-- `body_fits` asks whether the body is wanted, then for offset, length and kind; the first that fails decides. Assumes nothing.
 use mathlib.Core.Path.{_∙_}
 use Prim.Native.Nat.{_≤_}
 use native.Mathlib.Omega.{arith}

@@ -1,4 +1,4 @@
--- `end_of` meets its contract. Assumes nothing.
+-- `end_of` goes from body to body: the end of a list is the end of its rest, taken from where its first part ends. Assumes nothing.
 use mathlib.Core.Path.{sym, ap, _∙_}
 use native.Mathlib.Omega.{arith}
 use Prim.Native.Nat.{ℕ}

@@ -1,4 +1,4 @@
--- `put_body` meets its contract. Assumes nothing.
+-- `put_body` puts the bytes where they are wanted, and what is not wanted joins nothing to the file. Assumes nothing.
 use mathlib.Core.Path.{sym, ap, _∙_}
 use Rattle.octets.specs.Octets.{puts}
 use Rattle.octets.proofs.Puts.{puts-none}

@@ -1,4 +1,4 @@
--- `put_line` meets its contract. Assumes nothing.
+-- `put_line` puts a kind and two words, the line-bytes bytes of a line; what is not wanted has no line. Assumes nothing.
 use mathlib.Core.Path.{_≡_, sym, ap, _∙_}
 use native.Mathlib.Omega.{arith}
 use borrow.Author.Tests.{not-true, not-false}
@@ -19,9 +19,9 @@ use Rattle.job_writing.proofs.bodies.put_line.Statement.{statement}
 use Rattle.job_writing.proofs.bodies.put_line.Tie as tie
 
 -- the bytes of a line that is wanted
-nine : (s : tie.Start) → s .args .wanted ≡ true →
+line-bytes : (s : tie.Start) → s .args .wanted ≡ true →
     length (lines (s .args .at) (keep (s .args .wanted) (s .args .kind) (s .args .bytes .now))) ≡ 9
-nine s t =
+line-bytes s t =
     let b : Body = record { kind = s .args .kind; bytes = s .args .bytes .now } in
     let one = lines-one (s .args .at) (s .args .kind) (s .args .wanted) (s .args .bytes .now) t in
     ap (λ (x : List ℕ). length x) one ∙ line-length (s .args .at) b
@@ -37,7 +37,7 @@ returns c =
 slice-write-out : tie.Need-slice-write-out
 slice-write-out c =
     let start = c .before .before .before in
-    let e = nine start (not-false _ (c .if1 .left)) in
+    let e = line-bytes start (not-false _ (c .if1 .left)) in
     omega (arith, e, start .pre .1)
 
 add-put-word : tie.Need-add-put-word
@@ -51,7 +51,7 @@ cast-put-word c =
 put-word-requires : tie.Need-put-word-requires
 put-word-requires c κs =
     let start = c .before .before .before .before in
-    let e = nine start (not-false _ (c .before .if1 .left)) in
+    let e = line-bytes start (not-false _ (c .before .if1 .left)) in
     simp length-set (omega (arith, e, start .pre .1))
 
 add-put-word-2 : tie.Need-add-put-word-2
@@ -67,7 +67,7 @@ put-word-requires-2 : tie.Need-put-word-requires-2
 put-word-requires-2 c κs =
     let test = c .before .before .before .before .before in
     let start = test .before .before .before in
-    let e = nine start (not-false _ (test .if1 .left)) in
+    let e = line-bytes start (not-false _ (test .if1 .left)) in
     let kept = length-set (start .args .out .now) (start .args .p) (start .args .kind) in
     omega (arith, e, start .pre .1, c .before .before .before .put-word .kept, kept)
 
@@ -91,7 +91,7 @@ returns-2 c =
     let one = lines-one at (start .args .kind) (start .args .wanted) (start .args .bytes .now) (not-false _ (test .if1 .left)) in
     let offset = c .before .before .before .before .before .before .put-word .ensures in
     let size = c .before .before .put-word2 .ensures in (
-      ap (λ (m : ℕ). p + m) (sym (nine start (not-false _ (test .if1 .left)))),
+      ap (λ (m : ℕ). p + m) (sym (line-bytes start (not-false _ (test .if1 .left)))),
       line-put out _ _ p at b offset size ∙ ap (puts out p) (sym one),
     )
 

@@ -1,4 +1,4 @@
--- `with_sign` meets its contract. Assumes nothing.
+-- `with_sign` packs the lowest part of the byte, the marks, with the sign; without one there is nothing to add. Assumes nothing.
 use mathlib.Core.Path.{sym}
 use native.Mathlib.Nat.{add-zero}
 use borrow.Author.Needs.{needs}

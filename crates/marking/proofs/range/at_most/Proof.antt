@@ -1,4 +1,4 @@
--- `at_most` meets its contract. Assumes nothing.
+-- `at_most`: the machine's comparison is that of the numbers. Assumes nothing.
 use borrow.Author.Needs.{needs}
 use Rattle.marking.proofs.range.at_most.Statement.{statement}
 use Rattle.marking.proofs.range.at_most.Tie as tie

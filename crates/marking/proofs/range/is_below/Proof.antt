@@ -1,4 +1,4 @@
--- `is_below` meets its contract. Assumes nothing.
+-- `is_below`: the lower end fits in 64 bits, so the machine compares the numbers themselves. Assumes nothing.
 use mathlib.Core.Path.{_≡_, ap}
 use mathlib.Core.Bool.{not}
 use native.Mathlib.Omega.{arith}

@@ -1,4 +1,4 @@
--- `wide` meets its contract. Assumes nothing.
+-- `wide`: a number that fits in 32 bits fits in 64 and stays the same. Assumes nothing.
 use mathlib.Core.Path.{_∙_}
 use mir.Syntax.{w32}
 use mir.Facts.{toZ-ofZ, sfits-widen, sfits-toZ, fits-ofZ}

@@ -1,4 +1,4 @@
--- `is_finite` meets its contract. Assumes nothing.
+-- `is_finite`: one case for each way in which a vertex is read. Assumes nothing.
 use mathlib.Core.Path.{sym, ap, _∙_}
 use borrow.Author.Needs.{needs}
 use Rattle.stl_feeding.specs.Measured.{finiteOf}

@@ -1,4 +1,4 @@
--- `is_finite_record` meets its contract. Assumes nothing.
+-- `is_finite_record`: the three vertices in turn; the first that is not finite decides, as in the definition. Assumes nothing.
 use mathlib.Core.Path.{_≡_, sym, _∙_}
 use mathlib.Core.Bool.{true, false}
 use native.Mathlib.Omega.{arith}

@@ -1,4 +1,4 @@
--- `look_at` meets its contract. Assumes nothing.
+-- `look_at`: the definition's two cases: a record that is not finite adds nothing, another widens the extent. Assumes nothing.
 use mathlib.Core.Path.{sym, ap, _∙_}
 use native.Mathlib.Omega.{arith}
 use borrow.Author.Needs.{needs}

@@ -1,4 +1,4 @@
--- `put_record` meets its contract. Assumes nothing.
+-- `put_record`: what is wrong with a vertex is told first; where nothing is, the numbers are placed and put. Assumes nothing.
 use mathlib.Core.Path.{sym, ap, _∙_}
 use native.Mathlib.Omega.{arith}
 use borrow.Author.Needs.{needs}

@@ -1,4 +1,4 @@
--- `or_else` meets its contract. Assumes nothing.
+-- `or_else` has a case for each fault. Assumes nothing.
 use borrow.Author.Needs.{needs}
 use Rattle.stl_triangles.proofs.triangles.or_else.Statement.{statement}
 use Rattle.stl_triangles.proofs.triangles.or_else.Tie as tie

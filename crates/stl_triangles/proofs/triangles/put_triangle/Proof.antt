@@ -1,4 +1,4 @@
--- `put_triangle` meets its contract. Assumes nothing.
+-- `put_triangle` puts three vertices, one behind another; a triangle without a fault has none in any of them. Assumes nothing.
 use borrow.Author.Needs.{needs}
 use Rattle.stl_triangles.proofs.triangles.put_triangle.Statement.{statement}
 use Rattle.stl_triangles.proofs.triangles.put_triangle.Tie as tie

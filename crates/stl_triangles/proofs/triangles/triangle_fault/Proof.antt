@@ -1,4 +1,4 @@
--- `triangle_fault` meets its contract. Assumes nothing.
+-- `triangle_fault` takes the first fault of three vertices, as the definition does. Assumes nothing.
 use borrow.Author.Needs.{needs}
 use Rattle.stl_triangles.proofs.triangles.triangle_fault.Statement.{statement}
 use Rattle.stl_triangles.proofs.triangles.triangle_fault.Tie as tie

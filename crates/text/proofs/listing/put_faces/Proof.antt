@@ -1,4 +1,4 @@
--- `put_faces` meets its contract. Assumes nothing.
+-- `put_faces` puts two fields and a line end behind them; each number has ten digits at most, so that 34 bytes hold them. Assumes nothing.
 use native.Mathlib.Omega.{arith}
 use Rattle.text.specs.Text.{ascii}
 use Rattle.text.specs.Listing.{facesLine}

@@ -1,4 +1,4 @@
--- `put_head` meets its contract. Assumes nothing.
+-- `put_head` puts three pairs of fields, one behind another; each number has ten digits at most, so that 105 bytes hold them. Assumes nothing.
 use Prim.Native.Nat.{_≤_}
 use native.Mathlib.Omega.{arith}
 use lib.ListN.{length}

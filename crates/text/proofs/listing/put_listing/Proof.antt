@@ -1,4 +1,4 @@
--- `put_listing` meets its contract. Assumes nothing.
+-- `put_listing` puts the head, the quads' lines and a line end, one behind another, in the room that each is known to take. Assumes nothing.
 use native.Mathlib.Omega.{arith}
 use Rattle.text.specs.Listing.{listing}
 use Rattle.text.proofs.Texts.{put-both}

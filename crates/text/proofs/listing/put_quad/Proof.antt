@@ -1,4 +1,4 @@
--- `put_quad` meets its contract. Assumes nothing.
+-- `put_quad` puts four fields, one behind another; a number of 16 bits has five digits at most, so that 26 bytes hold the line. Assumes nothing.
 use mathlib.Core.Path.{sym}
 use native.Mathlib.Omega.{arith}
 use Rattle.text.specs.Text.{ascii}

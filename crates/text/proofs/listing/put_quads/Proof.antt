@@ -1,4 +1,4 @@
--- `put_quads` meets its contract. Assumes nothing.
+-- `put_quads`: the loop's invariant is that the lines of the first q quads stand there, each of 26 bytes at most. Assumes nothing.
 use mathlib.Core.Path.{_≡_, refl, _∙_}
 use Prim.Native.Nat.{_+_, _*_, _-_, _≤_}
 use native.Mathlib.Nat.{le-antisymm}

@@ -1,4 +1,4 @@
--- `put_refusal` meets its contract. Assumes nothing.
+-- `put_refusal` puts a field and a line end behind it; the number has ten digits at most. Assumes nothing.
 use native.Mathlib.Omega.{arith}
 use Rattle.text.specs.Listing.{refusedLine}
 use Rattle.text.proofs.Texts.{put-both, u32-digits}

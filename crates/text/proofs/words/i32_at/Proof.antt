@@ -1,4 +1,4 @@
--- `i32_at` meets its contract. Assumes nothing.
+-- `i32_at` reads four bytes as a word and the word as a signed number. Assumes nothing.
 use borrow.Author.Needs.{needs}
 use Rattle.text.proofs.words.i32_at.Statement.{statement}
 use Rattle.text.proofs.words.i32_at.Tie as tie

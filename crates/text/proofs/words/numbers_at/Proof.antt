@@ -1,4 +1,4 @@
--- `numbers_at` meets its contract. Assumes nothing.
+-- `numbers_at`: the loop's invariant is that the first k numbers are those read at each fourth byte. Assumes nothing.
 use mathlib.Core.Path.{_≡_, refl, sym, _∙_}
 use mathlib.Core.List.{map}
 use Prim.Native.Nat.{_-_, _≤_}

@@ -1,4 +1,4 @@
--- `signed` meets its contract. Assumes nothing.
+-- `signed` keeps a word below 2^31, and takes what a greater one lacks of 2^32 - 1 from -1; both differences fit. Assumes nothing.
 use borrow.Author.Needs.{needs}
 use Rattle.text.proofs.words.signed.Statement.{statement}
 use Rattle.text.proofs.words.signed.Tie as tie

@@ -1,4 +1,4 @@
--- `Span::with` meets its contract. Assumes nothing.
+-- `Span::with` takes the lesser and the greater as the definition does; each of the numbers fits, so that the machine's is the whole number. Assumes nothing.
 use Rattle.triangles.proofs.Held.{plain}
 use borrow.Author.Needs.{needs}
 use Rattle.triangles.proofs.Span.with.Statement.{statement}

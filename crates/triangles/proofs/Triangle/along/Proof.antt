@@ -1,4 +1,4 @@
--- `Triangle::along` meets its contract. Assumes nothing.
+-- `Triangle::along` widens a span by the three vertices' coordinates, which are their dot products with the unit vector. Assumes nothing.
 use Rattle.triangles.proofs.Units.{triangle-along}
 use mathlib.Core.Path.{_∙_}
 use Rattle.triangles.proofs.Held.{plain, three-span}

@@ -1,9 +1,9 @@
--- `Triangle::crossed` meets its contract. Assumes nothing.
+-- `Triangle::crossed` reads the list of nine as a table: unit vector k / 3 crossed with side k % 3. Assumes nothing.
 use mathlib.Core.Path.{sym, ap, _∙_}
 use lib.ListN.{getD}
 use Prim.Native.Nat.{_/_}
 use Rattle.triangles.specs.declared.Vector.{Vector}
-use Rattle.triangles.specs.Vectors.{nought, cross}
+use Rattle.triangles.specs.Vectors.{zeroVector, cross}
 use Rattle.triangles.specs.Axes.{units}
 use Rattle.triangles.proofs.Sizes.{side-size}
 use Rattle.triangles.proofs.Listed.{crossed-at}
@@ -21,7 +21,7 @@ unit-cross-requires c κs = (rw (c .side .ensures) (side-size _ (c .before .pre 
 returns : tie.Need-returns
 returns c =
     let s = c .before .before in
-    c .unit-cross .ensures ∙ ap (λ (v : Vector). cross (getD units (s .args .k / 3) nought) v) (c .before .side .ensures) ∙ sym
+    c .unit-cross .ensures ∙ ap (λ (v : Vector). cross (getD units (s .args .k / 3) zeroVector) v) (c .before .side .ensures) ∙ sym
     (crossed-at (s .args .self) (s .args .k) (s .pre .1))
 
 pub crossed-spec : {M : Type 1} → statement M

@@ -1,4 +1,4 @@
--- `Triangle::kept` meets its contract. Assumes nothing.
+-- `Triangle::kept` is asked for lattice coordinates only, so that the axis times s and the dot products fit. Assumes nothing.
 use mathlib.Core.Path.{ap, _∙_}
 use borrow.Author.Needs.{needs}
 use Rattle.triangles.specs.declared.Vector.{Vector}

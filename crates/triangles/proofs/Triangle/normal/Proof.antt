@@ -1,4 +1,4 @@
--- `Triangle::normal` meets its contract. Assumes nothing.
+-- `Triangle::normal` crosses two differences of lattice coordinates, which are small enough for the products to fit. Assumes nothing.
 use mathlib.Core.Path.{_∙_}
 use Rattle.triangles.specs.Vectors.{cross}
 use Rattle.triangles.specs.Axes.{normal}

@@ -1,4 +1,4 @@
--- `Triangle::side` meets its contract. Assumes nothing.
+-- `Triangle::side` has the three cases of the list of sides; what is neither 0 nor 1 is 2. Assumes nothing.
 use mathlib.Core.Path.{_≡_}
 use native.Mathlib.Omega.{arith}
 use Rattle.triangles.specs.Axes.{sides}

@@ -1,4 +1,4 @@
--- `Triangle::span` meets its contract. Assumes nothing.
+-- `Triangle::span` widens a span by the three dot products, each of which fits for an axis of the ten and lattice coordinates. Assumes nothing.
 use Rattle.triangles.specs.Meets.{triangleSpan}
 use mathlib.Core.Path.{_∙_}
 use Rattle.triangles.proofs.Sizes.{lattice-terms}

@@ -1,4 +1,4 @@
--- `Vector::along` meets its contract. Assumes nothing.
+-- `Vector::along` has the definition's three cases: x at 0, y at 1, and z at whatever is neither. Assumes nothing.
 use borrow.Author.Tests.{ne-eqb}
 use borrow.Author.Needs.{needs}
 use Rattle.triangles.specs.Vectors.{along}

@@ -1,0 +1,84 @@
+-- `gather` has three tests in the definition's order, and each may rely on those before: placed quads make a grid, even faces give it signs. Assumes nothing.
+use borrow.Author.Needs.{needs}
+use mathlib.Core.Path.{sym, subst}
+use Prim.Native.Nat.{ℕ, _≤_}
+use native.Mathlib.Omega.{arith}
+use borrow.Author.Tests.{not-true, not-false}
+use Rattle.rules.specs.Lattice.{pointCount}
+use Rattle.lattice.proofs.Tests.{fails, holds}
+use Rattle.accepting.proofs.Gathers.{not-placed, grid-now, not-even, all-said}
+use Rattle.accept_call.proofs.gather.Statement.{statement}
+use Rattle.accept_call.proofs.gather.Tie as tie
+
+place-all-requires : tie.Need-place-all-requires
+place-all-requires c κs = let start = c .before .before .before in (omega (arith, start .pre .0), start .pre .1, start .pre .2, start .pre .3)
+
+same-length : tie.Need-same-length
+same-length c = search needs
+
+returns : tie.Need-returns
+returns c =
+    let start = c .before .before .before .before .before .before .before in
+    not-placed (start .args .n) (start .args .list .now) (start .args .work .now) (start .pre .2) (start .pre .4) _ _ (c .before .before .before .place-all
+    .ensures) (not-true _ (c .if1 .taken))
+
+all-even-requires : tie.Need-all-even-requires
+all-even-requires c κs =
+    let start = c .before .before .before .before .before .before .before .before in
+    let n = start .args .n in
+    let w = start .args .work .now in (
+      omega (arith, start .pre .0),
+      start .pre .1,
+      subst (λ (k : ℕ). pointCount n ≤ k) (sym (c .before .before .before .before .place-all .kept .1 .1 .0))
+          (start .pre .2),
+      grid-now n (start .args .list .now) w (start .pre .2) (start .pre .4) _ _ (c .before .before .before .before .place-all .ensures) (not-false _ (c
+          .before .if1 .left)),
+    )
+
+same-length-2 : tie.Need-same-length-2
+same-length-2 c = search needs
+
+returns-2 : tie.Need-returns-2
+returns-2 c =
+    let place-all = c .before .before .before .before .before .before .place-all in
+    let start = c .before .before .before .before .before .before .before .before .before .before in
+    not-even (start .args .n) (start .args .list .now) (start .args .work .now) (start .pre .2) (start .pre .4) _ _ (place-all .ensures)
+    (not-false _ (c .before .before .before .if1 .left)) (fails (c .before .all-even .ensures) (c .if2 .taken))
+
+said-inside-requires : tie.Need-said-inside-requires
+said-inside-requires c κs =
+    let if1 = c .before .before .before .before .if1 in
+    let place-all = c .before .before .before .before .before .before .before .place-all in
+    let start = c .before .before .before .before .before .before .before .before .before .before .before in
+    let n = start .args .n in
+    let w = start .args .work .now in (
+      start .pre .1,
+      subst (λ (k : ℕ). pointCount n ≤ k) (sym (place-all .kept .1 .1 .0)) (start .pre .2),
+      grid-now n (start .args .list .now) w (start .pre .2) (start .pre .4) _ _ (place-all .ensures) (not-false _ (if1 .left)),
+      holds (c .before .before .all-even .ensures) (c .before .if2 .left),
+    )
+
+same-length-3 : tie.Need-same-length-3
+same-length-3 c = search needs
+
+returns-3 : tie.Need-returns-3
+returns-3 c =
+    let if1 = c .before .before .before .before .before .if1 in
+    let place-all = c .before .before .before .before .before .before .before .before .place-all in
+    let start = c .before .before .before .before .before .before .before .before .before .before .before .before in
+    all-said (start .args .n) (start .args .list .now) (start .args .work .now) (start .pre .2) (start .pre .4) _ _ (place-all .ensures)
+    (not-false _ (if1 .left)) (holds (c .before .before .before .all-even .ensures) (c .before .before .if2 .left)) _ (c .said-inside .ensures)
+
+pub gather-spec : {M : Type 1} → statement M
+gather-spec =
+    tie.close
+    (tie.spec
+    place-all-requires
+    same-length
+    returns
+    all-even-requires
+    same-length-2
+    returns-2
+    said-inside-requires
+    same-length-3
+    returns-3)

@@ -1,0 +1,42 @@
+-- `flip` turns the edge's mark and its four faces. Assumes nothing.
+use Rattle.halving.proofs.Turns.{flip-edged, flip-turn, flip-face-turns}
+use borrow.Author.Needs.{needs}
+use Rattle.flipping.proofs.flip.Statement.{statement}
+use Rattle.flipping.proofs.flip.Tie as tie
+
+number-of-requires : tie.Need-number-of-requires
+number-of-requires c κs = search needs
+
+turn-requires : tie.Need-turn-requires
+turn-requires c κs = search needs
+
+turn-faces-requires : tie.Need-turn-faces-requires
+turn-faces-requires c κs =
+    let s = c .before .before .before .before .before .before .before .before in
+    let e = c .before .before .before .before .before .number-of .ensures in
+    (s .pre .0 .0, s .pre .0 .2, e .1, flip-edged _ _ (s .pre .1) _ (e .0))
+
+same-length : tie.Need-same-length
+same-length c = search needs
+
+same-length-2 : tie.Need-same-length-2
+same-length-2 c = search needs
+
+returns : tie.Need-returns
+returns c =
+    let turn = c .before .before .before .before .before .before .turn in
+    let number-of = c .before .before .before .before .before .before .before .before .number-of in
+    let s = c .before .before .before .before .before .before .before .before .before .before .before in
+    let e = number-of .ensures .0 in
+    (flip-turn _ _ (s .pre .1) _ e _ _ (turn .ensures), flip-face-turns _ _ (s .pre .1) _ e _ _ (c .before .before .turn-faces .ensures))
+
+pub flip-spec : {M : Type 1} → statement M
+flip-spec =
+    tie.close
+    (tie.spec
+    number-of-requires
+    turn-requires
+    turn-faces-requires
+    same-length
+    same-length-2
+    returns)

@@ -1,0 +1,114 @@
+-- `join` flips two runs of edges, along the earlier axis of the plane and along the later, which are the rule's path. Assumes nothing.
+use Rattle.flipping.proofs.join.Tie as tie
+use borrow.Author.Needs.{needs}
+use Rattle.flipping.proofs.join.Statement.{statement}
+use Rattle.halving.proofs.Runs.{join-run, join-run₂, join-turns, join-face-turns}
+
+earlier-requires : tie.Need-earlier-requires
+earlier-requires c κs = search needs
+
+later-requires : tie.Need-later-requires
+later-requires c κs = search needs
+
+least-requires : tie.Need-least-requires
+least-requires c κs = search needs
+
+most-requires : tie.Need-most-requires
+most-requires c κs = search needs
+
+add-point-at : tie.Need-add-point-at
+add-point-at c = search needs
+
+point-at-requires : tie.Need-point-at-requires
+point-at-requires c κs = search needs
+
+sub-flip-run : tie.Need-sub-flip-run
+sub-flip-run c = search needs
+
+flip-run-requires : tie.Need-flip-run-requires
+flip-run-requires c κs =
+    let least = c .before .before .before .before .least in
+    let later = c .before .before .before .before .before .later in
+    let earlier = c .before .before .before .before .before .before .earlier in
+    let start = c .before .before .before .before .before .before .before .before .before in (
+      start .pre .0,
+      join-run (start .args .n) (start .args .a) (start .args .m) (start .args .p) (start .args .q) _ _
+          (earlier .ensures) (later .ensures) _ _ (earlier .ensures) (later .ensures) (start .pre .1) (start .pre .2) (start .pre .3) (start .pre .4) _
+          _ _ (least .ensures) (c .before .before .before .most .ensures) (c .before .before .point-at .ensures),
+    )
+
+least-requires-2 : tie.Need-least-requires-2
+least-requires-2 c κs = search needs
+
+most-requires-2 : tie.Need-most-requires-2
+most-requires-2 c κs = search needs
+
+add-point-at-2 : tie.Need-add-point-at-2
+add-point-at-2 c = search needs
+
+point-at-requires-2 : tie.Need-point-at-requires-2
+point-at-requires-2 c κs = search needs
+
+sub-flip-run-2 : tie.Need-sub-flip-run-2
+sub-flip-run-2 c = search needs
+
+flip-run-requires-2 : tie.Need-flip-run-requires-2
+flip-run-requires-2 c κs =
+    let first = c .before .before .before .before .before .before .before .before .before in
+    let later = first .before .before .before .before .before .before .later in
+    let earlier = first .before .before .before .before .before .before .before .earlier in
+    let start = first .before .before .before .before .before .before .before .before .before .before in (
+      rw (first .flip-run .kept .1 .0, first .flip-run .kept .1 .1 .0) (start .pre .0),
+      join-run₂ (start .args .n) (start .args .a) (start .args .m) (start .args .p) (start .args .q) _ _ (earlier .ensures) (later .ensures) _ _
+          (earlier .ensures) (later .ensures) (start .pre .1) (start .pre .2) (start .pre .3) (start .pre .4) _ _ _
+          (c .before .before .before .before .least2 .ensures) (c .before .before .before .most2 .ensures) (c .before .before .point-at2 .ensures),
+    )
+
+same-length : tie.Need-same-length
+same-length c = search needs
+
+same-length-2 : tie.Need-same-length-2
+same-length-2 c = search needs
+
+returns : tie.Need-returns
+returns c =
+    let second = c .before .before .before .before in
+    let point-at2 = second .before .before .before .point-at2 in
+    let most2 = second .before .before .before .before .most2 in
+    let least2 = second .before .before .before .before .before .least2 in
+    let first = second .before .before .before .before .before .before .before .before .before .before in
+    let point-at = first .before .before .before .point-at in
+    let most = first .before .before .before .before .most in
+    let least = first .before .before .before .before .before .least in
+    let later = first .before .before .before .before .before .before .later in
+    let earlier = first .before .before .before .before .before .before .before .earlier in
+    let start = first .before .before .before .before .before .before .before .before .before .before in (
+      join-turns (start .args .n) (start .args .a) (start .args .m) (start .args .p) (start .args .q) _ _ (earlier .ensures) (later .ensures) _ _ _ _ _ _
+          (least .ensures) (most .ensures) (point-at .ensures) (least2 .ensures) (most2 .ensures) (point-at2 .ensures) _ _ _
+          (first .flip-run .ensures .0) (second .flip-run2 .ensures .0),
+      join-face-turns (start .args .n) (start .args .a) (start .args .m) (start .args .p) (start .args .q) _ _ (earlier .ensures) (later .ensures) _ _ _ _ _ _
+          (least .ensures) (most .ensures) (point-at .ensures) (least2 .ensures) (most2 .ensures) (point-at2 .ensures) _ _ _
+          (first .flip-run .ensures .1) (second .flip-run2 .ensures .1),
+    )
+
+pub join-spec : {M : Type 1} → statement M
+join-spec =
+    tie.close
+    (tie.spec
+    earlier-requires
+    later-requires
+    least-requires
+    most-requires
+    add-point-at
+    point-at-requires
+    sub-flip-run
+    flip-run-requires
+    least-requires-2
+    most-requires-2
+    add-point-at-2
+    point-at-requires-2
+    sub-flip-run-2
+    flip-run-requires-2
+    same-length
+    same-length-2
+    returns)

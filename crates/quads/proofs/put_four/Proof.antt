@@ -1,0 +1,64 @@
+-- `put_four` writes four places, one behind another. Assumes nothing.
+use borrow.Author.Needs.{needs}
+use native.Mathlib.Numerals.{towards-suc}
+use native.Mathlib.Omega.{arith}
+use lib.ListN.{length-set}
+use Rattle.quads.proofs.put_four.Statement.{statement}
+use Rattle.quads.proofs.put_four.Tie as tie
+
+mul-list : tie.Need-mul-list
+mul-list c = search needs
+
+slice-write-list : tie.Need-slice-write-list
+slice-write-list c = search needs
+
+add-list : tie.Need-add-list
+add-list c = search needs
+
+mul-list-2 : tie.Need-mul-list-2
+mul-list-2 c = search needs
+
+slice-write-list-2 : tie.Need-slice-write-list-2
+slice-write-list-2 c = simp length-set (omega arith)
+
+add-list-2 : tie.Need-add-list-2
+add-list-2 c = search needs
+
+mul-list-3 : tie.Need-mul-list-3
+mul-list-3 c = search needs
+
+slice-write-list-3 : tie.Need-slice-write-list-3
+slice-write-list-3 c = simp length-set (omega arith)
+
+add-list-3 : tie.Need-add-list-3
+add-list-3 c = search needs
+
+mul-list-4 : tie.Need-mul-list-4
+mul-list-4 c = search needs
+
+slice-write-list-4 : tie.Need-slice-write-list-4
+slice-write-list-4 c = simp length-set (omega arith)
+
+same-length : tie.Need-same-length
+same-length c = search needs
+
+returns : tie.Need-returns
+returns c = simp towards-suc
+
+pub put-four-spec : {M : Type 1} → statement M
+put-four-spec =
+    tie.close
+    (tie.spec
+    mul-list
+    slice-write-list
+    add-list
+    mul-list-2
+    slice-write-list-2
+    add-list-2
+    mul-list-3
+    slice-write-list-3
+    add-list-3
+    mul-list-4
+    slice-write-list-4
+    same-length
+    returns)
