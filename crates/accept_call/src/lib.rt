@@ -17,9 +17,9 @@ ghost use mathlib.Core.Bool.{true, not, _||_};
 ghost use mathlib.Core.List.{_++_};
 ghost use Prim.Native.Nat.{_≤_, _<_, _%_};
 ghost use lib.ListN.{length, take, drop};
-ghost use Rattle.rules.specs.Lattice.{pointCount};
 ghost use Rattle.rules.specs.Grid.{saysInside, marks, isGrid};
 ghost use Rattle.rules.specs.Rims.{evenFaces};
+ghost use Rattle.lattice.specs.Buffers.{BothSized, Sized};
 ghost use Rattle.accepting.specs.Placing.{saidInside};
 ghost use Rattle.accepting.specs.Call.{Blank, Gathered, told, decided, acceptCall};
 
@@ -35,7 +35,7 @@ fn says_wrongly(b: u8, inside: bool) -> bool
 
 // Whether each point of a grid that says it is inside is inside by the marks. One run over the x marks meets every sign, as in sign.
 fn said_inside(n: usize, work: &[u8]) -> bool
-    requires { ⌜ (n ≤ 32) × (pointCount n ≤ length (now work)) × (isGrid n (now work) ≡ true) × (evenFaces n (marks n (now work)) ≡ true) ⌝ }
+    requires { ⌜ record { sized : Sized n (now work); is-grid : isGrid n (now work) ≡ true; even : evenFaces n (marks n (now work)) ≡ true } ⌝ }
     ensures { λ r. ⌜ r ≡ saidInside n (now (work .entry)) ⌝ }
 {
     let count = point_count(n);
@@ -67,7 +67,7 @@ fn copy(count: usize, from: &[u8], to: &mut [u8])
 // Gathers the quads of a list in a buffer of zeros, and answers whether the list is the surface of a grid. Of the two ends of a marked edge one
 // is inside, so a quad turns the right way exactly when the end that it says is inside is: the list is read once.
 fn gather(n: usize, list: &[u16], work: &mut [u8]) -> bool
-    requires { ⌜ (1 < n) × (n ≤ 32) × (pointCount n ≤ length (now work)) × (length (now list) % 4 ≡ 0) × Blank n (now work) ⌝ }
+    requires { ⌜ record { above-one : 1 < n; sized : Sized n (now work); fours : length (now list) % 4 ≡ 0; blank : Blank n (now work) } ⌝ }
     ensures { λ r. ⌜ Gathered n (now (list .entry)) (now (work .entry)) r (now (work .exit)) ⌝ }
 {
     if !place_all(n, list, work) {
@@ -81,7 +81,7 @@ fn gather(n: usize, list: &[u16], work: &mut [u8]) -> bool
 
 // The call accept on buffers that are long enough and a list of whole quads.
 fn decide(n: usize, list: &[u16], grid: &mut [u8], work: &mut [u8]) -> AcceptAnswer
-    requires { ⌜ (1 < n) × (n ≤ 32) × (pointCount n ≤ length (now grid)) × (pointCount n ≤ length (now work)) × (length (now list) % 4 ≡ 0) ⌝ }
+    requires { ⌜ record { above-one : 1 < n; sized : BothSized n (now grid) (now work); fours : length (now list) % 4 ≡ 0 } ⌝ }
     ensures { λ r. ⌜ told r (now (grid .exit)) (now (work .exit)) ≡ decided n (now (list .entry)) (now (grid .entry)) (now (work .entry)) ⌝ }
 {
     let count = point_count(n);

@@ -13,9 +13,10 @@ ghost use mathlib.Core.Path.{_≡_};
 ghost use mathlib.Core.Bool.{true};
 ghost use Prim.Native.Nat.{_≤_, _%_};
 ghost use lib.ListN.{length};
-ghost use Rattle.rules.specs.Lattice.{pointNumber, pointCount, coord, inner, OfGrid};
+ghost use Rattle.rules.specs.Lattice.{pointNumber, coord, inner, OfGrid};
+ghost use Rattle.lattice.specs.Buffers.{Sized};
 ghost use Rattle.surfacing.specs.Sides.{fours};
-ghost use Rattle.quad_reading.specs.Read.{Fits};
+ghost use Rattle.quad_reading.specs.Read.{InnerOrNothing};
 ghost use Rattle.accepting.specs.Placing.{insideEnd, sayAt, placed, placeOne, putOne, placing};
 
 // The end of an edge that its quad says is inside.
@@ -31,7 +32,7 @@ fn inside_end(inside: bool, a: Axis, p: Point) -> Point
 
 // Lets the byte of a point say that it is inside.
 fn say_inside(n: usize, p: Point, work: &mut [u8])
-    requires { ⌜ (n ≤ 32) × (pointCount n ≤ length (now work)) × OfGrid n p ⌝ }
+    requires { ⌜ Sized n (now work) × OfGrid n p ⌝ }
     ensures { λ _. ⌜ now (work .exit) ≡ sayAt (pointNumber n p) (now (work .entry)) ⌝ }
 {
     let i = number_of(n, p);
@@ -41,7 +42,7 @@ fn say_inside(n: usize, p: Point, work: &mut [u8])
 
 // Marks the edge along a at p, lets its inside end say so, and answers whether it had no mark.
 fn place(n: usize, inside: bool, a: Axis, p: Point, work: &mut [u8]) -> bool
-    requires { ⌜ (n ≤ 32) × (pointCount n ≤ length (now work)) × (inner n a p ≡ true) ⌝ }
+    requires { ⌜ Sized n (now work) × (inner n a p ≡ true) ⌝ }
     ensures { λ r. ⌜ placed r (now (work .exit)) ≡ placeOne n inside a p (now (work .entry)) ⌝ }
 {
     let f = Place { axis: a, at: p };
@@ -56,7 +57,7 @@ fn place(n: usize, inside: bool, a: Axis, p: Point, work: &mut [u8]) -> bool
 
 // Marks the edge that was read, and answers whether one was and had no mark.
 fn put(n: usize, r: Reading, work: &mut [u8]) -> bool
-    requires { ⌜ (n ≤ 32) × (pointCount n ≤ length (now work)) × Fits n r ⌝ }
+    requires { ⌜ Sized n (now work) × InnerOrNothing n r ⌝ }
     ensures { λ x. ⌜ placed x (now (work .exit)) ≡ putOne n r (now (work .entry)) ⌝ }
 {
     match r {
@@ -67,7 +68,7 @@ fn put(n: usize, r: Reading, work: &mut [u8]) -> bool
 
 // Puts the quads of a list into a buffer, and answers whether each is the quad of an edge that had none.
 pub fn place_all(n: usize, list: &[u16], work: &mut [u8]) -> bool
-    requires { ⌜ (1 ≤ n) × (n ≤ 32) × (pointCount n ≤ length (now work)) × (length (now list) % 4 ≡ 0) ⌝ }
+    requires { ⌜ record { some : 1 ≤ n; sized : Sized n (now work); fours : length (now list) % 4 ≡ 0 } ⌝ }
     ensures { λ x. ⌜ placed x (now (work .exit)) ≡ placing n (fours (now (list .entry))) (now (work .entry)) ⌝ }
 {
     let mut at: usize = 0;

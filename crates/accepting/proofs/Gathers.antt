@@ -24,7 +24,7 @@ use Rattle.quad_reading.specs.Read.{isSome, read}
 use Rattle.deciding.specs.Decide.{edgesOf, apart, turnsBy, marksOf, accepts}
 use Rattle.deciding.proofs.Edges.{marks-of-inner}
 use Rattle.deciding.proofs.Decides.{turns-some}
-use Rattle.accepting.specs.Placing.{Placed, placed, placing, saidInside}
+use Rattle.accepting.specs.Placing.{Placement, placed, placing, saidInside}
 use Rattle.accepting.specs.Call.{Outcome, Blank, Gathered, answeredBy, decided}
 use Rattle.accepting.proofs.Holds.{Holds, holds-grid}
 use Rattle.accepting.proofs.Placed.{someSays, free, placing-is, placing-behind}
@@ -56,12 +56,12 @@ module _ (n : ℕ) (l w : List ℕ) (long : pointCount n ≤ length w) (blank : 
   -- all went well exactly when each quad was read and no edge has two
   well-is : b ≡ all-read && apart (edgesOf n (fours l))
   well-is =
-      ap (λ (o : Placed). o .well) e ∙ placing-is n (fours l) none (λ p. false) w (start n w long blank) .goes
+      ap (λ (o : Placement). o .well) e ∙ placing-is n (fours l) none (λ p. false) w (start n w long blank) .goes
       ∙ ap (λ (x : Bool). all-read && (x && apart (edgesOf n (fours l))))
       (allOf← (free n none) (edgesOf n (fours l)) (all-every (λ f. refl) (edgesOf n (fours l))))
 
   behind-now : drop (pointCount n) v ≡ drop (pointCount n) w
-  behind-now = ap (λ (o : Placed). drop (pointCount n) (o .work)) e ∙ placing-behind n (fours l) w
+  behind-now = ap (λ (o : Placement). drop (pointCount n) (o .work)) e ∙ placing-behind n (fours l) w
 
   decision : accepts n l ≡ b && (evenFaces n E && turned)
   unfolding accepts
@@ -93,8 +93,8 @@ module _ (n : ℕ) (l w : List ℕ) (long : pointCount n ≤ length w) (blank : 
     holds-now : Holds n E (someSays n (fours l)) v
     holds-now =
         let o = placing n (fours l) w in
-        let i : o .well ≡ true = sym (ap (λ (x : Placed). x .well) e) ∙ well in
-        subst-work (sym (ap (λ (x : Placed). x .work) e)) (placing-is n (fours l) none (λ p. false) w (start n w long blank) .leaves i)
+        let i : o .well ≡ true = sym (ap (λ (x : Placement). x .well) e) ∙ well in
+        subst-work (sym (ap (λ (x : Placement). x .work) e)) (placing-is n (fours l) none (λ p. false) w (start n w long blank) .leaves i)
       where
         subst-work : {x y : List ℕ} → x ≡ y → Holds n E (someSays n (fours l)) x → Holds n E (someSays n (fours l)) y
         subst-work f h = subst (Holds n E (someSays n (fours l))) f h

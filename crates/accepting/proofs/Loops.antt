@@ -19,7 +19,7 @@ use Rattle.lattice.specs.Cells.{turnAt}
 use Rattle.surfacing.specs.Sides.{Four, fours}
 use Rattle.quad_reading.specs.declared.Reading.{Reading}
 use Rattle.quad_reading.specs.Read.{fourOf, read}
-use Rattle.accepting.specs.Placing.{insideEnd, sayAt, Placed, placed, placeOne, putOne, placing, saidInside}
+use Rattle.accepting.specs.Placing.{insideEnd, sayAt, Placement, placed, placeOne, putOne, placing, saidInside}
 
 -- ---- four numbers at a time
 pub room : (at len : ℕ) → at < len → at % 4 ≡ 0 → len % 4 ≡ 0 → at + 4 ≤ len
@@ -51,7 +51,7 @@ fours-end l at h = ap fours (drop-past at l h)
 
 -- ---- one quad
 module _ (n : ℕ) (t : Bool) (a : Axis) (p : Point) (w : List ℕ) where
-  abbrev after : Bool → Placed
+  abbrev after : Bool → Placement
   after c = cond c (placed false w) (placed true (sayAt (pointNumber n (insideEnd t a p)) (turnAt (pointNumber n p) a w)))
 
   pub place-no : has a (getD w (pointNumber n p) 0) ≡ true → placed false w ≡ placeOne n t a p w
@@ -74,7 +74,7 @@ module _ (n : ℕ) (q : Four) (l : List Four) (w v : List ℕ) (r : Reading) (b 
   goes : (c : Bool) → b ≡ c → placing n (q ∷ l) w ≡ cond c (placing n l v) (placed false v)
   unfolding placing
   goes c g =
-      ap (λ (o : Placed). cond (o .well) (placing n l (o .work)) (placed false (o .work))) opened
+      ap (λ (o : Placement). cond (o .well) (placing n l (o .work)) (placed false (o .work))) opened
       ∙ ap (λ (x : Bool). cond x (placing n l v) (placed false v)) g
 
   pub placing-on : b ≡ true → placing n l v ≡ placing n (q ∷ l) w

@@ -20,10 +20,10 @@ use Rattle.lattice.proofs.PointSteps.{edge-ends}
 use Rattle.surfacing.specs.Sides.{Four}
 use Rattle.quad_reading.specs.declared.Reading.{Reading}
 use Rattle.quad_reading.specs.declared.Reading.the-variants.{Nothing, Of}
-use Rattle.quad_reading.specs.Read.{isSome, read, Fits}
+use Rattle.quad_reading.specs.Read.{isSome, read, InnerOrNothing}
 use Rattle.quad_reading.proofs.OneEdge.{fits-read, inner-grid}
 use Rattle.deciding.specs.Decide.{placeOf, edgesOf, apart}
-use Rattle.accepting.specs.Placing.{insideEnd, sayAt, Placed, placed, placeOne, putOne, placing}
+use Rattle.accepting.specs.Placing.{insideEnd, sayAt, Placement, placed, placeOne, putOne, placing}
 use Rattle.accepting.proofs.Holds.{or-none, Holds, holds-same, turn-holds, say-holds, set-behind}
 
 -- ---- the points that quads say are inside
@@ -73,12 +73,12 @@ module _ (n : ℕ) where
       go false g = other (isIn E f)
 
   -- what comes of a list: whether all goes well, and then what the buffer holds
-  pub record Comes (l : List Four) (E : Set) (I : Point → Bool) (o : Placed) : Type 0 where
+  pub record Comes (l : List Four) (E : Set) (I : Point → Bool) (o : Placement) : Type 0 where
     pub goes : o .well ≡ allOf (λ q. isSome (read n q)) l && (allOf (free E) (edgesOf n l) && apart (edgesOf n l))
     pub leaves : o .well ≡ true → Holds n (λ a p. E a p ⊕ setOf (edgesOf n l) a p) (λ p. I p || someSays n l p) (o .work)
 
   -- the same of a list whose first quad was read
-  abbrev ComesFirst : List Four → Set → (Point → Bool) → Reading → Placed → Type 0
+  abbrev ComesFirst : List Four → Set → (Point → Bool) → Reading → Placement → Type 0
   ComesFirst l E I r o =
       let x = cond (o .well) (placing n l (o .work)) (placed false (o .work)) in
       (x .well ≡ (isSome r && allOf (λ q. isSome (read n q)) l) && (allOf (free E) (placeOf r ++ edgesOf n l) && apart (placeOf r ++ edgesOf n l)))
@@ -113,8 +113,8 @@ module _ (n : ℕ) where
               (λ x. or-assoc (I x) (samePoint (insideEnd t a p) x) (someSays n l x)) (k .leaves e),
         )
 
-    first-placed : (r : Reading) → Fits n r → ComesFirst l E I r (putOne n r w)
-    unfolding Fits putOne placeOne isSome
+    first-placed : (r : Reading) → InnerOrNothing n r → ComesFirst l E I r (putOne n r w)
+    unfolding InnerOrNothing putOne placeOne isSome
     first-placed Nothing f = (refl, λ e. absurd (true≢false (sym e)))
     first-placed (Of t a p) f =
         let b = h .marked a p (inner-grid n a p f .0) in
@@ -128,8 +128,8 @@ module _ (n : ℕ) where
   placing-is (q ∷ l) E I w h = let k = first-placed l (placing-is l) E I w h (read n q) (fits-read n q) in record { goes = k .0; leaves = k .1 }
 
 -- what is behind the points stays
-one-behind : (n : ℕ) (r : Reading) (w : List ℕ) → Fits n r → drop (pointCount n) (putOne n r w .work) ≡ drop (pointCount n) w
-unfolding putOne placeOne Fits turnAt
+one-behind : (n : ℕ) (r : Reading) (w : List ℕ) → InnerOrNothing n r → drop (pointCount n) (putOne n r w .work) ≡ drop (pointCount n) w
+unfolding putOne placeOne InnerOrNothing turnAt
 one-behind n Nothing w f = refl
 one-behind n (Of t a p) w f = go (has a (getD w (pointNumber n p) 0))
   where
@@ -139,7 +139,7 @@ one-behind n (Of t a p) w f = go (has a (getD w (pointNumber n p) 0))
     go false = set-behind n _ (insideEnd t a p) _ (end-grid n t a p f) ∙ set-behind n w p _ (inner-grid n a p f .0)
 
 -- what is behind the points stays
-on-behind : (n : ℕ) (l : List Four) (w : List ℕ) → ((v : List ℕ) → drop (pointCount n) (placing n l v .work) ≡ drop (pointCount n) v) → (o : Placed) →
+on-behind : (n : ℕ) (l : List Four) (w : List ℕ) → ((v : List ℕ) → drop (pointCount n) (placing n l v .work) ≡ drop (pointCount n) v) → (o : Placement) →
     drop (pointCount n) (o .work) ≡ drop (pointCount n) w →
     drop (pointCount n) (cond (o .well) (placing n l (o .work)) (placed false (o .work)) .work) ≡ drop (pointCount n) w
 on-behind n l w rest o e = go (o .well)

@@ -20,7 +20,7 @@ use Rattle.rules.proofs.Signs.{sign-up}
 use Rattle.surfacing.specs.Sides.{Four}
 use Rattle.quad_reading.specs.declared.Reading.{Reading}
 use Rattle.quad_reading.specs.declared.Reading.the-variants.{Nothing, Of}
-use Rattle.quad_reading.specs.Read.{isSome, read, Fits}
+use Rattle.quad_reading.specs.Read.{isSome, read, InnerOrNothing}
 use Rattle.quad_reading.proofs.OneEdge.{fits-read}
 use Rattle.deciding.specs.Decide.{placeOf, edgesOf, apart, turnsBy}
 use Rattle.deciding.proofs.Members.{any-in, each-all, apart-set}
@@ -56,9 +56,9 @@ module _ (E : Set) (even : (a : Axis) (p : Point) → oddFace E a p ≡ false) w
   said-in (Of t a q) m e p f = ap (sign E) (sym (samePoint→ (insideEnd t a q) p f)) ∙ sym (turn-end t a q (m .0)) ∙ e
 
   -- and a quad turns by the signs if what it says is inside is
-  turns-in : (n : ℕ) (r : Reading) → Fits n r → Marked r → isSome r ≡ true → ((p : Point) → OfGrid n p → says r p ≡ true → sign E p ≡ true) →
+  turns-in : (n : ℕ) (r : Reading) → InnerOrNothing n r → Marked r → isSome r ≡ true → ((p : Point) → OfGrid n p → says r p ≡ true → sign E p ≡ true) →
       turnsBy (sign E) r ≡ true
-  unfolding placeOf Fits isSome says
+  unfolding placeOf InnerOrNothing isSome says
   turns-in n Nothing f m e h = absurd (true≢false (sym e))
   turns-in n (Of t a q) f m e h = turn-end t a q (m .0) ∙ h (insideEnd t a q) (end-grid n t a q f) (same-point (insideEnd t a q))
 

@@ -26,25 +26,25 @@ abbrev pub sayAt : ℕ → List ℕ → List ℕ
 sayAt i w = set w i (withSign true (getD w i 0))
 
 -- whether all went well, and the buffer afterwards
-pub record Placed : Type 0 where
+pub record Placement : Type 0 where
   pub well : Bool
   pub work : List ℕ
 
-abbrev pub placed : Bool → List ℕ → Placed
+abbrev pub placed : Bool → List ℕ → Placement
 placed b w = record { well = b; work = w }
 
 -- an edge is marked where it had no mark, and its inside end says so
-unfoldable pub placeOne : ℕ → Bool → Axis → Point → List ℕ → Placed
+unfoldable pub placeOne : ℕ → Bool → Axis → Point → List ℕ → Placement
 placeOne n t a p w =
     let i = pointNumber n p in
     cond (has a (getD w i 0)) (placed false w) (placed true (sayAt (pointNumber n (insideEnd t a p)) (turnAt i a w)))
 
-unfoldable pub putOne : ℕ → Reading → List ℕ → Placed
+unfoldable pub putOne : ℕ → Reading → List ℕ → Placement
 putOne n Nothing w = placed false w
 putOne n (Of t a p) w = placeOne n t a p w
 
 -- quads one after the other, until one goes wrong
-unfoldable pub placing : ℕ → List Four → List ℕ → Placed
+unfoldable pub placing : ℕ → List Four → List ℕ → Placement
 placing n [] w = placed true w
 placing n (q ∷ l) w = let o = putOne n (read n q) w in cond (o .well) (placing n l (o .work)) (placed false (o .work))
 

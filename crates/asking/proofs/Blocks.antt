@@ -1,7 +1,7 @@
 -- Points in a box, as a test and as a fact; a block has its lowest and its highest point. Assumes nothing.
 use mathlib.Core.Path.{_≡_, refl, sym, ap, _∙_}
 use mathlib.Core.Bool.{Bool, true, false, not, _&&_, true≢false}
-use Prim.Native.Nat.{ℕ, _+_, _*_, _-_, _/_, _≤_, _<_, min}
+use Prim.Native.Nat.{ℕ, _-_, _/_}
 use native.Mathlib.Omega.{arith}
 use Rattle.rules.specs.declared.Point.{Point}
 use Rattle.rules.specs.declared.Box.{Box}

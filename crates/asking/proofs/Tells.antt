@@ -4,7 +4,7 @@ use mathlib.Core.Path.{_≡_, refl, sym, ap, _∙_}
 use mathlib.Core.Bool.{Bool, true, false, not, _||_, cond}
 use mathlib.Core.List.{List, [], _∷_, map}
 use mathlib.Core.Logic.{_↔_}
-use Prim.Native.Nat.{ℕ, zero, suc, _+_, _*_, _/_, _%_, _≤_, _<_, min}
+use Prim.Native.Nat.{ℕ, zero, suc, _+_, _*_, _/_, _%_, _≤_}
 use native.Mathlib.Nat.{zero-add}
 use native.Mathlib.Omega.{arith}
 use borrow.Author.Tests.{ne-eqb, eqb-false, not-true}
@@ -13,8 +13,8 @@ use lib.ListN.{length, getD, take}
 use Rattle.rules.specs.declared.Point.{Point}
 use Rattle.rules.specs.declared.Box.{Box}
 use Rattle.rules.specs.Lists.{anyOf, allOf, sumOf}
-use Rattle.rules.specs.Lattice.{pointNumber, pointCount, points, OfGrid}
-use Rattle.rules.specs.Grid.{value, byteMarks}
+use Rattle.rules.specs.Lattice.{pointNumber, OfGrid}
+use Rattle.rules.specs.Grid.{byteMarks}
 use Rattle.rules.proofs.Bits.{same-test, and-left, and-right, both, eqb-yes, eqb→}
 use Rattle.rules.proofs.Numbers.{rising, take-upto, bit-value}
 use Rattle.totals.specs.Totals.{boxPoints, marksAt, marksIn, blockCount, blocks, blockBox, totalOf, totals, True}

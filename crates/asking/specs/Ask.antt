@@ -55,7 +55,7 @@ isTrue n g t = allOf (λ c. eqb (entryOf n t c) (totalOf n g c)) (blocks n)
 
 -- ---- for the code
 -- a box of points of the grid, or an empty one
-pub record Fits (n : ℕ) (b : Box) : Type 0 where
+pub record PointBox (n : ℕ) (b : Box) : Type 0 where
   pub x : b .hi .i ≤ suc n
   pub y : b .hi .j ≤ suc n
   pub z : b .hi .k ≤ suc n

@@ -71,22 +71,22 @@ trueCall level g t = answered (tableRows level g t) refused (said (isTrue (cells
 
 -- ---- making a table true for the bytes as they are
 -- the number, and the table afterwards
-pub record Counted : Type 0 where
+pub record CountOutcome : Type 0 where
   pub number : ℕ
   pub totals : List ℕ
 
 -- the paper's number for each answer
-abbrev pub countTold : Answer → List ℕ → Counted
+abbrev pub countTold : Answer → List ℕ → CountOutcome
 countTold r t = record { number = answerNumber r; totals = t }
 
 -- a refusal changes no entry
-abbrev pub countRefused : List ℕ → ℕ → Counted
+abbrev pub countRefused : List ℕ → ℕ → CountOutcome
 countRefused t k = record { number = k; totals = t }
 
 -- the total of each block, and no entry past the last block changed
-unfoldable pub countDone : ℕ → List ℕ → List ℕ → Counted
+unfoldable pub countDone : ℕ → List ℕ → List ℕ → CountOutcome
 countDone n g t = record { number = 0; totals = trued n g t }
 
 -- count totals (level, grid, totals)
-unfoldable pub countCall : ℕ → List ℕ → List ℕ → Counted
+unfoldable pub countCall : ℕ → List ℕ → List ℕ → CountOutcome
 countCall level g t = answered (tableRows level g t) (countRefused t) (countDone (cellsOf (levelAt level)) g t)

@@ -4,11 +4,10 @@ use rules::Box;
 use rules::Point;
 ghost use mathlib.Core.Path.{_≡_};
 ghost use Prim.Native.Nat.{_≤_};
-ghost use lib.ListN.{length};
 ghost use Rattle.rules.specs.Lists.{anyOf};
-ghost use Rattle.rules.specs.Lattice.{pointCount};
+ghost use Rattle.lattice.specs.Buffers.{Sized};
 ghost use Rattle.totals.specs.Totals.{boxPoints};
-ghost use Rattle.asking.specs.Ask.{hasMark, marked, Fits};
+ghost use Rattle.asking.specs.Ask.{hasMark, marked, PointBox};
 ghost use Rattle.asking.specs.Walk.{rowAny, layerAny};
 
 // Whether a byte has a mark.
@@ -20,7 +19,7 @@ fn has_mark(b: u8) -> bool
 
 // Whether the box's row (j, k) has a mark.
 fn row_any(n: usize, grid: &[u8], b: Box, j: usize, k: usize) -> bool
-    requires { ⌜ (n ≤ 32) × (pointCount n ≤ length (now grid)) × Fits n b × (j ≤ n) × (k ≤ n) ⌝ }
+    requires { ⌜ record { sized : Sized n (now grid); fits : PointBox n b; row : j ≤ n; layer : k ≤ n } ⌝ }
     ensures { λ r. ⌜ r ≡ rowAny (marked n (now (grid .entry))) b k j ⌝ }
 {
     let from = number_of(n, Point { i: 0, j: j, k: k });
@@ -37,7 +36,7 @@ fn row_any(n: usize, grid: &[u8], b: Box, j: usize, k: usize) -> bool
 
 // Whether the box's layer k has a mark.
 fn layer_any(n: usize, grid: &[u8], b: Box, k: usize) -> bool
-    requires { ⌜ (n ≤ 32) × (pointCount n ≤ length (now grid)) × Fits n b × (k ≤ n) ⌝ }
+    requires { ⌜ record { sized : Sized n (now grid); fits : PointBox n b; layer : k ≤ n } ⌝ }
     ensures { λ r. ⌜ r ≡ layerAny (marked n (now (grid .entry))) b k ⌝ }
 {
     let end = b.hi.j;
@@ -53,7 +52,7 @@ fn layer_any(n: usize, grid: &[u8], b: Box, k: usize) -> bool
 
 // Whether a box of points has a mark.
 pub fn box_any(n: usize, grid: &[u8], b: Box) -> bool
-    requires { ⌜ (n ≤ 32) × (pointCount n ≤ length (now grid)) × Fits n b ⌝ }
+    requires { ⌜ Sized n (now grid) × PointBox n b ⌝ }
     ensures { λ r. ⌜ r ≡ anyOf (marked n (now (grid .entry))) (boxPoints b) ⌝ }
 {
     let end = b.hi.k;

@@ -6,11 +6,10 @@ ghost use mathlib.Core.Path.{_≡_};
 ghost use mathlib.Core.Bool.{not};
 ghost use Prim.Native.Nat.{_≤_};
 ghost use lib.Dec.{eqb};
-ghost use lib.ListN.{length};
 ghost use Rattle.rules.specs.Lists.{anyOf};
-ghost use Rattle.rules.specs.Lattice.{pointCount};
+ghost use Rattle.lattice.specs.Buffers.{Sized};
 ghost use Rattle.totals.specs.Totals.{boxPoints};
-ghost use Rattle.asking.specs.Ask.{entrySome, Fits};
+ghost use Rattle.asking.specs.Ask.{entrySome, PointBox};
 ghost use Rattle.asking.specs.Walk.{rowAny, layerAny};
 
 // Whether an entry tells a mark.
@@ -22,7 +21,7 @@ fn is_some(v: u16) -> bool
 
 // Whether an entry of the box's row (j, k) is not 0.
 fn row_some(m: usize, totals: &[u16], b: Box, j: usize, k: usize) -> bool
-    requires { ⌜ (m ≤ 32) × (pointCount m ≤ length (now totals)) × Fits m b × (j ≤ m) × (k ≤ m) ⌝ }
+    requires { ⌜ record { sized : Sized m (now totals); fits : PointBox m b; row : j ≤ m; layer : k ≤ m } ⌝ }
     ensures { λ r. ⌜ r ≡ rowAny (entrySome m (now (totals .entry))) b k j ⌝ }
 {
     let from = number_of(m, Point { i: 0, j: j, k: k });
@@ -39,7 +38,7 @@ fn row_some(m: usize, totals: &[u16], b: Box, j: usize, k: usize) -> bool
 
 // Whether an entry of the box's layer k is not 0.
 fn layer_some(m: usize, totals: &[u16], b: Box, k: usize) -> bool
-    requires { ⌜ (m ≤ 32) × (pointCount m ≤ length (now totals)) × Fits m b × (k ≤ m) ⌝ }
+    requires { ⌜ record { sized : Sized m (now totals); fits : PointBox m b; layer : k ≤ m } ⌝ }
     ensures { λ r. ⌜ r ≡ layerAny (entrySome m (now (totals .entry))) b k ⌝ }
 {
     let end = b.hi.j;
@@ -55,7 +54,7 @@ fn layer_some(m: usize, totals: &[u16], b: Box, k: usize) -> bool
 
 // Whether an entry of a box of blocks is not 0.
 pub fn box_some(m: usize, totals: &[u16], b: Box) -> bool
-    requires { ⌜ (m ≤ 32) × (pointCount m ≤ length (now totals)) × Fits m b ⌝ }
+    requires { ⌜ Sized m (now totals) × PointBox m b ⌝ }
     ensures { λ r. ⌜ r ≡ anyOf (entrySome m (now (totals .entry))) (boxPoints b) ⌝ }
 {
     let end = b.hi.k;

@@ -1,7 +1,7 @@
 -- What is written of a model is its job: a triangle has 36 bytes, all of them or none are written, and the lent file has room wherever a u32 holds
 -- the offset of the quads. Assumes nothing.
-use mathlib.Core.Path.{_≡_, refl, sym, ap, _∙_}
-use mathlib.Core.Logic.{_⊎_, inl, inr}
+use mathlib.Core.Path.{_≡_, sym, ap, _∙_}
+use mathlib.Core.Logic.{inl, inr}
 use mathlib.Core.List.{List, [], _++_, append-nil}
 use Prim.Native.Nat.{ℕ, _*_, _≤_}
 use native.Mathlib.Omega.{arith}
@@ -22,7 +22,7 @@ use Rattle.planning.specs.declared.Planned.the-variants.{Stands, Stops}
 use Rattle.planning.specs.Plan.{saidOf}
 use Rattle.planning.specs.Read.{Marked}
 use Rattle.job_making.specs.declared.Parts.{Parts}
-use Rattle.job_making.specs.Parts.{Room, Whole, Makes}
+use Rattle.job_making.specs.Parts.{JobRoom, AllOrNone, Makes}
 use Rattle.casing.specs.Case.{lentJob, casedMarks, caseOf, said, placed}
 use Rattle.casing.specs.Read.{Cased}
 
@@ -31,11 +31,12 @@ job-long : length lentJob ≡ 4295229440
 unfolding lentJob
 job-long = length-replicate {A = ℕ} 4295229440 0
 
-job-room : (l : Level) (t : ℕ) → Room l t (length lentList) lentJob
+job-room : (l : Level) (t : ℕ) → JobRoom l t (length lentList) lentJob
 job-room l t near = omega (arith, job-long, list-long)
 
 -- ---- the triangles that are written, all or none
-stream-front : (e : ℤ) (v : Shift) (t : ℕ) (s : List ℕ) (p : Parts) → Whole t p → streamOf e v (p .triangles) s ≡ take (36 * p .triangles) (streamOf e v t s)
+stream-front : (e : ℤ) (v : Shift) (t : ℕ) (s : List ℕ) (p : Parts) → AllOrNone t p →
+    streamOf e v (p .triangles) s ≡ take (36 * p .triangles) (streamOf e v t s)
 stream-front e v t s p (inl all) =
     let n = stream-length e v t s in
     ap (λ (k : ℕ). streamOf e v k s) all

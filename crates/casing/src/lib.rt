@@ -17,7 +17,7 @@ ghost use mathlib.Core.Path.{_≡_};
 ghost use Prim.Native.Nat.{_≤_};
 ghost use lib.ListN.{length};
 ghost use Rattle.lattice.specs.Levels.{numberOf};
-ghost use Rattle.feeding.specs.Feed.{Ready};
+ghost use Rattle.lattice.specs.Buffers.{Ready};
 ghost use Rattle.job_making.specs.Parts.{Makes};
 ghost use Rattle.telling.specs.Told.{lentList};
 ghost use Rattle.casing.specs.Case.{said, placed};
@@ -69,7 +69,12 @@ fn case_grid(
     front: &mut [u8],
     back: &mut [u8],
 ) -> Parts
-    requires { ⌜ (level ≡ numberOf l) × Ready l (now grid) × (35966 ≤ length (now front)) × (262144 ≤ length (now back)) ⌝ }
+    requires { ⌜ record {
+      level-is : level ≡ numberOf l;
+      ready : Ready l (now grid);
+      front-room : 35966 ≤ length (now front);
+      back-room : 262144 ≤ length (now back);
+    } ⌝ }
     ensures { λ r. ⌜ Makes l triangles (now (grid .entry)) lentList (now (front .exit)) (now (back .exit)) r ⌝ }
 {
     let mut work = empty_grid();

@@ -139,7 +139,7 @@ pub fn upper_edge(a: Axis) -> Place
 }
 
 fn move_to(n: usize, c: Point, e: Place) -> Place
-    requires { ⌜ (n ≤ 32) × OfGrid n c × OfGrid 1 (e .at) ⌝ }
+    requires { ⌜ record { small : n ≤ 32; on-grid : OfGrid n c; stepped : OfGrid 1 (e .at) } ⌝ }
     ensures { λ r. ⌜ r ≡ moved c e ⌝ }
 {
     let o = e.at;

@@ -59,7 +59,7 @@ pub fn half_power(s: u32) -> f32
 
 // (c - 1) / 2 times 2^-e, with s for e + 20: one product, which is exact.
 pub fn coordinate(c: u32, s: u32) -> f32
-    requires { ⌜ (1 < c) × (c ≤ 1048576) × (s ≤ 40) ⌝ }
+    requires { ⌜ record { above-one : 1 < c; on-lattice : c ≤ 1048576; scale : s ≤ 40 } ⌝ }
     ensures { λ r. ⌜ r ≡ coordOf c (exponentOf s) ⌝ }
 {
     ((c - 1) as f32) * half_power(s)

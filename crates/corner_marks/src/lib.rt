@@ -19,15 +19,16 @@ ghost use lib.ListN.{length};
 ghost use Rattle.rules.specs.Lattice.{OfGrid, pointNumber, pointCount};
 ghost use Rattle.lattice.specs.Levels.{cellsOf, pointsOf};
 ghost use Rattle.lattice.specs.Cells.{Cell};
+ghost use Rattle.lattice.specs.Buffers.{Sized};
 ghost use Rattle.triangles.specs.Meets.{Inside};
 ghost use Rattle.meeting.specs.Met.{met};
 ghost use Rattle.meeting.specs.Adding.{atCell};
 ghost use Rattle.corners.specs.Went.{EdgeAdded, CellAdded, Went};
-ghost use Rattle.corners.specs.Corner.{Keeps, Reaches};
+ghost use Rattle.corners.specs.Corner.{KeepsAxes, Reaches};
 
 // Adds the mark of an edge, whose point has number `at`, if it has none and is left.
 fn mark_edge(n: usize, grid: &mut [u8], at: usize, e: Place, left: u8)
-    requires { ⌜ (pointCount n ≤ length (now grid)) × OfGrid n (e .at) × (at ≡ pointNumber n (e .at)) ⌝ }
+    requires { ⌜ record { long : pointCount n ≤ length (now grid); on-grid : OfGrid n (e .at); number-is : at ≡ pointNumber n (e .at) } ⌝ }
     ensures { λ _. ⌜ EdgeAdded n e left (now (grid .entry)) (now (grid .exit)) ⌝ }
 {
     let a = e.axis;
@@ -42,7 +43,7 @@ fn mark_edge(n: usize, grid: &mut [u8], at: usize, e: Place, left: u8)
 
 // Adds the marks of the edges left at the lowest corner of a cell.
 pub fn mark_left(n: usize, grid: &mut [u8], at: usize, c: Point, left: u8)
-    requires { ⌜ (n ≤ 32) × (pointCount n ≤ length (now grid)) × Cell n c × (at ≡ pointNumber n c) ⌝ }
+    requires { ⌜ record { sized : Sized n (now grid); cell : Cell n c; number-is : at ≡ pointNumber n c } ⌝ }
     ensures { λ _. ⌜ CellAdded n c left (now (grid .entry)) (now (grid .exit)) ⌝ }
 {
     mark_edge(n, grid, at, corner_edge(n, c, Axis::X), left);
@@ -62,8 +63,15 @@ pub fn mark_cell(
     lo: Point,
     c: Point,
 ) -> usize
-    requires { ⌜ Inside t × (built ≤ 10) × Keeps l t built (now kept) ⌝ }
-    requires { ⌜ (n ≡ cellsOf l) × (pointsOf l ≤ length (now grid)) × Cell (cellsOf l) c × Reaches l t lo c ⌝ }
+    requires { ⌜ record {
+      inside : Inside t;
+      built-most : built ≤ 10;
+      keeps : KeepsAxes l t built (now kept);
+      cells-are : n ≡ cellsOf l;
+      grid-long : pointsOf l ≤ length (now grid);
+      cell : Cell (cellsOf l) c;
+      reaches : Reaches l t lo c;
+    } ⌝ }
     ensures { λ r. ⌜ Went l t (atCell c (met l t)) r (now (kept .exit)) (now (grid .entry)) (now (grid .exit)) ⌝ }
 {
     let at = number_of(n, c);

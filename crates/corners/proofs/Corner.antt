@@ -33,7 +33,7 @@ use Rattle.triangles.proofs.Sizes.{later-size}
 use Rattle.triangles.proofs.Listed.{ten, none-next}
 use Rattle.triangles.proofs.Keeping.{further, parts-is, kept-terms, further-size, span-in-order, above-apart, below-apart, within-apart}
 use Rattle.meeting.specs.Met.{placeOf, endsOf}
-use Rattle.corners.specs.Corner.{numbersOf, ofThree, Fits, keptAt, fiveOf, keptWith, Keeps, noneParts, restLeft}
+use Rattle.corners.specs.Corner.{numbersOf, ofThree, KeptFits, keptAt, fiveOf, keptWith, KeepsAxes, noneParts, restLeft}
 use Rattle.meeting.proofs.Within.{place-inside}
 use Rattle.meeting.proofs.Adding.{corner-grid}
 
@@ -62,7 +62,7 @@ module _ (l : Level) where
 
   -- its dot products fit at every cell
   pub kept-fits : (t : Triangle) → Inside t → (k : ℕ) (p : Point) → Cell (cellsOf l) p →
-      Fits (keptOf (sideOf l) (getD (laterAxes t) k zeroVector) t) (numbersOf p)
+      KeptFits (keptOf (sideOf l) (getD (laterAxes t) k zeroVector) t) (numbersOf p)
   unfolding keptOf
   kept-fits t h k p c =
       let n = getD (laterAxes t) k zeroVector in
@@ -133,8 +133,8 @@ module _ (w : List ℤ) (k : ℕ) (a : Kept) (h : 5 * k + 5 ≤ length w) where
 
 module _ (l : Level) (t : Triangle) where
   -- one more axis is kept
-  pub keeps-more : (w : List ℤ) (k : ℕ) (a : Kept) → k < 10 → Keeps l t k w → a ≡ keptOf (sideOf l) (getD (laterAxes t) k zeroVector) t →
-      Keeps l t (suc k) (keptWith w k a)
+  pub keeps-more : (w : List ℤ) (k : ℕ) (a : Kept) → k < 10 → KeepsAxes l t k w → a ≡ keptOf (sideOf l) (getD (laterAxes t) k zeroVector) t →
+      KeepsAxes l t (suc k) (keptWith w k a)
   unfolding keptWith
   keeps-more w k a h s f = record { long = length-sets w (5 * k) (fiveOf a) ∙ s .long; axis = λ j b. at j b (ℕ-discrete j k) }
     where
@@ -143,7 +143,7 @@ module _ (l : Level) (t : Triangle) where
       at j b (no q) = let e = s .long in kept-before w k a (omega arith) j (omega arith) ∙ s .axis j (omega arith)
 
   -- those kept, and those from there on, are all
-  pub kept-and-rest : (w : List ℤ) (m : ℕ) → m ≤ 10 → Keeps l t m w → (p : Point) (a : Axis) →
+  pub kept-and-rest : (w : List ℤ) (m : ℕ) → m ≤ 10 → KeepsAxes l t m w → (p : Point) (a : Axis) →
       noneParts w m (numbersOf p) a && noneSeparates (drop m (laterAxes t)) t (endsOf l a p) ≡ noneSeparates (laterAxes t) t (endsOf l a p)
   unfolding noneParts
   kept-and-rest w zero h s p a = refl

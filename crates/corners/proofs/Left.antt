@@ -19,14 +19,14 @@ use Rattle.triangles.specs.Meets.{noneSeparates}
 use Rattle.triangles.specs.Keeping.{laterAxes}
 use Rattle.triangles.proofs.Listed.{met-later}
 use Rattle.meeting.specs.Met.{endsOf, met}
-use Rattle.corners.specs.Corner.{numbersOf, beyond, Reaches, Keeps, noneParts, restLeft}
+use Rattle.corners.specs.Corner.{numbersOf, beyond, Reaches, KeepsAxes, noneParts, restLeft}
 use Rattle.meeting.specs.Adding.{Added, atCell}
 use Rattle.meeting.proofs.Outside.{met-is}
 use Rattle.corners.proofs.Planes.{units-clear}
 use Rattle.meeting.proofs.Adding.{added-none, corner-grid}
 use Rattle.corners.proofs.Corner.{kept-and-rest, zero-has}
 
-module _ (l : Level) (t : Triangle) (lo c : Point) (r : Reaches l t lo c) (o : Cell (cellsOf l) c) (m : ℕ) (w : List ℤ) (h : m ≤ 10) (k : Keeps l t m w)
+module _ (l : Level) (t : Triangle) (lo c : Point) (r : Reaches l t lo c) (o : Cell (cellsOf l) c) (m : ℕ) (w : List ℤ) (h : m ≤ 10) (k : KeepsAxes l t m w)
     (byte left : ℕ) (e : (a : Axis) → has a left ≡ (not (has a byte) && beyond lo c a) && noneParts w m (numbersOf c) a) where
   -- of an edge without a mark: it is met exactly when the axes that are not kept leave it too
   pub left-met : (a : Axis) → has a byte ≡ false → met l t a c ≡ restLeft l t m c a (has a left)

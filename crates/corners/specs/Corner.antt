@@ -49,7 +49,7 @@ beyond lo c Y = not (eqb (c .i) (lo .i)) && not (eqb (c .k) (lo .k))
 beyond lo c Z = not (eqb (c .i) (lo .i)) && not (eqb (c .j) (lo .j))
 
 -- layer i of cells on an axis reaches the span, whose first grid plane lies above the layer `first`
-pub record Reached (l : Level) (x : Span) (first i : ℕ) : Type 0 where
+pub record LayerReached (l : Level) (x : Span) (first i : ℕ) : Type 0 where
   pub from : first ≤ i
   pub below : pos (first * sideOf l) <ℤ x .low
   pub plane : x .low ≤ℤ pos (suc first * sideOf l)
@@ -57,10 +57,10 @@ pub record Reached (l : Level) (x : Span) (first i : ℕ) : Type 0 where
 
 -- the cell reaches the triangle's box, whose lowest cell is lo
 abbrev pub Reaches : Level → Triangle → Point → Point → Type 0
-Reaches l t lo c = (a : Axis) → Reached l (triangleSpan (getD units (indexOf a) zeroVector) t) (coord a lo) (coord a c)
+Reaches l t lo c = (a : Axis) → LayerReached l (triangleSpan (getD units (indexOf a) zeroVector) t) (coord a lo) (coord a c)
 
 -- the dot products of an axis kept with a point and with the next ones fit, and its span is in order
-pub record Fits (a : Kept) (p : Vector) : Type 0 where
+pub record KeptFits (a : Kept) (p : Vector) : Type 0 where
   pub here : Terms (a .axis) p
   pub next : (e : Axis) → Size dotMost (dot (a .axis) p +ℤ along (a .axis) (indexOf e))
   pub in-order : a .span .low ≤ℤ a .span .high
@@ -82,7 +82,7 @@ unfoldable pub keptWith : List ℤ → ℕ → Kept → List ℤ
 keptWith w k a = sets w (5 * k) (fiveOf a)
 
 -- fifty numbers, in which the first m axes behind the unit vectors are kept
-pub record Keeps (l : Level) (t : Triangle) (m : ℕ) (w : List ℤ) : Type 0 where
+pub record KeepsAxes (l : Level) (t : Triangle) (m : ℕ) (w : List ℤ) : Type 0 where
   pub long : length w ≡ 50
   pub axis : (k : ℕ) → k < m → keptAt w k ≡ keptOf (sideOf l) (getD (laterAxes t) k zeroVector) t
 
@@ -101,4 +101,4 @@ restLeft l t m c a b = b && noneSeparates (drop m (laterAxes t)) t (endsOf l a c
 
 -- what the rest of the axes leave of the edges in a byte, once those reached are built and kept
 abbrev pub RestLeft : Level → Triangle → ℕ → Point → ℕ → Tested → List ℤ → Type 0
-RestLeft l t m c b r w = (r .built ≤ 10) × Keeps l t (r .built) w × ((a : Axis) → has a (r .left) ≡ restLeft l t m c a (has a b))
+RestLeft l t m c b r w = (r .built ≤ 10) × KeepsAxes l t (r .built) w × ((a : Axis) → has a (r .left) ≡ restLeft l t m c a (has a b))

@@ -13,7 +13,7 @@ use Rattle.lattice.specs.declared.level.Level.{Level}
 use Rattle.lattice.specs.Levels.{cellsOf}
 use Rattle.triangles.specs.declared.Triangle.{Triangle}
 use Rattle.meeting.specs.Adding.{Added, atEdge, atCell}
-use Rattle.corners.specs.Corner.{Keeps}
+use Rattle.corners.specs.Corner.{KeepsAxes}
 
 -- an edge of a set is added that the byte has or that has its mark; and so each of the three at the lowest corner of a cell
 abbrev pub EdgeAdded : ℕ → Place → ℕ → List ℕ → List ℕ → Type 0
@@ -24,4 +24,4 @@ CellAdded n c b g h = (E : Set) → ((a : Axis) → stored n g a c ≡ false →
 
 -- a set is added, and the first m axes are kept
 abbrev pub Went : Level → Triangle → Set → ℕ → List ℤ → List ℕ → List ℕ → Type 0
-Went l t E m w g h = (m ≤ 10) × Keeps l t m w × Added (cellsOf l) E g h
+Went l t E m w g h = (m ≤ 10) × KeepsAxes l t m w × Added (cellsOf l) E g h

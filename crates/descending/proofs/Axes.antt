@@ -23,7 +23,7 @@ use Rattle.triangles.proofs.Listed.{ten}
 use Rattle.corners.specs.Corner.{numbersOf, keptAt}
 use Rattle.descending.specs.declared.Cube.{Cube}
 use Rattle.descending.specs.Cubes.{CubeOf, cubeSpan, noneDrops}
-use Rattle.descending.specs.Reach.{reachOf, reachSpan, ReachFits, reachAt, reachWith, Spreads, Ready}
+use Rattle.descending.specs.Reach.{reachOf, reachSpan, ReachFits, reachAt, reachWith, Spreads, KeepsAll}
 use Rattle.descending.proofs.Dropping.{kept-span, reach-fits, all-clear, one-drops}
 
 -- ---- reaches kept
@@ -65,7 +65,7 @@ few : (t : Triangle) {k : ℕ} → k < length (laterAxes t) → k < 10
 unfolding laterAxes crossed crossEach units sides
 few t h = h
 
-module _ (l : Level) (t : Triangle) (w r : List ℤ) (y : Ready l t w r) (c : Cube) where
+module _ (l : Level) (t : Triangle) (w r : List ℤ) (y : KeepsAll l t w r) (c : Cube) where
   abbrev pub missed : ℕ → Bool
   missed k = apart (keptAt w k .span) (reachSpan (keptAt w k .axis) (reachAt r k) (numbersOf (c .at)) (pos (c .side)))
 

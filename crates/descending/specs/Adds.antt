@@ -13,12 +13,12 @@ use Rattle.meeting.specs.Adding.{Added, atCell}
 use Rattle.corners.specs.Corner.{Reaches}
 use Rattle.descending.specs.declared.Cube.{Cube}
 use Rattle.descending.specs.Cubes.{inCube}
-use Rattle.descending.specs.Reach.{Ready}
+use Rattle.descending.specs.Reach.{KeepsAll}
 
 -- the edges met at the lowest corner of the cell c, which the triangle's box that begins at lo reaches
 abbrev pub AddsAt : Level → List ℤ → List ℤ → Point → Point → List ℕ → List ℕ → Type 0
-AddsAt l w r lo c g g′ = (t : Triangle) → Ready l t w r → Reaches l t lo c → Added (cellsOf l) (atCell c (met l t)) g g′
+AddsAt l w r lo c g g′ = (t : Triangle) → KeepsAll l t w r → Reaches l t lo c → Added (cellsOf l) (atCell c (met l t)) g g′
 
 -- the edges met at the lowest corners of a cube's cells, b being the triangle's box
 abbrev pub AddsIn : Level → List ℤ → List ℤ → Box → Cube → List ℕ → List ℕ → Type 0
-AddsIn l w r b c g g′ = (t : Triangle) → Ready l t w r → Covers l t b → Added (cellsOf l) (inCube c (met l t)) g g′
+AddsIn l w r b c g g′ = (t : Triangle) → KeepsAll l t w r → Covers l t b → Added (cellsOf l) (inCube c (met l t)) g g′

@@ -15,7 +15,7 @@ use Rattle.triangles.specs.Vectors.{Size, Terms, dotMost, zeroVector, dot}
 use Rattle.triangles.specs.Meets.{Inside}
 use Rattle.triangles.specs.Shared.{times}
 use Rattle.triangles.specs.Keeping.{laterAxes}
-use Rattle.corners.specs.Corner.{Keeps}
+use Rattle.corners.specs.Corner.{KeepsAxes}
 
 -- a number that is below 0, else 0; and one that is not, else 0
 unfoldable pub below : ℤ → ℤ
@@ -53,12 +53,12 @@ pub record Spreads (l : Level) (t : Triangle) (m : ℕ) (r : List ℤ) : Type 0 
   pub reach : (k : ℕ) → k < m → reachAt r k ≡ reachOf (times (sideOf l) (getD (laterAxes t) k zeroVector))
 
 -- all ten axes are kept, with their reaches
-pub record Ready (l : Level) (t : Triangle) (w r : List ℤ) : Type 0 where
+pub record KeepsAll (l : Level) (t : Triangle) (w r : List ℤ) : Type 0 where
   pub inside : Inside t
-  pub keeps : Keeps l t 10 w
+  pub keeps : KeepsAxes l t 10 w
   pub spreads : Spreads l t 10 r
 
 -- those of some triangle
 pub record Loaded (l : Level) (w r : List ℤ) : Type 0 where
   pub whose : Triangle
-  pub ready : Ready l whose w r
+  pub all-kept : KeepsAll l whose w r

@@ -25,9 +25,9 @@ ghost use Prim.Native.Nat.{_+_, _*_, _-_, _≤_, _<_};
 ghost use lib.IntN.{_+ℤ_};
 ghost use lib.ListN.{length};
 ghost use Rattle.rules.specs.Lattice.{OfGrid};
-ghost use Rattle.rules.specs.Grid.{isGrid, Unsigned};
 ghost use Rattle.lattice.specs.Levels.{cellsOf, pointsOf};
 ghost use Rattle.lattice.specs.Cells.{Cell};
+ghost use Rattle.lattice.specs.Buffers.{Ready};
 ghost use Rattle.triangles.specs.declared.Triangle.{Triangle};
 ghost use Rattle.triangles.specs.Vectors.{Each, Size, termMost};
 ghost use Rattle.triangles.specs.Spans.{apart};
@@ -38,7 +38,7 @@ ghost use Rattle.meeting.specs.Met.{met, marked};
 ghost use Rattle.meeting.specs.Covered.{Covers};
 ghost use Rattle.meeting.specs.Adding.{Added};
 ghost use Rattle.descending.specs.Cubes.{CubeOf, noneDrops, shifted, eighthOf, shares, touchesOf};
-ghost use Rattle.descending.specs.Reach.{below, above, reachOf, reachSpan, ReachFits, reachAt, reachWith, Ready, Loaded};
+ghost use Rattle.descending.specs.Reach.{below, above, reachOf, reachSpan, ReachFits, reachAt, reachWith, KeepsAll, Loaded};
 ghost use Rattle.descending.specs.Adds.{AddsAt, AddsIn};
 
 // Ten axes of two numbers each.
@@ -66,7 +66,7 @@ fn above(v: i64) -> i64
 
 // Answers the sum of three coordinates of an axis that is kept.
 fn sum(x: i64, y: i64, z: i64) -> i64
-    requires { ⌜ Size termMost x × Size termMost y × Size termMost z ⌝ }
+    requires { ⌜ record { x-size : Size termMost x; y-size : Size termMost y; z-size : Size termMost z } ⌝ }
     ensures { λ r. ⌜ r ≡ x +ℤ y +ℤ z ⌝ }
 {
     x + y + z
@@ -109,8 +109,8 @@ pub fn reach_at(reach: &[i64; REACHES], k: usize) -> Span
 
 // Builds the ten axes behind the unit vectors and their reaches.
 pub fn keep_all(l: Level, t: Triangle, kept: &mut [i64; NUMBERS], reach: &mut [i64; REACHES])
-    requires { ⌜ Inside t × (length (now kept) ≡ 50) × (length (now reach) ≡ 20) ⌝ }
-    ensures { λ _. ⌜ Ready l t (now (kept .exit)) (now (reach .exit)) ⌝ }
+    requires { ⌜ record { inside : Inside t; kept-long : length (now kept) ≡ 50; reach-long : length (now reach) ≡ 20 } ⌝ }
+    ensures { λ _. ⌜ KeepsAll l t (now (kept .exit)) (now (reach .exit)) ⌝ }
 {
     let mut k: usize = 0;
     while k < 10 {
@@ -136,7 +136,7 @@ pub fn misses(a: Kept, r: Span, p: Vector, side: i64) -> bool
 // Answers whether one of the ten axes behind the unit vectors separates a cube.
 fn is_missed(l: Level, kept: &[i64; NUMBERS], reach: &[i64; REACHES], c: Cube) -> bool
     requires { ⌜ Loaded l (now kept) (now reach) × CubeOf (cellsOf l) c ⌝ }
-    ensures { λ r. ⌜ ((t : Triangle) → Ready l t (now (kept .entry)) (now (reach .entry)) → r ≡ not (noneDrops (laterAxes t) l t c)) ⌝ }
+    ensures { λ r. ⌜ ((t : Triangle) → KeepsAll l t (now (kept .entry)) (now (reach .entry)) → r ≡ not (noneDrops (laterAxes t) l t c)) ⌝ }
 {
     let p = numbers_of(c.at);
     let side = signed(c.side);
@@ -185,7 +185,12 @@ fn mark_single(
     lo: Point,
     c: Point,
 )
-    requires { ⌜ (n ≡ cellsOf l) × (pointsOf l ≤ length (now grid)) × Cell (cellsOf l) c × Loaded l (now kept) (now reach) ⌝ }
+    requires { ⌜ record {
+      cells-are : n ≡ cellsOf l;
+      grid-long : pointsOf l ≤ length (now grid);
+      cell : Cell (cellsOf l) c;
+      loaded : Loaded l (now kept) (now reach);
+    } ⌝ }
     ensures { λ _. ⌜ AddsAt l (now (kept .entry)) (now (reach .entry)) lo c (now (grid .entry)) (now (grid .exit)) ⌝ }
 {
     let at = number_of(n, c);
@@ -232,7 +237,12 @@ fn mark_cube(
     b: Box,
     c: Cube,
 )
-    requires { ⌜ (n ≡ cellsOf l) × (pointsOf l ≤ length (now grid)) × CubeOf (cellsOf l) c × Loaded l (now kept) (now reach) ⌝ }
+    requires { ⌜ record {
+      cells-are : n ≡ cellsOf l;
+      grid-long : pointsOf l ≤ length (now grid);
+      cube : CubeOf (cellsOf l) c;
+      loaded : Loaded l (now kept) (now reach);
+    } ⌝ }
     ensures { λ _. ⌜ AddsIn l (now (kept .entry)) (now (reach .entry)) b c (now (grid .entry)) (now (grid .exit)) ⌝ }
 {
     if !touches(b, c) {
@@ -254,7 +264,7 @@ fn mark_cube(
 
 // Adds the marks of the edges that a triangle meets, down from the whole grid as one cube.
 fn mark_cubes(l: Level, grid: &mut [u8], t: Triangle, b: Box)
-    requires { ⌜ Inside t × Covers l t b × (pointsOf l ≤ length (now grid)) ⌝ }
+    requires { ⌜ record { inside : Inside t; covers : Covers l t b; grid-long : pointsOf l ≤ length (now grid) } ⌝ }
     ensures { λ _. ⌜ Added (cellsOf l) (met l t) (now (grid .entry)) (now (grid .exit)) ⌝ }
 {
     let mut kept = [0i64; NUMBERS];
@@ -271,8 +281,7 @@ fn mark_cubes(l: Level, grid: &mut [u8], t: Triangle, b: Box)
 
 // Adds the marks of the edges that a triangle meets to a buffer that is known to be a grid without signs, by the descent.
 pub fn mark_cubed(l: Level, grid: &mut [u8], t: Triangle)
-    requires { ⌜ TriangleWithin l t ⌝ }
-    requires { ⌜ (pointsOf l ≤ length (now grid)) × (isGrid (cellsOf l) (now grid) ≡ true) × Unsigned (cellsOf l) (now grid) ⌝ }
+    requires { ⌜ TriangleWithin l t × Ready l (now grid) ⌝ }
     ensures { λ _. ⌜ now (grid .exit) ≡ marked l t (now (grid .entry)) ⌝ }
 {
     let b = box_of(l, t);
@@ -287,7 +296,7 @@ pub const SCANNED: usize = 2048;
 
 // Answers the number of cells of a box.
 pub fn cells_in(b: Box) -> usize
-    requires { ⌜ OfGrid 32 (b .hi) × (b .lo .i ≤ b .hi .i) × (b .lo .j ≤ b .hi .j) × (b .lo .k ≤ b .hi .k) ⌝ }
+    requires { ⌜ record { on-grid : OfGrid 32 (b .hi); x-ordered : b .lo .i ≤ b .hi .i; y-ordered : b .lo .j ≤ b .hi .j; z-ordered : b .lo .k ≤ b .hi .k } ⌝ }
     ensures { λ r. ⌜ r ≡ (b .hi .i - b .lo .i) * ((b .hi .j - b .lo .j) * (b .hi .k - b .lo .k)) ⌝ }
 {
     (b.hi.i - b.lo.i) * ((b.hi.j - b.lo.j) * (b.hi.k - b.lo.k))
@@ -295,8 +304,7 @@ pub fn cells_in(b: Box) -> usize
 
 // The same, by the scan or by the descent, whichever takes less time for a triangle of its size.
 pub fn mark_fast(l: Level, grid: &mut [u8], t: Triangle)
-    requires { ⌜ TriangleWithin l t ⌝ }
-    requires { ⌜ (pointsOf l ≤ length (now grid)) × (isGrid (cellsOf l) (now grid) ≡ true) × Unsigned (cellsOf l) (now grid) ⌝ }
+    requires { ⌜ TriangleWithin l t × Ready l (now grid) ⌝ }
     ensures { λ _. ⌜ now (grid .exit) ≡ marked l t (now (grid .entry)) ⌝ }
 {
     let b = box_of(l, t);

@@ -29,9 +29,9 @@ abbrev pub point : ℕ → ℕ → ℕ → Point
 point i j k = record { i = i; j = j; k = k }
 
 -- what an example begins with: marks, or a triangle for an opened grid
-pub data Given : Type 0 where
-  edges : List Edge → Given
-  triangle : List ℤ → Given
+pub data BeginsWith : Type 0 where
+  edges : List Edge → BeginsWith
+  triangle : List ℤ → BeginsWith
 
 -- what the rules say of it: the number of odd faces, of rims, of the one rim's faces, of flips, of quads; the marks after mark
 -- and after patch; the points inside; the total of block 0 after patch
@@ -47,16 +47,16 @@ pub data Stated : Type 0 where
   total : ℕ → Stated
 
 pub record Example : Type 0 where
-  pub given : Given
+  pub given : BeginsWith
   pub stated : List Stated
 
 -- the triangle of nine numbers
-abbrev pub nine : ℕ → ℕ → ℕ → ℕ → ℕ → ℕ → ℕ → ℕ → ℕ → Given
+abbrev pub nine : ℕ → ℕ → ℕ → ℕ → ℕ → ℕ → ℕ → ℕ → ℕ → BeginsWith
 nine a b c d e f g h i =
     triangle (pos a ∷ (pos b ∷ (pos c ∷ (pos d ∷ (pos e ∷ (pos f ∷ (pos g ∷ (pos h ∷ (pos i ∷ [])))))))))
 
 -- the triangle of example 9: v = 262144 three times
-abbrev pub ninth : Given
+abbrev pub ninth : BeginsWith
 ninth = nine 262144 262144 262144 262144 262144 262144 262144 262144 262144
 
 -- the nine examples that are proved
@@ -103,12 +103,12 @@ abbrev untrue : List ℕ
 untrue = replicate 8 200
 
 -- the grid to begin with
-abbrev begun : Given → Marking.Outcome
+abbrev begun : BeginsWith → Marking.Outcome
 begun (edges l) = Marking.done (Grid.bytes 4 (setOf l)) untrue
 begun (triangle t) = let o = openCall 2 lent untrue in markCall 2 (o .grid) t (o .totals)
 
 -- through patch, sign and surface, with room for 96 quads
-abbrev pub run : Given → Outcomes
+abbrev pub run : BeginsWith → Outcomes
 run s =
     let m = begun s in
     let p = Patching.patchCall 2 (m .grid) lent (m .totals) in

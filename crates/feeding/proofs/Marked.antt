@@ -8,6 +8,7 @@ use lib.ListN.{length}
 use borrow.Author.Tests.{le-ltb, eq-eqb, ne-eqb}
 use Rattle.lattice.specs.declared.level.Level.{Level}
 use Rattle.lattice.specs.Levels.{numberOf, pointsOf}
+use Rattle.lattice.specs.Buffers.{Ready}
 use Rattle.refusals.specs.Columns.{badLevel, levelAt}
 use Rattle.refusals.proofs.Levels.{level-known, read-known}
 use Rattle.marking.specs.Ranges.{allInRange, triangleOf}
@@ -17,7 +18,6 @@ use Rattle.marking.specs.Mark.{refusedAt, refused, doneWith, markRows, markCall
 use Rattle.marking.proofs.Ranges.{triangle-within}
 use Rattle.marking.proofs.OutOfRange.{out-told}
 use Rattle.meeting.proofs.Marks.{grid-after, marked-length, unsigned-after}
-use Rattle.feeding.specs.Feed.{Ready}
 use Rattle.feeding.specs.Lent.{lentTotals}
 use Rattle.feeding.proofs.Lent.{lent-long}
 

@@ -10,11 +10,12 @@ use lib.Seq.{drop-append-le, drop-drop}
 use borrow.Author.Tests.{eq-eqb, ne-eqb}
 use Rattle.lattice.specs.declared.level.Level.{Level}
 use Rattle.lattice.specs.Levels.{numberOf}
+use Rattle.lattice.specs.Buffers.{Ready}
 use Rattle.marking.specs.Mark.{Outcome, markCall}
 use Rattle.text.specs.Words.{numbers}
 use Rattle.text.proofs.Numbers.{numbers-ahead, numbers-short}
 use Rattle.feeding.specs.Taken.{marked, refusedBy, taken, mostTriangles}
-use Rattle.feeding.specs.Feed.{Ready, Uncut}
+use Rattle.feeding.specs.Feed.{Uncut}
 use Rattle.feeding.specs.Lent.{lentTotals}
 use Rattle.feeding.proofs.Marked.{mark-short}
 

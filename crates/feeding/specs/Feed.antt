@@ -1,24 +1,17 @@
 -- What is known while the triangles of a stream are marked block by block. Assumes nothing.
 use mathlib.Core.Path.{_≡_}
-use mathlib.Core.Bool.{true}
 use mathlib.Core.List.{List, _++_}
 use Prim.Native.Nat.{ℕ, _-_, _%_, _≤_, _<_}
 use lib.IntN.{ℤ}
 use lib.ListN.{length}
-use Rattle.rules.specs.Grid.{isGrid, Unsigned}
 use Rattle.lattice.specs.declared.level.Level.{Level}
-use Rattle.lattice.specs.Levels.{numberOf, cellsOf, pointsOf}
+use Rattle.lattice.specs.Levels.{numberOf}
+use Rattle.lattice.specs.Buffers.{Ready}
 use Rattle.marking.specs.Mark.{markCall}
 use Rattle.feeding.specs.Lent.{lentTotals}
 use Rattle.feeding.specs.declared.Fed.{Fed}
 use Rattle.feeding.specs.declared.Fed.the-variants.{Marked, Refused}
 use Rattle.feeding.specs.Taken.{Taken, refusedBy, taken, mostTriangles}
-
--- the buffer is a grid of the level, without signs
-pub record Ready (l : Level) (g : List ℕ) : Type 0 where
-  pub long : pointsOf l ≤ length g
-  pub grid : isGrid (cellsOf l) g ≡ true
-  pub unsigned : Unsigned (cellsOf l) g
 
 -- the number and the grid are those of mark, for the triangle of the numbers c
 pub record Marking (l : Level) (c : List ℤ) (number : ℕ) (g g′ : List ℕ) : Type 0 where

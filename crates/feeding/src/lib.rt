@@ -9,7 +9,8 @@ ghost use mathlib.Core.Path.{_≡_};
 ghost use Prim.Native.Nat.{_+_, _≤_};
 ghost use lib.ListN.{length, drop};
 ghost use Rattle.text.specs.Words.{numbers};
-ghost use Rattle.feeding.specs.Feed.{Ready, Marking, Feeding};
+ghost use Rattle.feeding.specs.Feed.{Marking, Feeding};
+ghost use Rattle.lattice.specs.Buffers.{Ready};
 
 // The bytes of a triangle: nine numbers of four bytes.
 const TRIANGLE: usize = 36;

@@ -10,7 +10,7 @@ ghost use Prim.Native.Nat.{ℕ};
 ghost use lib.IntN.{ℤ};
 ghost use Rattle.stl_reading.specs.Call.{Outcome as ReadOutcome, told as readTold};
 ghost use Rattle.stl_writing.specs.Call.{Outcome as WriteOutcome, told as writeTold};
-ghost use Rattle.job_reading.specs.Read.{Numbers as JobNumbers, numbersOf, told as readJobTold};
+ghost use Rattle.job_reading.specs.Read.{JobTold, numbersOf, told as readJobTold};
 ghost use Rattle.job_writing.specs.Write.{Outcome as WriteJobOutcome, told as writeJobTold};
 ghost use Rattle.masks.specs.Call.{Outcome as MasksOutcome, told as masksTold};
 
@@ -89,7 +89,7 @@ pub fn tell_read_job(
     quads_at: &mut u32,
     quads_len: &mut u32,
 ) -> u32
-    ensures { λ k. ⌜ _≡_ {A = JobNumbers}
+    ensures { λ k. ⌜ _≡_ {A = JobTold}
         (record {
           number = k;
           level = now (level .exit);

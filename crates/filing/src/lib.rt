@@ -8,7 +8,7 @@ ghost use mathlib.Core.Path.{_≡_};
 ghost use Prim.Native.Nat.{_≤_};
 ghost use lib.ListN.{length, take};
 ghost use Rattle.lattice.specs.Levels.{numberOf};
-ghost use Rattle.feeding.specs.Feed.{Ready};
+ghost use Rattle.lattice.specs.Buffers.{Ready};
 ghost use Rattle.reporting.specs.Report.{lentBytes, closed};
 ghost use Rattle.filing.specs.File.{lentFile, filed};
 
@@ -20,7 +20,7 @@ pub fn write_surface(
     work: &mut [u8],
     out: &mut [u8],
 ) -> usize
-    requires { ⌜ (level ≡ numberOf l) × Ready l (now grid) × (now work ≡ lentBytes) × (now out ≡ lentFile) ⌝ }
+    requires { ⌜ record { level-is : level ≡ numberOf l; ready : Ready l (now grid); work-lent : now work ≡ lentBytes; out-lent : now out ≡ lentFile } ⌝ }
     ensures { λ r. ⌜ (take r (now (out .exit)) ≡ closed level (now (grid .entry)) (filed level)) × (r ≤ length (now (out .exit))) ⌝ }
 {
     close_grid(l, grid, work);

@@ -9,10 +9,9 @@ ghost use mathlib.Core.Path.{_≡_};
 ghost use mathlib.Core.Bool.{true};
 ghost use Prim.Native.Nat.{_≤_, _+_};
 ghost use lib.Dec.{eqb};
-ghost use lib.ListN.{length};
-ghost use Rattle.rules.specs.Lattice.{pointCount};
 ghost use Rattle.rules.specs.Grid.{value, marks, isGrid};
 ghost use Rattle.rules.specs.Rims.{facesWith};
+ghost use Rattle.lattice.specs.Buffers.{BothSized};
 ghost use Rattle.finding.specs.Finding.{OddFound};
 
 // The number of faces with one mark and with three.
@@ -31,7 +30,7 @@ fn with_marks(x: u8, y: u8, z: u8, k: u8) -> u32
 // Finds the odd faces, and counts those with one mark and with three: one run of the face test over all points but the last layer's, whose
 // faces have no mark. It has no branch, so that many faces are tested at once.
 pub fn find_odd(n: usize, grid: &[u8], work: &mut [u8]) -> Tally
-    requires { ⌜ (n ≤ 32) × (pointCount n ≤ length (now grid)) × (pointCount n ≤ length (now work)) × (isGrid n (now grid) ≡ true) ⌝ }
+    requires { ⌜ BothSized n (now grid) (now work) × (isGrid n (now grid) ≡ true) ⌝ }
     ensures { λ r. ⌜ (r .ones ≡ facesWith 1 n (marks n (now (grid .entry)))) × (r .threes ≡ facesWith 3 n (marks n (now (grid .entry))))
         × OddFound n (marks n (now (grid .entry))) (now (work .entry)) (now (work .exit)) ⌝ }
 {

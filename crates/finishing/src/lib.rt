@@ -13,6 +13,7 @@ ghost use lib.ListN.{length};
 ghost use Rattle.rules.specs.Lattice.{pointCount};
 ghost use Rattle.totals.specs.Totals.{blockCount, trued};
 ghost use Rattle.lattice.specs.Byte.{low, marksPutBy};
+ghost use Rattle.lattice.specs.Buffers.{BothSized};
 ghost use Rattle.patching.specs.Paint.{paint, allChanges, zeroByte};
 
 // Puts the marks by as they came.
@@ -29,7 +30,7 @@ pub fn put_by(count: usize, grid: &mut [u8])
 
 // Keeps the marks as they are now, clears the work bytes, and counts the edges whose mark differs.
 pub fn finish(count: usize, grid: &mut [u8], work: &mut [u8]) -> u32
-    requires { ⌜ (count ≤ 35937) × (count ≤ length (now grid)) × (count ≤ length (now work)) ⌝ }
+    requires { ⌜ record { count-most : count ≤ 35937; grid-long : count ≤ length (now grid); work-long : count ≤ length (now work) } ⌝ }
     ensures { λ r. ⌜ (r ≡ allChanges count (now (grid .entry)))
         × (now (grid .exit) ≡ paint low count (now (grid .entry))) × (now (work .exit) ≡ paint zeroByte count (now (work .entry))) ⌝ }
 {
@@ -46,7 +47,7 @@ pub fn finish(count: usize, grid: &mut [u8], work: &mut [u8]) -> u32
 
 // The same, and counts the totals of all blocks in the same pass.
 pub fn finish_held(n: usize, grid: &mut [u8], work: &mut [u8], totals: &mut [u16]) -> u32
-    requires { ⌜ (n ≤ 32) × (pointCount n ≤ length (now grid)) × (pointCount n ≤ length (now work)) × (blockCount n ≤ length (now totals)) ⌝ }
+    requires { ⌜ BothSized n (now grid) (now work) × (blockCount n ≤ length (now totals)) ⌝ }
     ensures { λ r. ⌜ (r ≡ allChanges (pointCount n) (now (grid .entry))) × (now (grid .exit) ≡ paint low (pointCount n) (now (grid .entry))) ⌝ }
     ensures { λ r. ⌜ (now (work .exit) ≡ paint zeroByte (pointCount n) (now (work .entry)))
         × (now (totals .exit) ≡ trued n (now (grid .exit)) (now (totals .entry))) ⌝ }

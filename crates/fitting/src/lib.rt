@@ -9,15 +9,14 @@ use rules::Axis;
 use rules::Point;
 ghost use mathlib.Core.Path.{_≡_};
 ghost use mathlib.Core.Bool.{true};
-ghost use Prim.Native.Nat.{_≤_};
-ghost use lib.ListN.{length};
-ghost use Rattle.rules.specs.Lattice.{pointNumber, pointCount, OfGrid};
+ghost use Rattle.rules.specs.Lattice.{pointNumber, OfGrid};
 ghost use Rattle.rules.specs.Grid.{marks, inside, isGrid};
+ghost use Rattle.lattice.specs.Buffers.{Sized};
 ghost use Rattle.surfacing.specs.Fit.{edgeFits, pointFits, signsFit};
 
 // Answers whether the edge along a at the point q, of number p, has a sign change exactly when it has a mark, if it exists.
 fn edge_fits(n: usize, grid: &[u8], a: Axis, q: Point, p: usize) -> bool
-    requires { ⌜ (n ≤ 32) × (pointCount n ≤ length (now grid)) × (isGrid n (now grid) ≡ true) × OfGrid n q × (p ≡ pointNumber n q) ⌝ }
+    requires { ⌜ record { sized : Sized n (now grid); is-grid : isGrid n (now grid) ≡ true; on-grid : OfGrid n q; number-is : p ≡ pointNumber n q } ⌝ }
     ensures { λ r. ⌜ r ≡ edgeFits n (marks n (now (grid .entry))) (inside n (now (grid .entry))) a q ⌝ }
 {
     if coordinate(q, a) >= n {
@@ -30,7 +29,7 @@ fn edge_fits(n: usize, grid: &[u8], a: Axis, q: Point, p: usize) -> bool
 
 // Answers whether the three edges at the point q, of number p, fit.
 fn point_fits(n: usize, grid: &[u8], q: Point, p: usize) -> bool
-    requires { ⌜ (n ≤ 32) × (pointCount n ≤ length (now grid)) × (isGrid n (now grid) ≡ true) × OfGrid n q × (p ≡ pointNumber n q) ⌝ }
+    requires { ⌜ record { sized : Sized n (now grid); is-grid : isGrid n (now grid) ≡ true; on-grid : OfGrid n q; number-is : p ≡ pointNumber n q } ⌝ }
     ensures { λ r. ⌜ r ≡ pointFits n (marks n (now (grid .entry))) (inside n (now (grid .entry))) q ⌝ }
 {
     if !edge_fits(n, grid, Axis::X, q, p) {
@@ -44,7 +43,7 @@ fn point_fits(n: usize, grid: &[u8], q: Point, p: usize) -> bool
 
 // Answers whether the signs of a grid fit its marks.
 pub fn signs_fit(n: usize, grid: &[u8]) -> bool
-    requires { ⌜ (n ≤ 32) × (pointCount n ≤ length (now grid)) × (isGrid n (now grid) ≡ true) ⌝ }
+    requires { ⌜ Sized n (now grid) × (isGrid n (now grid) ≡ true) ⌝ }
     ensures { λ r. ⌜ r ≡ signsFit n (marks n (now (grid .entry))) (inside n (now (grid .entry))) ⌝ }
 {
     if is_inside(grid[0]) {

@@ -16,15 +16,15 @@ use rules::Spot;
 ghost use mathlib.Core.Path.{_≡_};
 ghost use mathlib.Core.List.{[], _∷_};
 ghost use Prim.Native.Nat.{_≤_, _<_, _+_};
-ghost use lib.ListN.{length};
 ghost use Rattle.rules.specs.Lattice.{coord, pointAt, pointOf, pointNumber, pointCount, OfGrid};
 ghost use Rattle.rules.specs.Patch.{path};
 ghost use Rattle.lattice.specs.Cells.{turnAt, faceTurns};
-ghost use Rattle.halving.specs.Halving.{Sized, Flipped, Edged, EdgeRun, ahead, along, Placed};
+ghost use Rattle.lattice.specs.Buffers.{BothSized, Sized};
+ghost use Rattle.halving.specs.Halving.{Flipped, Edged, EdgeRun, ahead, along, SpotIn};
 
 // Turns face f of the table in the working set, at the cell whose lowest corner has number `at`.
 fn turn_face(n: usize, work: &mut [u8], at: usize, f: Place)
-    requires { ⌜ (n ≤ 32) × (pointCount n ≤ length (now work)) × OfGrid n (f .at) × (at + pointNumber n (f .at) < pointCount n) ⌝ }
+    requires { ⌜ record { sized : Sized n (now work); on-grid : OfGrid n (f .at); below : at + pointNumber n (f .at) < pointCount n } ⌝ }
     ensures { λ _. ⌜ now (work .exit) ≡ turnAt (at + pointNumber n (f .at)) (f .axis) (now (work .entry)) ⌝ }
 {
     let p = at + number_of(n, f.at);
@@ -35,7 +35,7 @@ fn turn_face(n: usize, work: &mut [u8], at: usize, f: Place)
 // Reverses membership of the four faces of an inner edge in the working set: two lower ones of the cell above it, and two upper ones of the
 // cell below it. The edge is told by its axis and its point's number.
 fn turn_faces(n: usize, work: &mut [u8], at: usize, a: Axis)
-    requires { ⌜ (n ≤ 32) × (pointCount n ≤ length (now work)) × (at < pointCount n) × Edged n (record { axis = a; at = pointOf n at }) ⌝ }
+    requires { ⌜ record { sized : Sized n (now work); below : at < pointCount n; edged : Edged n (record { axis = a; at = pointOf n at }) } ⌝ }
     ensures { λ _. ⌜ now (work .exit) ≡ faceTurns n (record { axis = a; at = pointOf n at } ∷ []) (now (work .entry)) ⌝ }
 {
     let b = earlier(a);
@@ -49,7 +49,7 @@ fn turn_faces(n: usize, work: &mut [u8], at: usize, a: Axis)
 
 // Flips an inner edge: its mark, and its four faces in the working set.
 fn flip(n: usize, grid: &mut [u8], work: &mut [u8], e: Place)
-    requires { ⌜ Sized n (now grid) (now work) × Edged n e ⌝ }
+    requires { ⌜ BothSized n (now grid) (now work) × Edged n e ⌝ }
     ensures { λ _. ⌜ Flipped n (e ∷ []) (now (grid .entry)) (now (work .entry)) (now (grid .exit)) (now (work .exit)) ⌝ }
 {
     let at = number_of(n, e.at);
@@ -71,7 +71,7 @@ fn next_edge(n: usize, e: Place, b: Axis) -> Place
 
 // Flips count edges in a row along b, beginning with e.
 fn flip_run(n: usize, grid: &mut [u8], work: &mut [u8], e: Place, b: Axis, count: usize)
-    requires { ⌜ Sized n (now grid) (now work) × EdgeRun n b count e ⌝ }
+    requires { ⌜ BothSized n (now grid) (now work) × EdgeRun n b count e ⌝ }
     ensures { λ _. ⌜ Flipped n (along b count e) (now (grid .entry)) (now (work .entry)) (now (grid .exit)) (now (work .exit)) ⌝ }
 {
     let mut at = e;
@@ -96,7 +96,13 @@ pub fn point_at(a: Axis, m: usize, u: usize, v: usize) -> Point
 
 // Joins two faces of the plane m square to a by a path: first along the earlier axis of the plane, then along the later.
 pub fn join(n: usize, grid: &mut [u8], work: &mut [u8], a: Axis, m: usize, p: Spot, q: Spot)
-    requires { ⌜ Sized n (now grid) (now work) × (1 ≤ m) × (m ≤ n) × Placed n p × Placed n q ⌝ }
+    requires { ⌜ record {
+      sized : BothSized n (now grid) (now work);
+      plane-some : 1 ≤ m;
+      plane-most : m ≤ n;
+      p-placed : SpotIn n p;
+      q-placed : SpotIn n q;
+    } ⌝ }
     ensures { λ _. ⌜ Flipped n (path a m p q) (now (grid .entry)) (now (work .entry)) (now (grid .exit)) (now (work .exit)) ⌝ }
 {
     let b = earlier(a);

@@ -13,6 +13,9 @@ use Rattle.rules.specs.Grid.{value, byteAt, bytes, marks, inside, Unsigned, isG
 use Rattle.rules.proofs.Numbers.{rising, take-upto, bytes-length, marks-inner}
 use Rattle.rules.proofs.PointOf.{number-pointOf, pointOf-grid, over-points, all-points, at-point}
 use Rattle.rules.proofs.Same.{map-same}
+use Rattle.lattice.specs.declared.level.Level.{Level}
+use Rattle.lattice.specs.Levels.{cellsOf, pointsOf}
+use Rattle.lattice.specs.Buffers.{Ready}
 use Rattle.grids.specs.declared.GridRead.{GridRead}
 use Rattle.grids.specs.declared.GridRead.the-variants.{NoGrid, Grid}
 use Rattle.grids.specs.Scans.{insideCount, readOf, unsigned}
@@ -61,10 +64,6 @@ module _ (n : ℕ) (g : List ℕ) where
   unfolding unsigned
   unsigned-none = bytes-unsigned n (marks n g) (drop (pointCount n) g)
 
-  -- ready to be marked
-  pub unsigned-ready : pointCount n ≤ length g → (pointCount n ≤ length (unsigned n g)) × (isGrid n (unsigned n g) ≡ true) × Unsigned n (unsigned n g)
-  unsigned-ready long = let l = unsigned-length long in (omega arith, unsigned-grid, unsigned-none)
-
   -- with its marks
   pub unsigned-marks : marks n (unsigned n g) ≡ marks n g
   unfolding unsigned
@@ -74,6 +73,13 @@ module _ (n : ℕ) (g : List ℕ) where
   pub unsigned-rest : drop (pointCount n) (unsigned n g) ≡ drop (pointCount n) g
   unfolding unsigned
   unsigned-rest = drop-at (bytes n (marks n g)) (drop (pointCount n) g) (pointCount n) (bytes-length n (marks n g))
+
+-- of a level, it is ready to be marked
+pub unsigned-ready : (l : Level) (g : List ℕ) → pointsOf l ≤ length g → Ready l (unsigned (cellsOf l) g)
+unsigned-ready l g long =
+    let n = cellsOf l in
+    let e = unsigned-length n g long in
+    record { long = omega arith; grid = unsigned-grid n g; unsigned = unsigned-none n g }
 
 -- ---- the points inside, counted
 module _ (n : ℕ) (g : List ℕ) where

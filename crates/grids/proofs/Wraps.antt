@@ -12,7 +12,7 @@ use Rattle.rules.specs.Lattice.{coord, earlier, later, up, origin, sameAxis, ed
 use Rattle.rules.proofs.Bits.{Bounds}
 use Rattle.rules.proofs.Boxes.{inBox→}
 use Rattle.rules.proofs.PointOf.{number-pointOf, low-digit, high-digit}
-use Rattle.lattice.specs.Cells.{pointStep, Reached}
+use Rattle.lattice.specs.Cells.{pointStep, EdgeReached}
 use Rattle.lattice.proofs.Laws.{num-below}
 use Rattle.lattice.proofs.PointSteps.{number-up, number-step}
 
@@ -38,10 +38,10 @@ step-below n p h d =
     omega arith
 
 -- ---- what lies as far on as an edge of a lower face
-pub reached-here : (n p : ℕ) → pointOf n p .k < n → (b : Axis) → Reached n p (record { axis = b; at = origin })
+pub reached-here : (n p : ℕ) → pointOf n p .k < n → (b : Axis) → EdgeReached n p (record { axis = b; at = origin })
 reached-here n p h b = record { is-point = omega arith; below = let s = step-below n p h X in omega arith }
 
-pub reached-next : (n p : ℕ) → pointOf n p .k < n → (b d : Axis) → Reached n p (record { axis = b; at = up d origin })
+pub reached-next : (n p : ℕ) → pointOf n p .k < n → (b d : Axis) → EdgeReached n p (record { axis = b; at = up d origin })
 reached-next n p h b d = record { is-point = one d; below = let s = step-below n p h d in let e = number-step n d in omega arith }
   where
     one : (d : Axis) → OfGrid n (up d origin)
@@ -49,8 +49,8 @@ reached-next n p h b d = record { is-point = one d; below = let s = step-below n
     one Y = omega arith
     one Z = omega arith
 
-pub reach : {n p : ℕ} {e f : Place} → e ≡ f → Reached n p f → Reached n p e
-reach {n} {p} q r = subst (Reached n p) (sym q) r
+pub reach : {n p : ℕ} {e f : Place} → e ≡ f → EdgeReached n p f → EdgeReached n p e
+reach {n} {p} q r = subst (EdgeReached n p) (sym q) r
 
 -- ---- a step from the end of a row, or of a layer, leads to the beginning of one
 end-row : (w n i m p : ℕ) → w ≡ suc n → i ≡ n → i + w * m ≡ p → p + 1 ≡ 0 + w * suc m

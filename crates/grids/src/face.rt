@@ -7,15 +7,15 @@ use rules::Place;
 ghost use mathlib.Core.Path.{_≡_};
 ghost use mathlib.Core.Bool.{true};
 ghost use Prim.Native.Nat.{_≤_, _<_};
-ghost use lib.ListN.{length};
-ghost use Rattle.rules.specs.Lattice.{isIn, pointCount, pointOf};
+ghost use Rattle.rules.specs.Lattice.{isIn, pointOf};
 ghost use Rattle.rules.specs.Cell.{faceMarks, isOdd};
 ghost use Rattle.rules.specs.Grid.{value, isGrid, marks};
-ghost use Rattle.lattice.specs.Cells.{bitsFrom, Reached, marksOf};
+ghost use Rattle.lattice.specs.Cells.{bitsFrom, EdgeReached, marksOf};
+ghost use Rattle.lattice.specs.Buffers.{Sized};
 
 // 1 where the edge as far on from point number `at` as e of the table lies from (0,0,0) is marked, else 0.
 fn marked(n: usize, grid: &[u8], at: usize, e: Place) -> u8
-    requires { ⌜ (n ≤ 32) × (pointCount n ≤ length (now grid)) × Reached n at e ⌝ }
+    requires { ⌜ Sized n (now grid) × EdgeReached n at e ⌝ }
     ensures { λ r. ⌜ (r ≡ value (isIn (bitsFrom n (now (grid .entry)) at) e) 1) × (r ≤ 1) ⌝ }
 {
     let p = at + number_of(n, e.at);
@@ -25,7 +25,13 @@ fn marked(n: usize, grid: &[u8], at: usize, e: Place) -> u8
 
 // How many of four edges of the table are marked there.
 fn face_marks(n: usize, grid: &[u8], at: usize, e: Place, f: Place, g: Place, h: Place) -> u8
-    requires { ⌜ (n ≤ 32) × (pointCount n ≤ length (now grid)) × Reached n at e × Reached n at f × Reached n at g × Reached n at h ⌝ }
+    requires { ⌜ record {
+      sized : Sized n (now grid);
+      e-reached : EdgeReached n at e;
+      f-reached : EdgeReached n at f;
+      g-reached : EdgeReached n at g;
+      h-reached : EdgeReached n at h;
+    } ⌝ }
     ensures { λ r. ⌜ r ≡ marksOf (bitsFrom n (now (grid .entry)) at) e f g h ⌝ }
 {
     let p = marked(n, grid, at, e);
@@ -39,7 +45,7 @@ fn face_marks(n: usize, grid: &[u8], at: usize, e: Place, f: Place, g: Place, h:
 // neither have the edges on the other side of the grid, which the numbers lead to: they are not inner. The table is read by literals,
 // since one read by a variable is laid out at each use.
 pub fn lower_marks(n: usize, grid: &[u8], at: usize, a: Axis) -> u8
-    requires { ⌜ (n ≤ 32) × (pointCount n ≤ length (now grid)) × (isGrid n (now grid) ≡ true) × (pointOf n at .k < n) ⌝ }
+    requires { ⌜ record { sized : Sized n (now grid); is-grid : isGrid n (now grid) ≡ true; layer : pointOf n at .k < n } ⌝ }
     ensures { λ r. ⌜ r ≡ faceMarks (marks n (now (grid .entry))) a (pointOf n at) ⌝ }
 {
     match a {

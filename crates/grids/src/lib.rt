@@ -13,15 +13,15 @@ use rules::Point;
 ghost use mathlib.Core.Path.{_≡_};
 ghost use mathlib.Core.Bool.{true, not, _||_};
 ghost use Prim.Native.Nat.{_≤_};
-ghost use lib.ListN.{length};
 ghost use Rattle.rules.specs.Lists.{between};
-ghost use Rattle.rules.specs.Lattice.{inner, pointCount};
+ghost use Rattle.rules.specs.Lattice.{inner};
 ghost use Rattle.rules.specs.Grid.{has, byteFits, isGrid, marks};
 ghost use Rattle.rules.specs.Lattice.{OfGrid};
 ghost use Rattle.rules.specs.Rims.{evenFaces};
 ghost use Rattle.lattice.specs.Cells.{Cell};
 ghost use Rattle.grids.specs.declared.GridRead.the-variants.{Grid};
 ghost use Rattle.grids.specs.Scans.{nextPoint, innerAlong, deep, lowerEven, readOf, unsigned};
+ghost use Rattle.lattice.specs.Buffers.{Sized};
 
 // The point after a point, by rising number.
 pub fn next_point(n: usize, p: Point) -> Point
@@ -136,7 +136,7 @@ pub enum GridRead {
 
 // Looks at every byte of a buffer.
 pub fn read_grid(n: usize, grid: &[u8]) -> GridRead
-    requires { ⌜ (n ≤ 32) × (pointCount n ≤ length (now grid)) ⌝ }
+    requires { ⌜ Sized n (now grid) ⌝ }
     ensures { λ r. ⌜ r ≡ readOf n (now (grid .entry)) ⌝ }
 {
     let count = point_count(n);
@@ -156,7 +156,7 @@ pub fn read_grid(n: usize, grid: &[u8]) -> GridRead
 
 // Whether the first P bytes of a buffer are a grid.
 pub fn is_grid(n: usize, grid: &[u8]) -> bool
-    requires { ⌜ (n ≤ 32) × (pointCount n ≤ length (now grid)) ⌝ }
+    requires { ⌜ Sized n (now grid) ⌝ }
     ensures { λ r. ⌜ r ≡ isGrid n (now (grid .entry)) ⌝ }
 {
     match read_grid(n, grid) {
@@ -167,7 +167,7 @@ pub fn is_grid(n: usize, grid: &[u8]) -> bool
 
 // Writes each byte of a grid anew without its sign.
 fn keep_marks(n: usize, grid: &mut [u8])
-    requires { ⌜ (n ≤ 32) × (pointCount n ≤ length (now grid)) × (isGrid n (now grid) ≡ true) ⌝ }
+    requires { ⌜ Sized n (now grid) × (isGrid n (now grid) ≡ true) ⌝ }
     ensures { λ _. ⌜ now (grid .exit) ≡ unsigned n (now (grid .entry)) ⌝ }
 {
     let count = point_count(n);
@@ -180,7 +180,7 @@ fn keep_marks(n: usize, grid: &mut [u8])
 
 // Takes the signs out of a grid that was read, given how many points are inside. A grid without signs is left as it is.
 pub fn clear_signs(n: usize, grid: &mut [u8], inside: usize)
-    requires { ⌜ (n ≤ 32) × (pointCount n ≤ length (now grid)) × (readOf n (now grid) ≡ Grid inside) ⌝ }
+    requires { ⌜ Sized n (now grid) × (readOf n (now grid) ≡ Grid inside) ⌝ }
     ensures { λ _. ⌜ now (grid .exit) ≡ unsigned n (now (grid .entry)) ⌝ }
 {
     if inside == 0 {
@@ -191,7 +191,7 @@ pub fn clear_signs(n: usize, grid: &mut [u8], inside: usize)
 
 // Whether none of a cell's three lower faces is odd.
 fn lower_even(n: usize, grid: &[u8], c: Point) -> bool
-    requires { ⌜ (n ≤ 32) × (pointCount n ≤ length (now grid)) × (isGrid n (now grid) ≡ true) × Cell n c ⌝ }
+    requires { ⌜ record { sized : Sized n (now grid); is-grid : isGrid n (now grid) ≡ true; cell : Cell n c } ⌝ }
     ensures { λ r. ⌜ r ≡ lowerEven (marks n (now (grid .entry))) c ⌝ }
 {
     let at = number_of(n, c);
@@ -206,7 +206,7 @@ fn lower_even(n: usize, grid: &[u8], c: Point) -> bool
 
 // Whether no face of a grid is odd. Each face that can be is a lower face of one cell.
 pub fn all_even(n: usize, grid: &[u8]) -> bool
-    requires { ⌜ (1 ≤ n) × (n ≤ 32) × (pointCount n ≤ length (now grid)) × (isGrid n (now grid) ≡ true) ⌝ }
+    requires { ⌜ record { some : 1 ≤ n; sized : Sized n (now grid); is-grid : isGrid n (now grid) ≡ true } ⌝ }
     ensures { λ r. ⌜ r ≡ evenFaces n (marks n (now (grid .entry))) ⌝ }
 {
     let last = n - 1;

@@ -27,11 +27,11 @@ use Rattle.rules.proofs.PatchOf.{patchOf-one, patchOf-cut}
 use Rattle.rules.specs.Lattice.{OfGrid}
 use Rattle.rules.specs.Grid.{stored}
 use Rattle.lattice.specs.Cells.{turns, faceTurns, facesOf}
-use Rattle.halving.specs.Halving.{Edged, Fits, cellCount}
+use Rattle.halving.specs.Halving.{Edged, CellBox, cellCount}
 use Rattle.halving.proofs.Turns.{turns-append, face-turns-append, turns-length, stored-face-turns}
 
 -- ---- a box and its halves
-pub edge-edged : (n : ℕ) (b : Box) → Fits n b → (e : Place) → edgeIn b (e .axis) (e .at) ≡ true → Edged n e
+pub edge-edged : (n : ℕ) (b : Box) → CellBox n b → (e : Place) → edgeIn b (e .axis) (e .at) ≡ true → Edged n e
 edge-edged n b h e k = go (e .axis) (e .at) k
   where
     go : (a : Axis) (p : Point) → edgeIn b a p ≡ true → Edged n (record { axis = a; at = p })
@@ -39,12 +39,12 @@ edge-edged n b h e k = go (e .axis) (e .at) k
     go Y p q = let i = inBox→ b true false true p q in omega arith
     go Z p q = let i = inBox→ b true true false p q in omega arith
 
-pub face-grid : (n : ℕ) (b : Box) → Fits n b → (a : Axis) (p : Point) → faceIn b a p ≡ true → OfGrid n p
+pub face-grid : (n : ℕ) (b : Box) → CellBox n b → (a : Axis) (p : Point) → faceIn b a p ≡ true → OfGrid n p
 face-grid n b h X p q = let i = inBox→ b true false false p q in omega arith
 face-grid n b h Y p q = let i = inBox→ b false true false p q in omega arith
 face-grid n b h Z p q = let i = inBox→ b false false true p q in omega arith
 
-pub patch-edged : (n : ℕ) (b : Box) (W : Set) → Fits n b → All (Edged n) (patchOf b W)
+pub patch-edged : (n : ℕ) (b : Box) (W : Set) → CellBox n b → All (Edged n) (patchOf b W)
 unfolding patchOf
 patch-edged n b W h = all-weaken (EdgeIn b) (Edged n) (edge-edged n b h) (patch (size b) b W) (patch-in (size b) b W)
 
@@ -52,18 +52,18 @@ pub patchOf-cong : (b : Box) (W U : Set) → Agree b W U → patchOf b W ≡ pat
 unfolding patchOf
 patchOf-cong b W U h = patch-cong (size b) (size b) b W U (omega arith) (omega arith) h
 
-lower-fits : (n : ℕ) (b : Box) (a : Axis) (m : ℕ) → Fits n b → coord a (b .lo) < m → m < coord a (b .hi) → Fits n (lower b a m)
+lower-fits : (n : ℕ) (b : Box) (a : Axis) (m : ℕ) → CellBox n b → coord a (b .lo) < m → m < coord a (b .hi) → CellBox n (lower b a m)
 lower-fits n b X m h k l = omega arith
 lower-fits n b Y m h k l = omega arith
 lower-fits n b Z m h k l = omega arith
 
-upper-fits : (n : ℕ) (b : Box) (a : Axis) (m : ℕ) → Fits n b → coord a (b .lo) < m → m < coord a (b .hi) → Fits n (upper b a m)
+upper-fits : (n : ℕ) (b : Box) (a : Axis) (m : ℕ) → CellBox n b → coord a (b .lo) < m → m < coord a (b .hi) → CellBox n (upper b a m)
 upper-fits n b X m h k l = omega arith
 upper-fits n b Y m h k l = omega arith
 upper-fits n b Z m h k l = omega arith
 
 -- ---- the cell count of a half
-side-some : (n : ℕ) (b : Box) (a : Axis) → Fits n b → 0 < side b a
+side-some : (n : ℕ) (b : Box) (a : Axis) → CellBox n b → 0 < side b a
 side-some n b X h = omega arith
 side-some n b Y h = omega arith
 side-some n b Z h = omega arith
@@ -81,7 +81,7 @@ count-less c b a l e f p q =
     subst (λ (k : ℕ). k < cellCount b) (sym (count-from c a ∙ ap₂ (λ (x y : ℕ). side c a * (x * y)) e f))
     (subst (λ (k : ℕ). side c a * (side b (earlier a) * side b (later a)) < k) (sym (count-from b a)) (mul-lt-mul-of-pos-right l (mul-pos p q)))
 
-module _ (n : ℕ) (b : Box) (h : Fits n b) (o : oneCell b ≡ false) (a : Axis) (m : ℕ) (ea : a ≡ longest b) (em : m ≡ middle b a) where
+module _ (n : ℕ) (b : Box) (h : CellBox n b) (o : oneCell b ≡ false) (a : Axis) (m : ℕ) (ea : a ≡ longest b) (em : m ≡ middle b a) where
   bounds : Bounds (suc (coord a (b .lo))) (coord a (b .hi)) m
   bounds = subst (λ (x : ℕ). Bounds (suc (coord a (b .lo))) (coord a (b .hi)) x) (sym em)
       (subst (λ (x : Axis). Bounds (suc (coord x (b .lo))) (coord x (b .hi)) (middle b x)) (sym ea) (middle-in b o))
@@ -92,10 +92,10 @@ module _ (n : ℕ) (b : Box) (h : Fits n b) (o : oneCell b ≡ false) (a : Axis)
   pub mid-high : m < coord a (b .hi)
   mid-high = let x = bounds in omega arith
 
-  pub low-fits : Fits n (lower b a m)
+  pub low-fits : CellBox n (lower b a m)
   low-fits = lower-fits n b a m h mid-low mid-high
 
-  pub up-fits : Fits n (upper b a m)
+  pub up-fits : CellBox n (upper b a m)
   up-fits = upper-fits n b a m h mid-low mid-high
 
   pub low-falls : cellCount (lower b a m) < cellCount b
@@ -171,7 +171,7 @@ module _ (n : ℕ) (b : Box) (h : Fits n b) (o : oneCell b ≡ false) (a : Axis)
     )
 
 -- ---- sides
-pub coord-le : (n : ℕ) (b : Box) (a : Axis) → Fits n b → coord a (b .lo) ≤ coord a (b .hi)
+pub coord-le : (n : ℕ) (b : Box) (a : Axis) → CellBox n b → coord a (b .lo) ≤ coord a (b .hi)
 coord-le n b X h = omega arith
 coord-le n b Y h = omega arith
 coord-le n b Z h = omega arith
@@ -201,13 +201,13 @@ long-z b h k = let d : leb (side b Y) (side b X) ≡ false = lt-leb _ _ h in let
 pub one-is : (n : ℕ) (b : Box) (g w : List ℕ) → oneCell b ≡ true → (g ≡ turns n (patchOf b (stored n w)) g) × (w ≡ faceTurns n (patchOf b (stored n w)) w)
 one-is n b g w e = let p = patchOf-one b (stored n w) e in (ap (λ (l : List Place). turns n l g) (sym p), ap (λ (l : List Place). faceTurns n l w) (sym p))
 
-module _ (n : ℕ) (b : Box) (h : Fits n b) (o : oneCell b ≡ false) (a : Axis) (m : ℕ) (ea : a ≡ longest b) (em : m ≡ middle b a) where
-  pub low-ok : (t : ℕ) (r : Box) → cellCount b ≡ t → r ≡ lower b a m → (cellCount r < t) × Fits n r
-  low-ok t r et er = subst (λ (x : Box). (cellCount x < t) × Fits n x) (sym er)
+module _ (n : ℕ) (b : Box) (h : CellBox n b) (o : oneCell b ≡ false) (a : Axis) (m : ℕ) (ea : a ≡ longest b) (em : m ≡ middle b a) where
+  pub low-ok : (t : ℕ) (r : Box) → cellCount b ≡ t → r ≡ lower b a m → (cellCount r < t) × CellBox n r
+  low-ok t r et er = subst (λ (x : Box). (cellCount x < t) × CellBox n x) (sym er)
       (subst (λ (k : ℕ). cellCount (lower b a m) < k) et (low-falls n b h o a m ea em), low-fits n b h o a m ea em)
 
-  pub up-ok : (t : ℕ) (r : Box) → cellCount b ≡ t → r ≡ upper b a m → (cellCount r < t) × Fits n r
-  up-ok t r et er = subst (λ (x : Box). (cellCount x < t) × Fits n x) (sym er)
+  pub up-ok : (t : ℕ) (r : Box) → cellCount b ≡ t → r ≡ upper b a m → (cellCount r < t) × CellBox n r
+  up-ok t r et er = subst (λ (x : Box). (cellCount x < t) × CellBox n x) (sym er)
       (subst (λ (k : ℕ). cellCount (upper b a m) < k) et (up-falls n b h o a m ea em), up-fits n b h o a m ea em)
 
   pub halves-turn : (w g w₁ g₁ w₂ g₂ w₃ g₃ : List ℕ) (r s : Box) → pointCount n ≤ length w → r ≡ lower b a m → s ≡ upper b a m →

@@ -24,7 +24,7 @@ use Rattle.lattice.specs.Byte.{low}
 use Rattle.lattice.specs.Cells.{turns, faceTurns}
 use Rattle.lattice.proofs.Laws.{num-below}
 use Rattle.rules.proofs.Numbers.{has-low, zero-has}
-use Rattle.halving.specs.Halving.{Fits}
+use Rattle.halving.specs.Halving.{CellBox}
 use Rattle.halving.specs.Clear.{byteClear, rowClear, boxRowClear, layerClear, boxClear}
 
 -- ---- a row, byte after byte
@@ -74,7 +74,7 @@ module _ (w : List ℕ) (from count : ℕ) where
 
 -- ---- a box, row after row
 -- the bytes of a box's row lie in the buffer
-pub row-fits : (n : ℕ) (b : Box) (w : List ℕ) (j k : ℕ) → pointCount n ≤ length w → Fits n b → j < b .hi .j → k < n →
+pub row-fits : (n : ℕ) (b : Box) (w : List ℕ) (j k : ℕ) → pointCount n ≤ length w → CellBox n b → j < b .hi .j → k < n →
     pointNumber n (record { i = b .lo .i; j = j; k = k }) + side b X ≤ length w
 row-fits n b w j k l f h m =
     let e = num-below n (record { i = b .hi .i; j = j; k = k }) (record { i = f .hx; j = omega arith; k = omega arith }) in

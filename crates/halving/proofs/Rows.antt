@@ -14,7 +14,7 @@ use Rattle.rules.specs.Lattice.{earlier, later, coord, pointAt, pointCount}
 use Rattle.rules.specs.Patch.{path, plane, cut}
 use Rattle.rules.specs.Grid.{stored}
 use Rattle.lattice.specs.Cells.{turns, faceTurns, facesOf}
-use Rattle.halving.specs.Halving.{Flipped, Scan, scanOf, idle, waits, pairOf, scanAll, Placed, Fits, rowOf}
+use Rattle.halving.specs.Halving.{Flipped, Scan, scanOf, idle, waits, pairOf, scanAll, SpotIn, CellBox, rowOf}
 use Rattle.halving.specs.declared.Unpaired.{Unpaired}
 use Rattle.halving.proofs.Turns.{turns-length}
 use Rattle.halving.proofs.Scans.{fits-coord, cut-is}
@@ -59,12 +59,12 @@ pair-long n a m q s = go (stored n (s .work) a (pointAt a m (q .u) (q .v))) (s .
 
 pub record Rowing (n : ℕ) (a : Axis) (m to v : ℕ) (s₀ : Scan) (from u : ℕ) (h : Unpaired) (g w : List ℕ) : Type 0 where
   pub scan : scanAll n a m (rowOf u (to - u) v) (scanOf h g w) ≡ scanAll n a m (rowOf from (to - from) v) s₀
-  pub unpaired : Placed n (h .spot)
+  pub unpaired : SpotIn n (h .spot)
   pub g-long : length g ≡ length (s₀ .grid)
   pub w-long : length w ≡ length (s₀ .work)
 
 pub rowing-on : (n : ℕ) (a : Axis) (m to v : ℕ) (s₀ : Scan) (from u : ℕ) (h : Unpaired) (g w : List ℕ) → Rowing n a m to v s₀ from u h g w → u < to →
-    (h′ : Unpaired) (g′ w′ : List ℕ) → scanOf h′ g′ w′ ≡ pairOf n a m (record { u = u; v = v }) (scanOf h g w) → Placed n (h′ .spot) →
+    (h′ : Unpaired) (g′ w′ : List ℕ) → scanOf h′ g′ w′ ≡ pairOf n a m (record { u = u; v = v }) (scanOf h g w) → SpotIn n (h′ .spot) →
     Rowing n a m to v s₀ from (u + 1) h′ g′ w′
 rowing-on n a m to v s₀ from u h g w r l h′ g′ w′ e p = record {
   scan = let q : to - (u + 1) ≡ to - u - 1 = omega arith in
@@ -92,13 +92,13 @@ scan-long n a m (q ∷ l) s =
 pub record Planing (n : ℕ) (a : Axis) (m from to end : ℕ) (s₀ : Scan) (v₀ v : ℕ) (h : Unpaired) (g w : List ℕ) : Type 0 where
   pub scan : scanAll n a m (rowsOf from (to - from) v (end - v)) (scanOf h g w)
       ≡ scanAll n a m (rowsOf from (to - from) v₀ (end - v₀)) s₀
-  pub unpaired : Placed n (h .spot)
+  pub unpaired : SpotIn n (h .spot)
   pub g-long : length g ≡ length (s₀ .grid)
   pub w-long : length w ≡ length (s₀ .work)
 
 pub planing-on : (n : ℕ) (a : Axis) (m from to end : ℕ) (s₀ : Scan) (v₀ v : ℕ) (h : Unpaired) (g w : List ℕ) →
     Planing n a m from to end s₀ v₀ v h g w → v < end →
-    (h′ : Unpaired) (g′ w′ : List ℕ) → scanOf h′ g′ w′ ≡ scanAll n a m (rowOf from (to - from) v) (scanOf h g w) → Placed n (h′ .spot) →
+    (h′ : Unpaired) (g′ w′ : List ℕ) → scanOf h′ g′ w′ ≡ scanAll n a m (rowOf from (to - from) v) (scanOf h g w) → SpotIn n (h′ .spot) →
     Planing n a m from to end s₀ v₀ (v + 1) h′ g′ w′
 planing-on n a m from to end s₀ v₀ v h g w r l h′ g′ w′ e p = record {
   scan = let q : end - (v + 1) ≡ end - v - 1 = omega arith in
@@ -110,7 +110,7 @@ planing-on n a m from to end s₀ v₀ v h g w r l h′ g′ w′ e p = record {
 }
 
 -- the scan of the plane at its end
-pub planing-end : (n : ℕ) (b : Box) (a : Axis) (m : ℕ) → Fits n b → coord a (b .lo) < m → m < coord a (b .hi) → (g₀ w₀ : List ℕ) →
+pub planing-end : (n : ℕ) (b : Box) (a : Axis) (m : ℕ) → CellBox n b → coord a (b .lo) < m → m < coord a (b .hi) → (g₀ w₀ : List ℕ) →
     pointCount n ≤ length w₀ → (from to end v₀ v : ℕ) (h : Unpaired) (g w : List ℕ) (q₀ : Spot) →
     Planing n a m from to end (scanOf (idle q₀) g₀ w₀) v₀ v h g w → end ≤ v →
     from ≡ coord (earlier a) (b .lo) → to ≡ coord (earlier a) (b .hi) → end ≡ coord (later a) (b .hi) → v₀ ≡ coord (later a) (b .lo) →

@@ -17,7 +17,7 @@ use Rattle.rules.specs.Patch.{path}
 use Rattle.rules.proofs.Oddness.{up-earlier, up-later}
 use Rattle.rules.specs.Lattice.{OfGrid}
 use Rattle.lattice.specs.Cells.{turns, faceTurns, facesOf}
-use Rattle.halving.specs.Halving.{Edged, EdgeRun, ahead, along, Placed}
+use Rattle.halving.specs.Halving.{Edged, EdgeRun, ahead, along, SpotIn}
 use Rattle.halving.proofs.Turns.{turns-append, face-turns-append, turns-length}
 
 -- ---- a run of edges
@@ -118,7 +118,7 @@ path-runs a m p q =
     (λ (k : ℕ). along (later a) (max (p .v) (q .v) - min (p .v) (q .v)) (record { axis = earlier a; at = pointAt a m (q .u) k }))
     (sym (add-one (min (p .v) (q .v)))))
 
-module _ (n : ℕ) (a : Axis) (m : ℕ) (l₁ : 1 ≤ m) (l₂ : m ≤ n) (p q : Spot) (hp : Placed n p) (hq : Placed n q) where
+module _ (n : ℕ) (a : Axis) (m : ℕ) (l₁ : 1 ≤ m) (l₂ : m ≤ n) (p q : Spot) (hp : SpotIn n p) (hq : SpotIn n q) where
   pub run-1 : EdgeRun n (earlier a) (max (p .u) (q .u) - min (p .u) (q .u)) (record { axis = later a; at = pointAt a m (min (p .u) (q .u) + 1) (p .v) })
   run-1 = go a
     where
@@ -150,19 +150,19 @@ module _ (n : ℕ) (a : Axis) (m : ℕ) (l₁ : 1 ≤ m) (l₂ : m ≤ n) (p q :
   path-edged = subst (All (Edged n)) (sym (path-runs a m p q))
       (all-append (Edged n) (first-run a m p q) (second-run a m p q) (along-edged _ _ _ run-1) (along-edged _ _ _ run-2))
 
-pub placed-low : (n : ℕ) (a : Axis) (m : ℕ) (q : Spot) → m ≤ n → Placed n q → OfGrid n (pointAt a m (q .u) (q .v))
+pub placed-low : (n : ℕ) (a : Axis) (m : ℕ) (q : Spot) → m ≤ n → SpotIn n q → OfGrid n (pointAt a m (q .u) (q .v))
 placed-low n X m q l h = omega arith
 placed-low n Y m q l h = omega arith
 placed-low n Z m q l h = omega arith
 
 -- ---- the join of a pair
 module _ (n : ℕ) (a : Axis) (m : ℕ) (p q : Spot) (b c : Axis) (eb : b ≡ earlier a) (ec : c ≡ later a) where
-  pub join-run : (b′ c′ : Axis) → b′ ≡ earlier a → c′ ≡ later a → 1 ≤ m → m ≤ n → Placed n p → Placed n q → (i j : ℕ) (s : Point) → i ≡ min (p .u)
+  pub join-run : (b′ c′ : Axis) → b′ ≡ earlier a → c′ ≡ later a → 1 ≤ m → m ≤ n → SpotIn n p → SpotIn n q → (i j : ℕ) (s : Point) → i ≡ min (p .u)
       (q .u) → j ≡ max (p .u) (q .u) → s ≡ pointAt a m (i + 1) (p .v) →
       EdgeRun n b′ (j - i) (record { axis = c′; at = s })
   join-run b′ c′ xb xc l₁ l₂ hp hq i j s ei ej es = rw (xb, xc, es, ei, ej) (run-1 n a m l₁ l₂ p q hp hq)
 
-  pub join-run₂ : (b′ c′ : Axis) → b′ ≡ earlier a → c′ ≡ later a → 1 ≤ m → m ≤ n → Placed n p → Placed n q → (i j : ℕ) (s : Point) → i ≡ min (p .v)
+  pub join-run₂ : (b′ c′ : Axis) → b′ ≡ earlier a → c′ ≡ later a → 1 ≤ m → m ≤ n → SpotIn n p → SpotIn n q → (i j : ℕ) (s : Point) → i ≡ min (p .v)
       (q .v) → j ≡ max (p .v) (q .v) → s ≡ pointAt a m (q .u) (i + 1) →
       EdgeRun n c′ (j - i) (record { axis = b′; at = s })
   join-run₂ b′ c′ xb xc l₁ l₂ hp hq i j s ei ej es = rw (xb, xc, es, ei, ej) (run-2 n a m l₁ l₂ p q hp hq)

@@ -21,12 +21,12 @@ use Rattle.rules.proofs.Cuts.{InRect, plane-in}
 use Rattle.rules.specs.Lattice.{OfGrid}
 use Rattle.rules.specs.Grid.{stored}
 use Rattle.lattice.specs.Cells.{turns, faceTurns, facesOf}
-use Rattle.halving.specs.Halving.{Flipped, Scan, scanOf, idle, waits, pairOf, scanAll, Placed, Fits, rowOf}
+use Rattle.halving.specs.Halving.{Flipped, Scan, scanOf, idle, waits, pairOf, scanAll, SpotIn, CellBox, rowOf}
 use Rattle.halving.specs.declared.Unpaired.{Unpaired}
 use Rattle.halving.proofs.Turns.{turns-append, face-turns-append, turns-length, stored-face-turns}
 use Rattle.halving.proofs.Runs.{path-edged, placed-low}
 
-pub fits-coord : (n : ℕ) (b : Box) (a : Axis) → Fits n b → coord a (b .hi) ≤ n
+pub fits-coord : (n : ℕ) (b : Box) (a : Axis) → CellBox n b → coord a (b .hi) ≤ n
 fits-coord n b X h = h .hx
 fits-coord n b Y h = h .hy
 fits-coord n b Z h = h .hz
@@ -62,13 +62,13 @@ abbrev pending : Unpaired → List Spot → List Spot
 pending h l = cond (h .any) (h .spot ∷ l) l
 
 abbrev PendingOk : ℕ → Unpaired → List Spot → Type 0
-PendingOk n h l = (h .any ≡ true) → Placed n (h .spot) × Away (h .spot) l
+PendingOk n h l = (h .any ≡ true) → SpotIn n (h .spot) × Away (h .spot) l
 
 module _ (n : ℕ) (a : Axis) (m : ℕ) (l₁ : 1 ≤ m) (l₂ : m ≤ n) (W : Spot → Bool) where
   abbrev Reads : List ℕ → List Spot → Type 0
   Reads w l = All (λ q. stored n w a (pointAt a m (q .u) (q .v)) ≡ W q) l
 
-  reads-on : (p q : Spot) (w : List ℕ) → Placed n p → Placed n q → pointCount n ≤ length w → (l : List Spot) → All (Placed n) l → Away p l → Away q l
+  reads-on : (p q : Spot) (w : List ℕ) → SpotIn n p → SpotIn n q → pointCount n ≤ length w → (l : List Spot) → All (SpotIn n) l → Away p l → Away q l
       → Reads w l → Reads (faceTurns n (path a m p q) w) l
   reads-on p q w hp hq k [] hl ap′ aq r = tt
   reads-on p q w hp hq k (x ∷ l) hl ap′ aq r = (
@@ -78,7 +78,7 @@ module _ (n : ℕ) (a : Axis) (m : ℕ) (l₁ : 1 ≤ m) (l₂ : m ≤ n) (W : S
     reads-on p q w hp hq k l (hl .1) (ap′ .1) (aq .1) (r .1),
   )
 
-  pub scan-is : (l : List Spot) (s : Scan) → All (Placed n) l → Apart l → Reads (s .work) l → PendingOk n (s .unpaired) l → pointCount n ≤ length (s .work) →
+  pub scan-is : (l : List Spot) (s : Scan) → All (SpotIn n) l → Apart l → Reads (s .work) l → PendingOk n (s .unpaired) l → pointCount n ≤ length (s .work) →
       (scanAll n a m l s .grid ≡ turns n (paths a m (pending (s .unpaired) (keep W l))) (s .grid)) ×
       (scanAll n a m l s .work ≡ faceTurns n (paths a m (pending (s .unpaired) (keep W l))) (s .work))
   scan-is [] s hl ha hr hh k = go (s .unpaired .any)
@@ -96,7 +96,7 @@ module _ (n : ℕ) (a : Axis) (m : ℕ) (l₁ : 1 ≤ m) (l₂ : m ≤ n) (W : S
       Goal t k = (scanAll n a m l t .grid ≡ turns n (paths a m k) (s .grid)) × (scanAll n a m l t .work ≡ faceTurns n (paths a m k) (s .work))
 
       IH : Type 0
-      IH = (t : Scan) → All (Placed n) l → Apart l → Reads (t .work) l → PendingOk n (t .unpaired) l → pointCount n ≤ length (t .work) →
+      IH = (t : Scan) → All (SpotIn n) l → Apart l → Reads (t .work) l → PendingOk n (t .unpaired) l → pointCount n ≤ length (t .work) →
           (scanAll n a m l t .grid ≡ turns n (paths a m (pending (t .unpaired) (keep W l))) (t .grid)) ×
           (scanAll n a m l t .work ≡ faceTurns n (paths a m (pending (t .unpaired) (keep W l))) (t .work))
 
@@ -150,13 +150,13 @@ apart-rows u k v (suc j) = apart-append (rowOf u k v) (each (λ i. rowOf u k i) 
     (all-weaken (Bounds u (u + k)) _ (λ x y. differ-v i x v w (λ e. let z : ⊥ = omega arith in z)) (upto u k) (all-upto u k))) (upto (suc v) j)
     (all-upto (suc v) j))) (upto u k) (all-upto u k)))
 
-plane-placed : (n : ℕ) (b : Box) (a : Axis) → Fits n b → All (Placed n) (plane b a)
+plane-placed : (n : ℕ) (b : Box) (a : Axis) → CellBox n b → All (SpotIn n) (plane b a)
 plane-placed n b a h =
     let x = fits-coord n b (earlier a) h in
     let y = fits-coord n b (later a) h in
-    all-weaken (InRect b a) (Placed n) (λ q k. record { u = let z = k .0 in omega arith; v = let z = k .1 in omega arith }) (plane b a) (plane-in b a)
+    all-weaken (InRect b a) (SpotIn n) (λ q k. record { u = let z = k .0 in omega arith; v = let z = k .1 in omega arith }) (plane b a) (plane-in b a)
 
-module _ (n : ℕ) (b : Box) (a : Axis) (m : ℕ) (l₁ : 1 ≤ m) (l₂ : m ≤ n) (h : Fits n b) (w : List ℕ) (k : pointCount n ≤ length w)
+module _ (n : ℕ) (b : Box) (a : Axis) (m : ℕ) (l₁ : 1 ≤ m) (l₂ : m ≤ n) (h : CellBox n b) (w : List ℕ) (k : pointCount n ≤ length w)
     (q₀ : Spot) (g : List ℕ) where
   same-reads : (l : List Spot) → Reads n a m l₁ l₂ (inPlane (stored n w) a m) w l
   same-reads [] = tt
@@ -183,5 +183,5 @@ module _ (n : ℕ) (a : Axis) (m : ℕ) (q : Spot) (h : Unpaired) (g w : List �
   meet-is f e g′ w′ x =
       ap₂ (λ (x y : List ℕ). scanOf (idle q) x y) (x .0) (x .1) ∙ sym (pair-join n a m q _ (ap (stored n w a) (sym es) ∙ sym et ∙ f) e)
 
-  pub place-low : m ≤ n → Placed n q → OfGrid n s
+  pub place-low : m ≤ n → SpotIn n q → OfGrid n s
   place-low l k = subst (OfGrid n) (sym es) (placed-low n a m q l k)

@@ -3,24 +3,19 @@ use mathlib.Core.Path.{_≡_}
 use mathlib.Core.Bool.{true, false, cond}
 use mathlib.Core.List.{List, [], _∷_, map}
 use Prim.Native.Nat.{ℕ, zero, suc, _+_, _*_, _≤_, _<_}
-use lib.ListN.{length}
 use Rattle.rules.specs.Lists.{upto}
 use Rattle.rules.specs.declared.Axis.{Axis}
 use Rattle.rules.specs.declared.Axis.the-variants.{X, Y, Z}
 use Rattle.rules.specs.declared.Place.{Place}
 use Rattle.rules.specs.declared.Box.{Box}
 use Rattle.rules.specs.declared.Spot.{Spot}
-use Rattle.rules.specs.Lattice.{earlier, later, coord, up, pointAt, pointCount, OfGrid}
+use Rattle.rules.specs.Lattice.{earlier, later, coord, up, pointAt, OfGrid}
 use Rattle.rules.specs.Patch.{path, side}
 use Rattle.rules.specs.Grid.{stored}
 use Rattle.lattice.specs.Cells.{turns, faceTurns}
 use Rattle.halving.specs.declared.Unpaired.{Unpaired}
 
--- what the cut of a box asks of the grid and of the working set: a byte for each point
-abbrev pub Sized : ℕ → List ℕ → List ℕ → Type 0
-Sized n g w = (n ≤ 32) × (pointCount n ≤ length g) × (pointCount n ≤ length w)
-
--- what it leaves in them: the edges of a list are flipped, their marks in the grid and their faces in the working set
+-- what the cut of a box leaves in grid and working set: the edges of a list are flipped, their marks in the grid and their faces in the working set
 abbrev pub Flipped : ℕ → List Place → List ℕ → List ℕ → List ℕ → List ℕ → Type 0
 Flipped n l g w g' w' = (g' ≡ turns n l g) × (w' ≡ faceTurns n l w)
 
@@ -73,16 +68,16 @@ scanAll n a m [] s = s
 scanAll n a m (q ∷ l) s = scanAll n a m l (pairOf n a m q s)
 
 -- a place of the plane m square to a, one that lies in the grid
-pub record Placed (n : ℕ) (q : Spot) : Type 0 where
+pub record SpotIn (n : ℕ) (q : Spot) : Type 0 where
   pub u : q .u < n
   pub v : q .v < n
 
 -- spots of the plane have been taken, and the spot kept lies in the grid
 abbrev pub Scanned : ℕ → Axis → ℕ → List Spot → Scan → Scan → Type 0
-Scanned n a m l s r = (r ≡ scanAll n a m l s) × Placed n (r .unpaired .spot)
+Scanned n a m l s r = (r ≡ scanAll n a m l s) × SpotIn n (r .unpaired .spot)
 
 -- a box of cells of the grid
-pub record Fits (n : ℕ) (b : Box) : Type 0 where
+pub record CellBox (n : ℕ) (b : Box) : Type 0 where
   pub i : b .lo .i < b .hi .i
   pub j : b .lo .j < b .hi .j
   pub k : b .lo .k < b .hi .k

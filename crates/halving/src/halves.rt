@@ -8,14 +8,15 @@ use rules::Point;
 ghost use mathlib.Core.Path.{_≡_};
 ghost use Prim.Native.Nat.{_≤_, _<_, _+_, _-_, _/_};
 ghost use lib.ListN.{length};
-ghost use Rattle.rules.specs.Lattice.{withCoord, pointCount};
+ghost use Rattle.rules.specs.Lattice.{withCoord};
 ghost use Rattle.rules.specs.Patch.{longest, middle, oneCell, lower, upper};
+ghost use Rattle.lattice.specs.Buffers.{Sized};
 ghost use Rattle.halving.specs.Clear.{rowClear, layerClear, boxClear};
-ghost use Rattle.halving.specs.Halving.{Fits};
+ghost use Rattle.halving.specs.Halving.{CellBox};
 
 // Whether a box has one cell.
 pub fn is_one_cell(n: usize, b: Box) -> bool
-    requires { ⌜ Fits n b ⌝ }
+    requires { ⌜ CellBox n b ⌝ }
     ensures { λ r. ⌜ r ≡ oneCell b ⌝ }
 {
     let lo = b.lo;
@@ -45,7 +46,7 @@ fn row_is_clear(work: &[u8], from: usize, count: usize) -> bool
 
 // Whether no cell of the box's layer k has a lower face in the working set.
 fn layer_is_clear(n: usize, work: &[u8], b: Box, k: usize) -> bool
-    requires { ⌜ (n ≤ 32) × (pointCount n ≤ length (now work)) × Fits n b × (k < n) ⌝ }
+    requires { ⌜ record { sized : Sized n (now work); fits : CellBox n b; layer : k < n } ⌝ }
     ensures { λ r. ⌜ r ≡ layerClear n b (now (work .entry)) k ⌝ }
 {
     let lo = b.lo;
@@ -70,7 +71,7 @@ fn layer_is_clear(n: usize, work: &[u8], b: Box, k: usize) -> bool
 
 // Whether no cell of a box has a lower face in the working set: then there is nothing to patch.
 pub fn is_clear(n: usize, work: &[u8], b: Box) -> bool
-    requires { ⌜ (n ≤ 32) × (pointCount n ≤ length (now work)) × Fits n b ⌝ }
+    requires { ⌜ Sized n (now work) × CellBox n b ⌝ }
     ensures { λ r. ⌜ r ≡ boxClear n b (now (work .entry)) ⌝ }
 {
     let lo = b.lo;
@@ -87,7 +88,7 @@ pub fn is_clear(n: usize, work: &[u8], b: Box) -> bool
 
 // The axis of the longest side of a box, x before y before z when equal.
 pub fn longest_axis(n: usize, b: Box) -> Axis
-    requires { ⌜ Fits n b ⌝ }
+    requires { ⌜ CellBox n b ⌝ }
     ensures { λ r. ⌜ r ≡ longest b ⌝ }
 {
     let lo = b.lo;
@@ -109,7 +110,7 @@ pub fn longest_axis(n: usize, b: Box) -> Axis
 
 // The plane that cuts a side of a box.
 pub fn middle_of(n: usize, b: Box, a: Axis) -> usize
-    requires { ⌜ (n ≤ 32) × Fits n b ⌝ }
+    requires { ⌜ (n ≤ 32) × CellBox n b ⌝ }
     ensures { λ r. ⌜ r ≡ middle b a ⌝ }
 {
     let lo = b.lo;

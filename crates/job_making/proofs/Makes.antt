@@ -28,7 +28,7 @@ use Rattle.reporting.specs.Close.{Closed}
 use Rattle.reporting.proofs.Called.{surface-listed}
 use Rattle.reporting.proofs.Reports.{unless-some, closed-is}
 use Rattle.job_format.specs.Format.{fileOf}
-use Rattle.job_writing.specs.Write.{done, wantedOf, chosen, writeCall}
+use Rattle.job_writing.specs.Write.{wantedOf, chosen, writeCall}
 use Rattle.octets.specs.Octets.{puts}
 use Rattle.octets.proofs.Puts.{puts-length, puts-front}
 use Rattle.job_parts.specs.Parts.{halves, Before}
@@ -36,7 +36,7 @@ use Rattle.job_parts.proofs.Fronts.{halves-length}
 use Rattle.job_parts.proofs.Whole.{write-whole, write-far}
 use Rattle.job_making.specs.declared.Parts.{Parts}
 use Rattle.job_making.specs.Job.{fileOr, packed, jobOfGrid}
-use Rattle.job_making.specs.Parts.{alone, Room, Writes, Makes}
+use Rattle.job_making.specs.Parts.{alone, JobRoom, Writes, Makes}
 
 -- a level's number fits a byte
 pub number-small : (l : Level) → levelNumber l < 256
@@ -74,7 +74,7 @@ module _ (l : Level) (g list : List ℕ) (t q : ℕ) (long : pointsOf l ≤ leng
 
   module _ (file s : List ℕ) (triangles : length s ≡ 36 * t) where
     -- done
-    file-put : 29 + pointsOf l + 36 * t < 4294967296 → 2 * length list < 4294967296 → Room l t (length list) file →
+    file-put : 29 + pointsOf l + 36 * t < 4294967296 → 2 * length list < 4294967296 → JobRoom l t (length list) file →
         fileOf (levelNumber l) (chosen (wantedOf 7) body s quads) ≡ fileOr (writeCall (levelNumber l) 7 body s quads file)
     file-put near small room =
         let whole = fileOf (levelNumber l) (chosen (wantedOf 7) body s quads) in

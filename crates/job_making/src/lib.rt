@@ -13,7 +13,7 @@ ghost use lib.Dec.{ltb};
 ghost use lib.ListN.{length};
 ghost use Rattle.rules.specs.Grid.{isGrid};
 ghost use Rattle.lattice.specs.Levels.{numberOf, cellsOf, pointsOf};
-ghost use Rattle.feeding.specs.Feed.{Ready};
+ghost use Rattle.lattice.specs.Buffers.{Ready};
 ghost use Rattle.reporting.specs.Report.{lentBytes};
 ghost use Rattle.job_making.specs.Parts.{alone, Writes, Makes};
 
@@ -55,8 +55,15 @@ fn put_parts(
     front: &mut [u8],
     back: &mut [u8],
 ) -> Parts
-    requires { ⌜ (level ≡ numberOf l) × (pointsOf l ≤ length (now grid)) × (isGrid (cellsOf l) (now grid) ≡ true) × (4 * quads ≤ length (now list)) ⌝ }
-    requires { ⌜ (2 * length (now list) < 4294967296) × (35966 ≤ length (now front)) × (2 * length (now list) ≤ length (now back)) ⌝ }
+    requires { ⌜ record {
+      level-is : level ≡ numberOf l;
+      grid-long : pointsOf l ≤ length (now grid);
+      is-grid : isGrid (cellsOf l) (now grid) ≡ true;
+      list-room : 4 * quads ≤ length (now list);
+      list-fits : 2 * length (now list) < 4294967296;
+      front-room : 35966 ≤ length (now front);
+      back-room : 2 * length (now list) ≤ length (now back);
+    } ⌝ }
     ensures { λ r. ⌜ Writes l (now (grid .entry)) triangles quads (now (list .entry)) (now (front .exit)) (now (back .exit)) r ⌝ }
 {
     let points = l.points();
@@ -85,8 +92,14 @@ pub fn make_job(
     front: &mut [u8],
     back: &mut [u8],
 ) -> Parts
-    requires { ⌜ (level ≡ numberOf l) × Ready l (now grid) × (now work ≡ lentBytes) ⌝ }
-    requires { ⌜ (2 * length (now list) < 4294967296) × (35966 ≤ length (now front)) × (2 * length (now list) ≤ length (now back)) ⌝ }
+    requires { ⌜ record {
+      level-is : level ≡ numberOf l;
+      ready : Ready l (now grid);
+      work-lent : now work ≡ lentBytes;
+      list-fits : 2 * length (now list) < 4294967296;
+      front-room : 35966 ≤ length (now front);
+      back-room : 2 * length (now list) ≤ length (now back);
+    } ⌝ }
     ensures { λ r. ⌜ Makes l triangles (now (grid .entry)) (now (list .entry)) (now (front .exit)) (now (back .exit)) r ⌝ }
 {
     close_grid(l, grid, work);

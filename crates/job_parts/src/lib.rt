@@ -34,7 +34,11 @@ fn put_line(out: &mut [u8], p: usize, kind: u8, at: u32, size: u32)
 
 // Puts what stands before so many triangles and quads: the table of contents, and the grid. Answers its length.
 pub fn put_front(out: &mut [u8], level: u8, grid: &[u8], triangles: u32, quads: u32) -> usize
-    requires { ⌜ (29 + length (now grid) + 36 * triangles < 4294967296) × (8 * quads < 4294967296) × (29 + length (now grid) ≤ length (now out)) ⌝ }
+    requires { ⌜ record {
+      offset-fits : 29 + length (now grid) + 36 * triangles < 4294967296;
+      length-fits : 8 * quads < 4294967296;
+      out-room : 29 + length (now grid) ≤ length (now out);
+    } ⌝ }
     ensures { λ r. ⌜ (r ≤ length (now (out .exit))) × Before level (now (grid .entry)) triangles quads (take r (now (out .exit))) ⌝ }
 {
     let second = 29 + grid.len();

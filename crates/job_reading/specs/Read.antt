@@ -70,7 +70,7 @@ unfoldable pub readCall : List ℕ → Outcome
 readCall s = answered (readRows s) refused (done (contentsOf (getD s 0 0) (entriesOf s)))
 
 -- ---- the same in numbers, as C has it
-pub record Numbers : Type 0 where
+pub record JobTold : Type 0 where
   pub number : ℕ
   pub level : ℕ
   pub kinds : ℕ
@@ -85,7 +85,7 @@ abbrev pub kindsOf : Outcome → ℕ
 kindsOf o = value (there (o .grid)) 1 + value (there (o .triangles)) 2 + value (there (o .quads)) 4
 
 -- places and lengths are 0 for a body that is not there; the length of a grid is P
-abbrev pub numbersOf : Outcome → Numbers
+abbrev pub numbersOf : Outcome → JobTold
 numbersOf o =
     record {
       number = o .number;

@@ -50,7 +50,7 @@ fn part_fits(n: usize, file: &[u8], part: Part) -> bool
 
 // The contents of a file with n entries, whose grid has been found.
 fn contents_of(file: &[u8], grid: Part, n: usize) -> Contents
-    requires { ⌜ (n ≤ 3) × (2 + 9 * n ≤ length (now file)) × (grid ≡ found 1 (entriesFrom (now file) 2 n)) ⌝ }
+    requires { ⌜ record { count-most : n ≤ 3; file-room : 2 + 9 * n ≤ length (now file); grid-found : grid ≡ found 1 (entriesFrom (now file) 2 n) } ⌝ }
     ensures { λ r. ⌜ r ≡ contentsOf (getD (now (file .entry)) 0 0) (entriesFrom (now (file .entry)) 2 n) ⌝ }
 {
     Contents {
@@ -64,7 +64,7 @@ fn contents_of(file: &[u8], grid: Part, n: usize) -> Contents
 // Reads the front of a file of so many bytes, of a level with n cells a side. All kinds are judged before any offset, and all offsets
 // before the grid.
 fn read_sized(n: usize, front: &[u8], size: usize) -> ReadAnswer
-    requires { ⌜ (n ≤ 32) × (1 ≤ length (now front)) × Front (now front) size ⌝ }
+    requires { ⌜ record { small : n ≤ 32; front-some : 1 ≤ length (now front); front-of : Front (now front) size } ⌝ }
     ensures { λ r. ⌜ ((rest : List ℕ) → length (now (front .entry)) + length rest ≡ size → told r ≡ readSized n (now (front .entry) ++ rest)) ⌝ }
 {
     if size < 2 {

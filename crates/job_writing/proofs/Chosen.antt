@@ -11,15 +11,15 @@ use Rattle.job_format.specs.Format.{Body}
 use Rattle.job_format.proofs.Found.{grid-size}
 use Rattle.job_writing.specs.declared.bodies.Wanted.{Wanted}
 use Rattle.job_writing.specs.Write.{keep, chosen, fitsFrom, endFrom}
-use Rattle.job_writing.specs.Sizes.{Small, Sizes}
+use Rattle.job_writing.specs.Sizes.{FitsU32, Sizes}
 use Rattle.job_writing.proofs.Follow.{fits-append, first-fits}
 
 -- ---- one of them
-pub keep-fits : (points at kind : ℕ) (wanted : Bool) (b : List ℕ) → fitsFrom points at (keep wanted kind b) ≡ true → Small wanted at b
+pub keep-fits : (points at kind : ℕ) (wanted : Bool) (b : List ℕ) → fitsFrom points at (keep wanted kind b) ≡ true → FitsU32 wanted at b
 keep-fits points at kind false b e t = absurd (false≢true t)
 keep-fits points at kind true b e t = let f = first-fits points at (record { kind = kind; bytes = b }) [] e in (f .near, f .short)
 
-pub keep-most : (at kind : ℕ) (wanted : Bool) (b : List ℕ) → Small wanted at b → endFrom at (keep wanted kind b) ≤ at + 4294967296
+pub keep-most : (at kind : ℕ) (wanted : Bool) (b : List ℕ) → FitsU32 wanted at b → endFrom at (keep wanted kind b) ≤ at + 4294967296
 unfolding endFrom
 keep-most at kind false b h = omega arith
 keep-most at kind true b h = let k = h refl in omega (arith, k .1)
@@ -68,13 +68,13 @@ chosen-sizes points start w g t q e =
 
 -- where the second and the third body begin
 module _ (start : ℕ) (w : Wanted) (g t q : List ℕ) (h : Sizes start w g t q) (second : ℕ) (e : second ≡ endFrom start (keep (w .grid) 1 g)) where
-  pub second-fits : (second ≤ start + 4294967296) × Small (w .triangles) second t
+  pub second-fits : (second ≤ start + 4294967296) × FitsU32 (w .triangles) second t
   second-fits =
       let m = keep-most start 1 (w .grid) g (h .first) in
       (rw (sym e) at m, λ a. rw (sym e) at (h .second a))
 
   pub third-fits : (third : ℕ) → third ≡ endFrom second (keep (w .triangles) 2 t) →
-      (third ≤ second + 4294967296) × Small (w .quads) third q
+      (third ≤ second + 4294967296) × FitsU32 (w .quads) third q
   third-fits third f =
       let m = keep-most second 2 (w .triangles) t (second-fits .1) in
       let k : third ≡ endFrom (endFrom start (keep (w .grid) 1 g)) (keep (w .triangles) 2 t) =

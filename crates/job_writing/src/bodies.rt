@@ -4,12 +4,12 @@ use octets::put_bytes;
 use octets::put_word;
 ghost use mathlib.Core.Path.{_≡_};
 ghost use mathlib.Core.Bool.{true};
-ghost use Prim.Native.Nat.{_≤_, _<_, _+_, _*_};
+ghost use Prim.Native.Nat.{_≤_, _+_, _*_};
 ghost use lib.ListN.{length};
 ghost use Rattle.octets.specs.Octets.{puts};
 ghost use Rattle.job_format.specs.Format.{lines, joined};
 ghost use Rattle.job_writing.specs.Write.{keep, chosen, fitsFrom, endFrom};
-ghost use Rattle.job_writing.specs.Sizes.{Small, Sizes};
+ghost use Rattle.job_writing.specs.Sizes.{FitsU32, Sizes};
 
 // Which bodies are wanted.
 pub struct Wanted {
@@ -36,7 +36,7 @@ fn body_fits(wanted: bool, points: usize, kind: u32, at: usize, bytes: &[u8]) ->
 
 // Where the next body begins behind one that fits, if it is wanted.
 fn behind(wanted: bool, kind: u32, at: usize, bytes: &[u8]) -> usize
-    requires { ⌜ (at ≤ 10000000000) × Small wanted at (now bytes) ⌝ }
+    requires { ⌜ (at ≤ 10000000000) × FitsU32 wanted at (now bytes) ⌝ }
     ensures { λ r. ⌜ r ≡ endFrom at (keep wanted kind (now (bytes .entry))) ⌝ }
 {
     if wanted {
@@ -47,8 +47,11 @@ fn behind(wanted: bool, kind: u32, at: usize, bytes: &[u8]) -> usize
 
 // Puts the line of a body that begins at a place, if it is wanted, and answers where the next line goes.
 fn put_line(wanted: bool, kind: u8, at: usize, bytes: &[u8], out: &mut [u8], p: usize) -> usize
-    requires { ⌜ (p ≤ 20) × Small wanted at (now bytes) ⌝ }
-    requires { ⌜ p + length (lines at (keep wanted kind (now bytes))) ≤ length (now out) ⌝ }
+    requires { ⌜ record {
+      place-most : p ≤ 20;
+      bytes-small : FitsU32 wanted at (now bytes);
+      out-room : p + length (lines at (keep wanted kind (now bytes))) ≤ length (now out);
+    } ⌝ }
     ensures { λ r. ⌜ r ≡ p + length (lines at (keep wanted kind (now (bytes .entry)))) ⌝ }
     ensures { λ _. ⌜ now (out .exit) ≡ puts (now (out .entry)) p (lines at (keep wanted kind (now (bytes .entry)))) ⌝ }
 {
@@ -113,8 +116,11 @@ pub fn put_lines(
     quads: &[u8],
     out: &mut [u8],
 )
-    requires { ⌜ (start ≤ 29) × Sizes start w (now grid) (now triangles) (now quads) ⌝ }
-    requires { ⌜ 2 + 9 * length (chosen w (now grid) (now triangles) (now quads)) ≤ length (now out) ⌝ }
+    requires { ⌜ record {
+      start-most : start ≤ 29;
+      sizes : Sizes start w (now grid) (now triangles) (now quads);
+      out-room : 2 + 9 * length (chosen w (now grid) (now triangles) (now quads)) ≤ length (now out);
+    } ⌝ }
     ensures { λ _. ⌜ now (out .exit) ≡ puts (now (out .entry)) 2 (lines start (chosen w (now (grid .entry)) (now (triangles .entry)) (now (quads .entry)))) ⌝ }
 {
     let second = behind(w.grid, 1, start, grid);
@@ -133,8 +139,11 @@ pub fn put_bodies(
     quads: &[u8],
     out: &mut [u8],
 )
-    requires { ⌜ (start ≤ 29) × Sizes start w (now grid) (now triangles) (now quads) ⌝ }
-    requires { ⌜ endFrom start (chosen w (now grid) (now triangles) (now quads)) ≤ length (now out) ⌝ }
+    requires { ⌜ record {
+      start-most : start ≤ 29;
+      sizes : Sizes start w (now grid) (now triangles) (now quads);
+      out-room : endFrom start (chosen w (now grid) (now triangles) (now quads)) ≤ length (now out);
+    } ⌝ }
     ensures { λ _. ⌜ now (out .exit) ≡ puts (now (out .entry)) start (joined (chosen w (now (grid .entry)) (now (triangles .entry)) (now (quads .entry)))) ⌝ }
 {
     let second = behind(w.grid, 1, start, grid);

@@ -72,9 +72,13 @@ fn put_file(
     quads: &[u8],
     out: &mut [u8],
 )
-    requires { ⌜ (count ≤ 3) × (count ≡ length (chosen w (now grid) (now triangles) (now quads))) × (start ≡ tableSize count) ⌝ }
-    requires { ⌜ Sizes start w (now grid) (now triangles) (now quads)
-        × (endFrom start (chosen w (now grid) (now triangles) (now quads)) ≤ length (now out)) ⌝ }
+    requires { ⌜ record {
+      count-most : count ≤ 3;
+      count-is : count ≡ length (chosen w (now grid) (now triangles) (now quads));
+      start-is : start ≡ tableSize count;
+      sizes : Sizes start w (now grid) (now triangles) (now quads);
+      out-room : endFrom start (chosen w (now grid) (now triangles) (now quads)) ≤ length (now out);
+    } ⌝ }
     ensures { λ _. ⌜ now (out .exit)
         ≡ puts (now (out .entry)) 0 (fileOf level (chosen w (now (grid .entry)) (now (triangles .entry)) (now (quads .entry)))) ⌝ }
 {

@@ -75,7 +75,7 @@ abbrev pub bitsFrom : ℕ → List ℕ → ℕ → Set
 bitsFrom n g p a o = has a (getD g (p + pointNumber n o) 0)
 
 -- an edge of the table exists as far on from point number p as it lies from (0,0,0)
-pub record Reached (n p : ℕ) (e : Place) : Type 0 where
+pub record EdgeReached (n p : ℕ) (e : Place) : Type 0 where
   pub is-point : OfGrid n (e .at)
   pub below : p + pointNumber n (e .at) < pointCount n
 

@@ -7,7 +7,7 @@ use Rattle.lattice.specs.declared.level.Level.the-variants.{Two, Three, 
 use Rattle.lattice.specs.Levels.{numberOf, cellsOf, sideOf, pointsOf, lowestOf, highestOf}
 
 -- a row: level, n, S, P, and the ends of the range
-pub record Measures : Type 0 where
+pub record LevelRow : Type 0 where
   pub level : ℕ
   pub cells : ℕ
   pub side : ℕ
@@ -15,18 +15,18 @@ pub record Measures : Type 0 where
   pub lowest : ℕ
   pub highest : ℕ
 
-abbrev row : ℕ → ℕ → ℕ → ℕ → ℕ → ℕ → Measures
+abbrev row : ℕ → ℕ → ℕ → ℕ → ℕ → ℕ → LevelRow
 row l n s p low high = record { level = l; cells = n; side = s; points = p; lowest = low; highest = high }
 
 -- what the definitions give for a level
-abbrev pub measured : Level → Measures
+abbrev pub measured : Level → LevelRow
 measured l = row (numberOf l) (cellsOf l) (sideOf l) (pointsOf l) (lowestOf l) (highestOf l)
 
 abbrev pub levels : List Level
 levels = Two ∷ Three ∷ Four ∷ Five ∷ []
 
 -- the table
-unfoldable pub table : List Measures
+unfoldable pub table : List LevelRow
 table =
     row 2 4 262144 125 131072 393215
     ∷ row 3 8 131072 729 65536 458751

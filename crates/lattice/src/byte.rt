@@ -78,7 +78,7 @@ fn high(b: u8) -> u8
 
 // The byte of three parts.
 fn packed(l: u8, f: u8, h: u8) -> u8
-    requires { ⌜ (l < 8) × (f ≤ 1) × (h < 8) ⌝ }
+    requires { ⌜ record { low-fits : l < 8; flag-fits : f ≤ 1; high-fits : h < 8 } ⌝ }
     ensures { λ r. ⌜ r ≡ packed l f h ⌝ }
 {
     l + (8 * f + 16 * h)

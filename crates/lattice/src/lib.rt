@@ -13,6 +13,7 @@ ghost use lib.ListN.{length, getD, drop, replicate};
 ghost use Rattle.rules.specs.Lattice.{coord, earlier, later, up, pointNumber, pointCount, OfGrid};
 ghost use Rattle.rules.specs.Grid.{has};
 ghost use Rattle.lattice.specs.Cells.{indexOf};
+ghost use Rattle.lattice.specs.Buffers.{Sized};
 
 // The number of a point.
 pub fn number_of(n: usize, p: Point) -> usize
@@ -97,7 +98,7 @@ pub fn clear(count: usize, s: &mut [u8])
 
 // Whether the set that a buffer's lowest three bits hold has a member.
 pub fn member(n: usize, s: &[u8], f: Place) -> bool
-    requires { ⌜ (n ≤ 32) × (pointCount n ≤ length (now s)) × OfGrid n (f .at) ⌝ }
+    requires { ⌜ Sized n (now s) × OfGrid n (f .at) ⌝ }
     ensures { λ r. ⌜ r ≡ has (f .axis) (getD (now (s .entry)) (pointNumber n (f .at)) 0) ⌝ }
 {
     let at = number_of(n, f.at);

@@ -16,8 +16,8 @@ ghost use mathlib.Core.Path.{_≡_};
 ghost use mathlib.Core.Bool.{true};
 ghost use Prim.Native.Nat.{_%_, _≤_};
 ghost use lib.ListN.{length};
-ghost use Rattle.rules.specs.Grid.{isGrid, Unsigned};
-ghost use Rattle.lattice.specs.Levels.{cellsOf, pointsOf};
+ghost use Rattle.lattice.specs.Levels.{pointsOf};
+ghost use Rattle.lattice.specs.Buffers.{Ready};
 ghost use Rattle.marking.specs.Ranges.{allInRange};
 ghost use Rattle.list_marking.specs.Triangles.{trianglesOf, markedAll};
 ghost use Rattle.list_marking.specs.Call.{told, rangedCall, markAllCall};
@@ -25,8 +25,7 @@ ghost use Rattle.list_marking.specs.Call.{told, rangedCall, markAllCall};
 // Adds the marks of each triangle of a list in turn, in a buffer that is known to be a grid without signs. Each goes by whichever way
 // takes less time for its size.
 fn mark_each(l: Level, grid: &mut [u8], list: &[i32])
-    requires { ⌜ (length (now list) % 9 ≡ 0) × (allInRange l (now list) ≡ true) ⌝ }
-    requires { ⌜ (pointsOf l ≤ length (now grid)) × (isGrid (cellsOf l) (now grid) ≡ true) × Unsigned (cellsOf l) (now grid) ⌝ }
+    requires { ⌜ record { nines : length (now list) % 9 ≡ 0; in-range : allInRange l (now list) ≡ true; ready : Ready l (now grid) } ⌝ }
     ensures { λ _. ⌜ now (grid .exit) ≡ markedAll l (trianglesOf (now (list .entry))) (now (grid .entry)) ⌝ }
 {
     let mut at: usize = 0;
@@ -38,7 +37,7 @@ fn mark_each(l: Level, grid: &mut [u8], list: &[i32])
 
 // Marks a list of triangles that are all in range: the rows that are left, and what is done where none applies.
 fn mark_ranged(l: Level, grid: &mut [u8], list: &[i32], totals: &mut [u16]) -> MarkAllAnswer
-    requires { ⌜ (pointsOf l ≤ length (now grid)) × (length (now list) % 9 ≡ 0) × (allInRange l (now list) ≡ true) ⌝ }
+    requires { ⌜ record { grid-long : pointsOf l ≤ length (now grid); nines : length (now list) % 9 ≡ 0; in-range : allInRange l (now list) ≡ true } ⌝ }
     ensures { λ r. ⌜ told r (now (grid .exit)) (now (totals .exit)) ≡ rangedCall l (now (grid .entry)) (now (list .entry)) (now (totals .entry)) ⌝ }
 {
     let n = l.cells();

@@ -19,7 +19,7 @@ use Rattle.lattice.specs.declared.level.Level.{Level}
 use Rattle.lattice.specs.Levels.{cellsOf}
 use Rattle.refusals.specs.Columns.{levelAt}
 use Rattle.refusals.proofs.Answered.{answered-done}
-use Rattle.totals.specs.Totals.{blockCount, True, trued}
+use Rattle.totals.specs.Totals.{blockCount, True}
 use Rattle.totals.proofs.Blocks.{trued-true, trued-past}
 use Rattle.meeting.specs.Within.{TriangleWithin}
 use Rattle.meeting.specs.Met.{met, marked}

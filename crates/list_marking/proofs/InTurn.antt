@@ -33,7 +33,7 @@ use Rattle.list_marking.proofs.Triangles.{range-split, range-taken, ran
 use Rattle.list_marking.proofs.Marked.{done-number, some-left}
 
 -- ---- buffers that mark takes at a level
-record Ready (level : ℕ) (g t : List ℕ) : Type 0 where
+record MarkTakes (level : ℕ) (g t : List ℕ) : Type 0 where
   known : badLevel level ≡ false
   long : pointsOf (levelAt level) ≤ length g
   grid : isGrid (cellsOf (levelAt level)) g ≡ true
@@ -51,14 +51,14 @@ module _ (level : ℕ) where
     abbrev after : List ℕ
     after = marked l (triangleOf c) g
 
-    module _ (r : Ready level g t) (nine : length c ≡ 9) (fits : allInRange l c ≡ true) where
+    module _ (r : MarkTakes level g t) (nine : length c ≡ 9) (fits : allInRange l c ≡ true) where
       -- is done
       mark-in : markCall level g c t ≡ doneWith l (triangleOf c) g t
       unfolding markRows markCall
       mark-in = rw (r .known, le-ltb _ _ (r .long), eq-eqb (length c) 9 nine, fits, r .grid, le-ltb _ _ (r .room))
 
       -- and leaves what the next one takes
-      ready-after : Ready level after (trued n after t)
+      ready-after : MarkTakes level after (trued n after t)
       ready-after =
           record {
             known = r .known;
@@ -69,7 +69,7 @@ module _ (level : ℕ) where
 
     -- what number 0 tells
     record Passed : Type 0 where
-      ready : Ready level g t
+      ready : MarkTakes level g t
       fits : allInRange l c ≡ true
 
     mark-passed : markCall level g c t .number ≡ 0 → Passed
@@ -94,7 +94,7 @@ module _ (level : ℕ) where
   made-true [] g t = refl
   made-true (c ∷ m) g t = let h = markedAll l (c ∷ m) g in ap (done h) (trued-again n h g t)
 
-  turns : (k : ℕ) (c : List ℤ) → length c ≡ 9 * k → allInRange l c ≡ true → (g t : List ℕ) → Ready level g t →
+  turns : (k : ℕ) (c : List ℤ) → length c ≡ 9 * k → allInRange l c ≡ true → (g t : List ℕ) → MarkTakes level g t →
       inTurn level (nines k c) g t ≡ allLeave (markedList l (nines k c) g t)
   unfolding nines inTurn markedAll
   turns zero c long fits g t r = refl
@@ -132,7 +132,7 @@ module _ (level : ℕ) (g : List ℕ) (c : List ℤ) (t : List ℕ) where
       let r = answered-done (λ o. o .number) (refused k c g t) m (λ i. refl) (done-number k (trianglesOf c) g t) (markAllRows level g c t) refl e in
       let h = r .0 in
       let whole = eqb-true (length c % 9) 0 (not-false (eqb (length c % 9) 0) (h .1 .1 .0)) in
-      let ready : Ready level g t = record {
+      let ready : MarkTakes level g t = record {
         known = h .0;
         long = none-short (pointsOf k) (g ∷ []) (h .1 .0) .0;
         grid = not-false (isGrid (cellsOf k) g) (h .1 .1 .1 .1 .1 .0);
@@ -142,7 +142,7 @@ module _ (level : ℕ) (g : List ℕ) (c : List ℤ) (t : List ℕ) where
       ∙ ap allLeave (sym (r .1))
 
   -- the first call tells that the buffers are taken
-  first-ready : (d : List ℤ) (more : List (List ℤ)) → inTurn level (d ∷ more) g t .done ≡ true → Ready level g t
+  first-ready : (d : List ℤ) (more : List (List ℤ)) → inTurn level (d ∷ more) g t .done ≡ true → MarkTakes level g t
   unfolding inTurn
   first-ready d more e =
       let o = markCall level g d t in

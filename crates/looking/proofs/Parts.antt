@@ -8,7 +8,7 @@ use Prim.Native.Nat.{ℕ, suc, _+_, _*_, _/_, _≤_, _<_, min}
 use native.Mathlib.Decide.{decLt}
 use native.Mathlib.Omega.{arith}
 use borrow.Author.Tests.{lt-ltb, le-ltb}
-use lib.Dec.{ltb, leb, eqb}
+use lib.Dec.{leb, eqb}
 use Rattle.rules.specs.declared.Point.{Point}
 use Rattle.rules.specs.declared.Box.{Box}
 use Rattle.rules.specs.Lists.{anyOf}
@@ -16,10 +16,10 @@ use Rattle.rules.specs.Lattice.{OfGrid}
 use Rattle.rules.proofs.Bits.{same-test, and-left, and-right, both, is-false, or-cases, or-no-left, or-no-right, leb→, leb-yes}
 use Rattle.totals.specs.Totals.{boxPoints, blockBox}
 use Rattle.totals.specs.Counting.{blockOf}
-use Rattle.asking.specs.Ask.{pointIn, marked, markedIn, wholly, entryOf, blockSays, byTable, anyMarked, entrySome, Fits}
-use Rattle.asking.proofs.Some.{Held, Found, box-found, found-box, cube, points-box}
+use Rattle.asking.specs.Ask.{pointIn, marked, markedIn, wholly, entryOf, blockSays, byTable, anyMarked, entrySome, PointBox}
+use Rattle.asking.proofs.Some.{Held, box-found, found-box, cube, points-box}
 use Rattle.asking.proofs.Blocks.{in-held, held-in, all-held, held-all, lowest, highest, lowest-held, highest-held}
-use Rattle.looking.specs.Inside.{firstInside, pastInside, insideOf, pointsOf, emptyBox, Along, Within}
+use Rattle.looking.specs.Inside.{firstInside, pastInside, insideOf, pointsOf, emptyBox, Along, BoxWithin}
 
 -- ---- along an axis
 -- where all points lie before h, and where not
@@ -140,7 +140,7 @@ block-point n c p h =
 abbrev pub outside : ℕ → List ℕ → Box → Point → Bool
 outside n g h p = not (pointIn h p) && marked n g p
 
-module _ (n : ℕ) (g t : List ℕ) (b : Box) (fits : Fits n b) where
+module _ (n : ℕ) (g t : List ℕ) (b : Box) (fits : PointBox n b) where
   abbrev entries : Bool
   entries = anyOf (entrySome (n / 4) t) (boxPoints (insideOf n b))
 
@@ -245,7 +245,7 @@ nobody c p e h =
     (or-cases (leb (c .hi .j) (c .lo .j)) (leb (c .hi .k) (c .lo .k)) r))
     (or-cases (leb (c .hi .i) (c .lo .i)) (leb (c .hi .j) (c .lo .j) || leb (c .hi .k) (c .lo .k)) e)
 
-pub none-inside : (n : ℕ) (g t : List ℕ) (b : Box) → Fits n b → emptyBox (insideOf n b) ≡ true → byTable n g t b ≡ anyMarked n g b
+pub none-inside : (n : ℕ) (g t : List ℕ) (b : Box) → PointBox n b → emptyBox (insideOf n b) ≡ true → byTable n g t b ≡ anyMarked n g b
 none-inside n g t b fits e =
     by-parts n g t b fits
     ∙ ap (λ (x : Bool). x || others n g t b fits)
@@ -288,7 +288,7 @@ inside-some c e =
       some-along (c .lo .k) (c .hi .k) (or-no-right y z r),
     )
 
-pub points-within : (n : ℕ) (b : Box) → Fits n b → emptyBox (insideOf n b) ≡ false → Within b (pointsOf n (insideOf n b))
+pub points-within : (n : ℕ) (b : Box) → PointBox n b → emptyBox (insideOf n b) ≡ false → BoxWithin b (pointsOf n (insideOf n b))
 unfolding insideOf pointsOf
 points-within n b fits e =
     let s = inside-some (insideOf n b) e in
@@ -302,7 +302,7 @@ points-within n b fits e =
     along l h o q = let m = past-most n h o in (omega arith, omega (arith, m .0, q), m .1)
 
 -- ---- they lie in the grid
-pub inside-fits : (n : ℕ) (b : Box) → Fits n b → Fits (n / 4) (insideOf n b)
+pub inside-fits : (n : ℕ) (b : Box) → PointBox n b → PointBox (n / 4) (insideOf n b)
 unfolding insideOf
 inside-fits n b fits =
     let x = past-most n (b .hi .i) (fits .x) in
@@ -310,7 +310,7 @@ inside-fits n b fits =
     let z = past-most n (b .hi .k) (fits .z) in
     record { x = omega (arith, x .0); y = omega (arith, y .0); z = omega (arith, z .0) }
 
-pub inside-few : (n : ℕ) (c : Box) → n ≤ 32 → Fits (n / 4) c → emptyBox c ≡ false → OfGrid 9 (c .lo) × OfGrid 9 (c .hi)
+pub inside-few : (n : ℕ) (c : Box) → n ≤ 32 → PointBox (n / 4) c → emptyBox c ≡ false → OfGrid 9 (c .lo) × OfGrid 9 (c .hi)
 inside-few n c m f e =
     let s = inside-some c e in (
       record { i = omega (arith, m, f .x, s .0); j = omega (arith, m, f .y, s .1); k = omega (arith, m, f .z, s .2) },

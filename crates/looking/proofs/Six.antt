@@ -1,7 +1,7 @@
 -- The points of a box around a box within it are those of six boxes; so the answer by the table comes from entries and six boxes.
 -- Assumes nothing.
 use mathlib.Core.Path.{_≡_, sym, ap, _∙_}
-use mathlib.Core.Bool.{Bool, true, false, not, _&&_, _||_, true≢false, or-true}
+use mathlib.Core.Bool.{Bool, true, false, not, _||_, true≢false, or-true}
 use mathlib.Core.List.{List}
 use mathlib.Core.Logic.{⊎-elim}
 use Prim.Native.Nat.{ℕ, _/_, _≤_, _<_}
@@ -12,14 +12,14 @@ use Rattle.rules.specs.declared.Box.{Box}
 use Rattle.rules.specs.Lists.{anyOf}
 use Rattle.rules.proofs.Bits.{same-test, and-left, and-right, both, is-false, or-cases}
 use Rattle.totals.specs.Totals.{boxPoints}
-use Rattle.asking.specs.Ask.{pointIn, marked, anyMarked, byTable, entrySome, Fits}
+use Rattle.asking.specs.Ask.{pointIn, marked, anyMarked, byTable, entrySome, PointBox}
 use Rattle.asking.proofs.Some.{Held, box-found, found-box}
 use Rattle.asking.proofs.Blocks.{in-held, held-in}
 use Rattle.looking.specs.Inside.{lowLayers, highLayers, lowRows, highRows, lowEnds, highEnds, aroundMarked}
-use Rattle.looking.specs.Inside.{insideOf, pointsOf, emptyBox, Within}
+use Rattle.looking.specs.Inside.{insideOf, pointsOf, emptyBox, BoxWithin}
 use Rattle.looking.proofs.Parts.{outside, by-parts, points-within}
 
-module _ (n : ℕ) (g : List ℕ) (b h : Box) (w : Within b h) where
+module _ (n : ℕ) (g : List ℕ) (b h : Box) (w : BoxWithin b h) where
   -- ---- a mark in one of the six is one around
   part : (d : Box) → ((p : Point) → Held d p → Held b p × (Held h p → ⊥)) → anyMarked n g d ≡ true → anyOf (outside n g h) (boxPoints b) ≡ true
   part d f e =
@@ -190,7 +190,7 @@ module _ (n : ℕ) (g : List ℕ) (b h : Box) (w : Within b h) where
       back e = ⊎-elim of-layers (λ r. ⊎-elim of-rows of-ends (or-cases rows ends r)) (or-cases layers (rows || ends) e)
 
 -- ---- the answer by the table
-module _ (n : ℕ) (g t : List ℕ) (b : Box) (fits : Fits n b) where
+module _ (n : ℕ) (g t : List ℕ) (b : Box) (fits : PointBox n b) where
   -- an entry of a block wholly inside is not 0
   pub told-yes : anyOf (entrySome (n / 4) t) (boxPoints (insideOf n b)) ≡ true → byTable n g t b ≡ true
   told-yes e = by-parts n g t b fits ∙ ap (λ (x : Bool). x || anyOf (outside n g (pointsOf n (insideOf n b))) (boxPoints b)) e

@@ -3,7 +3,6 @@ use mathlib.Core.Bool.{Bool, cond, _||_}
 use mathlib.Core.List.{List}
 use Prim.Native.Nat.{ℕ, _+_, _*_, _/_, _≤_, min}
 use lib.Dec.{leb, ltb}
-use Rattle.rules.specs.declared.Point.{Point}
 use Rattle.rules.specs.declared.Box.{Box}
 use Rattle.asking.specs.Ask.{anyMarked}
 
@@ -37,7 +36,7 @@ emptyBox b = leb (b .hi .i) (b .lo .i) || (leb (b .hi .j) (b .lo .j) || leb (b .
 abbrev pub Along : ℕ → ℕ → ℕ → ℕ → Type 0
 Along l h m k = (l ≤ m) × (m ≤ k) × (k ≤ h)
 
-pub record Within (b h : Box) : Type 0 where
+pub record BoxWithin (b h : Box) : Type 0 where
   pub x : Along (b .lo .i) (b .hi .i) (h .lo .i) (h .hi .i)
   pub y : Along (b .lo .j) (b .hi .j) (h .lo .j) (h .hi .j)
   pub z : Along (b .lo .k) (b .hi .k) (h .lo .k) (h .hi .k)

@@ -9,10 +9,11 @@ ghost use mathlib.Core.Path.{_≡_};
 ghost use mathlib.Core.Bool.{_||_};
 ghost use Prim.Native.Nat.{_≤_, _/_};
 ghost use lib.ListN.{length};
-ghost use Rattle.rules.specs.Lattice.{pointCount, OfGrid};
+ghost use Rattle.rules.specs.Lattice.{OfGrid};
+ghost use Rattle.lattice.specs.Buffers.{Sized};
 ghost use Rattle.totals.specs.Totals.{blockCount};
-ghost use Rattle.asking.specs.Ask.{boxFrom, anyMarked, byTable, Fits};
-ghost use Rattle.looking.specs.Inside.{firstInside, pastInside, insideOf, pointsOf, emptyBox, Within};
+ghost use Rattle.asking.specs.Ask.{boxFrom, anyMarked, byTable, PointBox};
+ghost use Rattle.looking.specs.Inside.{firstInside, pastInside, insideOf, pointsOf, emptyBox, BoxWithin};
 ghost use Rattle.looking.specs.Inside.{lowLayers, highLayers, lowRows, highRows, lowEnds, highEnds, aroundMarked};
 
 // The box from the lowest to the highest point, both in it.
@@ -72,7 +73,7 @@ fn inside(n: usize, b: Box) -> Box
 
 // The points of a box of blocks.
 fn points_of(n: usize, c: Box) -> Box
-    requires { ⌜ (n ≤ 32) × OfGrid 9 (c .lo) × OfGrid 9 (c .hi) ⌝ }
+    requires { ⌜ record { small : n ≤ 32; lo-on : OfGrid 9 (c .lo); hi-on : OfGrid 9 (c .hi) } ⌝ }
     ensures { λ r. ⌜ r ≡ pointsOf n c ⌝ }
 {
     let lo = Point {
@@ -103,7 +104,7 @@ fn is_empty(b: Box) -> bool
 
 // Whether one of two boxes has a mark.
 fn either_any(n: usize, grid: &[u8], low: Box, high: Box) -> bool
-    requires { ⌜ (n ≤ 32) × (pointCount n ≤ length (now grid)) × Fits n low × Fits n high ⌝ }
+    requires { ⌜ record { sized : Sized n (now grid); low-fits : PointBox n low; high-fits : PointBox n high } ⌝ }
     ensures { λ r. ⌜ r ≡ (anyMarked n (now (grid .entry)) low || anyMarked n (now (grid .entry)) high) ⌝ }
 {
     if box_any(n, grid, low) {
@@ -114,7 +115,7 @@ fn either_any(n: usize, grid: &[u8], low: Box, high: Box) -> bool
 
 // Whether the layers of a box below and above those of a box within it have a mark.
 fn layers_around(n: usize, grid: &[u8], b: Box, h: Box) -> bool
-    requires { ⌜ (n ≤ 32) × (pointCount n ≤ length (now grid)) × Fits n b × Within b h ⌝ }
+    requires { ⌜ record { sized : Sized n (now grid); fits : PointBox n b; within : BoxWithin b h } ⌝ }
     ensures { λ r. ⌜ r ≡ (anyMarked n (now (grid .entry)) (lowLayers b h) || anyMarked n (now (grid .entry)) (highLayers b h)) ⌝ }
 {
     let low = Box {
@@ -146,7 +147,7 @@ fn layers_around(n: usize, grid: &[u8], b: Box, h: Box) -> bool
 
 // Of the other layers, whether the rows before and behind those of the box within have one.
 fn rows_around(n: usize, grid: &[u8], b: Box, h: Box) -> bool
-    requires { ⌜ (n ≤ 32) × (pointCount n ≤ length (now grid)) × Fits n b × Within b h ⌝ }
+    requires { ⌜ record { sized : Sized n (now grid); fits : PointBox n b; within : BoxWithin b h } ⌝ }
     ensures { λ r. ⌜ r ≡ (anyMarked n (now (grid .entry)) (lowRows b h) || anyMarked n (now (grid .entry)) (highRows b h)) ⌝ }
 {
     let low = Box {
@@ -178,7 +179,7 @@ fn rows_around(n: usize, grid: &[u8], b: Box, h: Box) -> bool
 
 // Of the other rows, whether the points before and behind those of the box within have one.
 fn ends_around(n: usize, grid: &[u8], b: Box, h: Box) -> bool
-    requires { ⌜ (n ≤ 32) × (pointCount n ≤ length (now grid)) × Fits n b × Within b h ⌝ }
+    requires { ⌜ record { sized : Sized n (now grid); fits : PointBox n b; within : BoxWithin b h } ⌝ }
     ensures { λ r. ⌜ r ≡ (anyMarked n (now (grid .entry)) (lowEnds b h) || anyMarked n (now (grid .entry)) (highEnds b h)) ⌝ }
 {
     let low = Box {
@@ -210,7 +211,7 @@ fn ends_around(n: usize, grid: &[u8], b: Box, h: Box) -> bool
 
 // Whether the points of a box around a box within it have a mark.
 fn around(n: usize, grid: &[u8], b: Box, h: Box) -> bool
-    requires { ⌜ (n ≤ 32) × (pointCount n ≤ length (now grid)) × Fits n b × Within b h ⌝ }
+    requires { ⌜ record { sized : Sized n (now grid); fits : PointBox n b; within : BoxWithin b h } ⌝ }
     ensures { λ r. ⌜ r ≡ aroundMarked n (now (grid .entry)) b h ⌝ }
 {
     if layers_around(n, grid, b, h) {
@@ -224,7 +225,7 @@ fn around(n: usize, grid: &[u8], b: Box, h: Box) -> bool
 
 // Whether the box from the lowest to the highest point has a mark, by the rule. Where no block lies wholly inside, the bytes answer alone.
 pub fn table_says(n: usize, grid: &[u8], totals: &[u16], low: Point, high: Point) -> bool
-    requires { ⌜ (n ≤ 32) × (pointCount n ≤ length (now grid)) × (blockCount n ≤ length (now totals)) × OfGrid n high ⌝ }
+    requires { ⌜ record { sized : Sized n (now grid); totals-long : blockCount n ≤ length (now totals); on-grid : OfGrid n high } ⌝ }
     ensures { λ r. ⌜ r ≡ byTable n (now (grid .entry)) (now (totals .entry)) (boxFrom low high) ⌝ }
 {
     let b = box_from(low, high);

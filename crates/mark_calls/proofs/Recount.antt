@@ -17,7 +17,7 @@ use Rattle.triangles.specs.declared.Triangle.{Triangle}
 use Rattle.meeting.specs.Within.{TriangleWithin}
 use Rattle.meeting.specs.Met.{met, marked}
 use Rattle.meeting.proofs.Marks.{marked-length, marks-after, grid-after}
-use Rattle.totals.specs.Totals.{blockCount, totals, trued}
+use Rattle.totals.specs.Totals.{blockCount, trued}
 use Rattle.totals.proofs.Blocks.{trued-true}
 use Rattle.totals.proofs.Marks.{same-totals}
 use Rattle.recounting.specs.Anew.{Recounted}
@@ -38,8 +38,8 @@ module _ (l : Level) (x : Triangle) (within : TriangleWithin l x) (g : List ℕ)
       u ≡ trued (cellsOf l) (marked l x g) t
   recounted z t u room r =
       let n = cellsOf l in
-      let h = unsigned-ready n g long in
+      let h = unsigned-ready l g long in
       let e = marked-length l x g long in
-      let s = trued-true n g z ∙ sym (same-totals n (unsigned n g) g (h .0) (h .1) long grid (unsigned-marks n g)) in
-      recounted-true n (unsigned n g) (marked l x g) (h .0) (h .1) (omega arith) (grid-after l x within g) (met l x) t u room beside
+      let s = trued-true n g z ∙ sym (same-totals n (unsigned n g) g (h .long) (h .grid) long grid (unsigned-marks n g)) in
+      recounted-true n (unsigned n g) (marked l x g) (h .long) (h .grid) (omega arith) (grid-after l x within g) (met l x) t u room beside
       (subst (λ (i : List ℕ). Recounted n (marked l x g) (met l x) (i ++ drop (blockCount n) t) u) s r)

@@ -19,11 +19,10 @@ use totals::read_held;
 use totals::store;
 use triangles::Triangle;
 ghost use mathlib.Core.Path.{_≡_};
-ghost use mathlib.Core.Bool.{true};
 ghost use Prim.Native.Nat.{_≤_};
 ghost use lib.ListN.{length};
-ghost use Rattle.rules.specs.Grid.{isGrid, Unsigned};
-ghost use Rattle.lattice.specs.Levels.{cellsOf, pointsOf};
+ghost use Rattle.lattice.specs.Levels.{pointsOf};
+ghost use Rattle.lattice.specs.Buffers.{Ready};
 ghost use Rattle.meeting.specs.Within.{TriangleWithin};
 ghost use Rattle.meeting.specs.Met.{marked};
 ghost use Rattle.marking.specs.Outcome.{told};
@@ -74,8 +73,7 @@ pub fn mark_tree(level: u32, grid: &mut [u8], triangle: &[i32], totals: &mut [u1
 
 // Adds the marks of the edges that a triangle meets to a buffer that is known to be a grid without signs, either way.
 fn mark_edges(l: Level, grid: &mut [u8], t: Triangle, w: Way)
-    requires { ⌜ TriangleWithin l t ⌝ }
-    requires { ⌜ (pointsOf l ≤ length (now grid)) × (isGrid (cellsOf l) (now grid) ≡ true) × Unsigned (cellsOf l) (now grid) ⌝ }
+    requires { ⌜ TriangleWithin l t × Ready l (now grid) ⌝ }
     ensures { λ _. ⌜ now (grid .exit) ≡ marked l t (now (grid .entry)) ⌝ }
 {
     match w {

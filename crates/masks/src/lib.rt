@@ -51,7 +51,7 @@ fn packed(grid: &[u8], from: usize, w: usize, b: usize) -> u8
 
 // Puts a row of w points at a place, and answers the place behind it.
 fn put_row(out: &mut [u8], at: usize, grid: &[u8], from: usize, w: usize) -> usize
-    requires { ⌜ (w ≤ 33) × (from + w ≤ length (now grid)) × (at + rowBytes w ≤ length (now out)) ⌝ }
+    requires { ⌜ record { small : w ≤ 33; grid-room : from + w ≤ length (now grid); out-room : at + rowBytes w ≤ length (now out) } ⌝ }
     ensures { λ r. ⌜ Put (now (out .entry)) at (rowAt (now (grid .entry)) from w) (now (out .exit)) r ⌝ }
 {
     let end = (w + 7) / 8;
@@ -65,7 +65,7 @@ fn put_row(out: &mut [u8], at: usize, grid: &[u8], from: usize, w: usize) -> usi
 
 // Puts the w rows of a layer at a place, and answers the place behind them.
 fn put_rows(out: &mut [u8], at: usize, grid: &[u8], from: usize, w: usize) -> usize
-    requires { ⌜ (w ≤ 33) × (from + w * w ≤ length (now grid)) × (at + w * rowBytes w ≤ length (now out)) ⌝ }
+    requires { ⌜ record { small : w ≤ 33; grid-room : from + w * w ≤ length (now grid); out-room : at + w * rowBytes w ≤ length (now out) } ⌝ }
     ensures { λ r. ⌜ Put (now (out .entry)) at (rowsAt (now (grid .entry)) from w) (now (out .exit)) r ⌝ }
 {
     let mut next = at;
@@ -81,7 +81,7 @@ fn put_rows(out: &mut [u8], at: usize, grid: &[u8], from: usize, w: usize) -> us
 
 // Puts one layer's picture at the start of the part of the buffer that is lent, and answers its length.
 fn put_mask(part: &mut [u8], grid: &[u8], from: usize, w: usize) -> usize
-    requires { ⌜ (w ≤ 33) × (from + w * w ≤ length (now grid)) × (maskSize w ≤ length (now part)) ⌝ }
+    requires { ⌜ record { small : w ≤ 33; grid-room : from + w * w ≤ length (now grid); part-room : maskSize w ≤ length (now part) } ⌝ }
     ensures { λ r. ⌜ Put (now (part .entry)) 0 (maskAt (now (grid .entry)) from w) (now (part .exit)) r ⌝ }
 {
     let width = w as u32;
@@ -92,7 +92,7 @@ fn put_mask(part: &mut [u8], grid: &[u8], from: usize, w: usize) -> usize
 
 // Puts the pictures of the w layers, each at its own place, and answers the place behind them.
 pub fn put_masks(out: &mut [u8], grid: &[u8], w: usize) -> usize
-    requires { ⌜ (w ≤ 33) × (w * w * w ≤ length (now grid)) × (w * maskSize w ≤ length (now out)) ⌝ }
+    requires { ⌜ record { small : w ≤ 33; grid-room : w * w * w ≤ length (now grid); out-room : w * maskSize w ≤ length (now out) } ⌝ }
     ensures { λ r. ⌜ Put (now (out .entry)) 0 (each (λ k. maskAt (now (grid .entry)) (w * w * k) w) (upto 0 w)) (now (out .exit)) r ⌝ }
 {
     let layer = w * w;

@@ -7,7 +7,7 @@ use native.Mathlib.Omega.{arith}
 use lib.ListN.{length}
 use Rattle.stl_reading.specs.File.{verticesAt}
 use Rattle.measuring.specs.declared.Run.{Run}
-use Rattle.measuring.specs.Coordinates.{Model, nothing, joined, triangleAt, modelOf}
+use Rattle.measuring.specs.Coordinates.{Model, joined, triangleAt, modelOf}
 use Rattle.measuring.specs.Extents.{runWith, spread, runOf, widened, extentOf, Measures}
 
 -- coordinates one behind another
@@ -23,11 +23,7 @@ extent-more m n = λ i. record {
   z = spread-append (runOf []) (m .z) (n .z) i;
 }
 
--- no triangle of a file, and one more
-pub extent-none : (s : List ℕ) → extentOf nothing ≡ extentOf (modelOf s 0)
-unfolding modelOf
-extent-none s = refl
-
+-- one more triangle of a file
 pub extent-next : (s : List ℕ) (n : ℕ) → widened (extentOf (modelOf s n)) (triangleAt s (verticesAt n)) ≡ extentOf (modelOf s (suc n))
 unfolding modelOf
 extent-next s n = extent-more (modelOf s n) (triangleAt s (verticesAt n))

@@ -9,7 +9,7 @@ use borrow.Author.Tests.{leb-true}
 use lib.Dec.{leb}
 use lib.IntN.{ℤ, pos}
 use lib.ListN.{getD}
-use lib.Signed.{_≤ℤ_, _<ℤ_, <ℤ-≤ℤ-trans}
+use lib.Signed.{_<ℤ_, <ℤ-≤ℤ-trans}
 use Rattle.rules.specs.declared.Axis.{Axis}
 use Rattle.rules.specs.declared.Axis.the-variants.{X, Y, Z}
 use Rattle.rules.specs.declared.Point.{Point}
@@ -139,7 +139,7 @@ module _ (l : Level) (t : Triangle) (a : Axis) (p : Point) where
       low b s (no h) =
           let z : coord b p ≡ 0 = omega arith in
           let k : coord b (up a p) * sideOf l ≤ 0 = rw (s, z, zero-mul) zero-le in
-          let o : pos 0 <ℤ spanOn b t .low = <ℤ-≤ℤ-trans (pos-lt (side-some l)) (span-within l t b w .0 .low) in
+          let o : pos 0 <ℤ spanOn b t .low = <ℤ-≤ℤ-trans (pos-lt (side-some l)) (span-within l t b w .low-within .low) in
           absurd (true≢false (sym (met-edge e) ∙ ends-before l t a b p 0 o k))
 
       high : (b : Axis) → Dec (coord b p < cellsOf l) → coord b p < cellsOf l
@@ -148,7 +148,7 @@ module _ (l : Level) (t : Triangle) (a : Axis) (p : Point) where
           let g : cellsOf l ≤ coord b p = omega arith in
           let k : 2 ^ 20 ≤ coord b p * sideOf l = subst (λ (m : ℕ). m ≤ coord b p * sideOf l) (side-whole l) (mul-le-mul-right (sideOf l) g) in
           let o : spanOn b t .high <ℤ pos (2 ^ 20) =
-          ≤ℤ-<ℤ-trans (span-within l t b w .1 .high) (pos-lt (less (sideOf l) (side-some l) (side-most l))) in
+          ≤ℤ-<ℤ-trans (span-within l t b w .high-within .high) (pos-lt (less (sideOf l) (side-some l) (side-most l))) in
           absurd (true≢false (sym (met-edge e) ∙ begins-after l t a b p (2 ^ 20) o k))
         where
           less : (s : ℕ) → 0 < s → s ≤ 2 ^ 20 → 2 ^ 20 - s < 2 ^ 20

@@ -73,16 +73,16 @@ abbrev pub spanOn : Axis → Triangle → Span
 spanOn a t = triangleSpan (getD units (indexOf a) zeroVector) t
 
 pub span-within : (l : Level) (t : Triangle) (a : Axis) → TriangleWithin l t →
-    Within l (spanOn a t .low) × Within l (spanOn a t .high) × (spanOn a t .low ≤ℤ spanOn a t .high)
+    record { low-within : Within l (spanOn a t .low); high-within : Within l (spanOn a t .high); ordered : spanOn a t .low ≤ℤ spanOn a t .high }
 span-within l t a w =
     let p = each-along a (w .a-in) in
     let q = each-along a (w .b-in) in
     let r = each-along a (w .c-in) in
-    let h = vertices-held (getD units (indexOf a) zeroVector) t .a-held in (
-      rw (triangle-along (indexOf a) (index-small a) t) (of-lesser (Within l) (of-lesser (Within l) p q) r),
-      rw (triangle-along (indexOf a) (index-small a) t) (of-greater (Within l) (of-greater (Within l) p q) r),
-      ≤ℤ-trans (h .from-low) (h .to-high),
-    )
+    let h = vertices-held (getD units (indexOf a) zeroVector) t .a-held in record {
+      low-within = rw (triangle-along (indexOf a) (index-small a) t) (of-lesser (Within l) (of-lesser (Within l) p q) r);
+      high-within = rw (triangle-along (indexOf a) (index-small a) t) (of-greater (Within l) (of-greater (Within l) p q) r);
+      ordered = ≤ℤ-trans (h .from-low) (h .to-high);
+    }
 
 -- ---- the cells that it can touch
 module _ (n s m h : ℕ) (whole : n * s ≡ 2 ^ 20) (some : 0 < s) (most : s ≤ 2 ^ 20) (low : s ≤ m) (mid : m ≤ h) (high : h ≤ 2 ^ 20 - s) where

@@ -41,7 +41,7 @@ struct Stretch {
 // Answers the cells of one axis that have an edge at their lowest corner that a span can touch. An edge along the axis
 // reaches from its cell's lower plane to the upper one, which it touches as well.
 fn cells_along(l: Level, x: Span) -> Stretch
-    requires { ⌜ Within l (x .low) × Within l (x .high) × (x .low ≤ℤ x .high) ⌝ }
+    requires { ⌜ record { low-within : Within l (x .low); high-within : Within l (x .high); ordered : x .low ≤ℤ x .high } ⌝ }
     ensures { λ r. ⌜ Touches l x (r .first) (r .past) ⌝ }
 {
     let s = l.side();

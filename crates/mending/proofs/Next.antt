@@ -35,7 +35,7 @@ use Rattle.walking.specs.Walks.{seenB, New, Found}
 use Rattle.walking.proofs.Bytes.{odd-same, seen-same, seen-above}
 use Rattle.halving.proofs.Turns.{turns-length, turns-above, turns-past, stored-turns, stored-face-turns, low-edges, low-faces}
 use Rattle.halving.proofs.Boxes.{patch-edged}
-use Rattle.halving.specs.Halving.{Fits, Edged}
+use Rattle.halving.specs.Halving.{CellBox, Edged}
 use Rattle.mending.specs.Between.{owns, Between}
 use Rattle.mending.proofs.Rim.{newB, foundFace, fits, Result, results, stored-is, face-cells}
 use Rattle.mending.proofs.Tallies.{join-sum, join-any, any-no, no-any, one-hit}
@@ -113,7 +113,7 @@ module _ (n : ℕ) (E : Set) (inner : AllInner n E)
   w-size′ : pointCount n ≤ length v
   w-size′ = let e = F .long in omega arith
 
-  fit : Fits n b
+  fit : CellBox n b
   fit = fits n E inner w v c b F a₀ o₀ shut′ (B .work-now)
 
   -- a cell is seen after the walk when it was before, or is new

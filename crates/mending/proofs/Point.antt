@@ -26,7 +26,7 @@ use Rattle.walking.proofs.Faces.{face-cell}
 use Rattle.walking.proofs.Bytes.{odd-face}
 use Rattle.halving.proofs.Turns.{turns-above, low-faces}
 use Rattle.halving.proofs.Boxes.{patch-edged}
-use Rattle.halving.specs.Halving.{Fits}
+use Rattle.halving.specs.Halving.{CellBox}
 use Rattle.mending.specs.Between.{Moves}
 use Rattle.mending.proofs.Rim.{fits-of, cell-whole}
 use Rattle.mending.proofs.Next.{rim-next, seen-skip, none-skip}
@@ -42,7 +42,7 @@ some-low n w c h = some-has (high (getD w (pointNumber n c) 0)) (omega arith) (e
 low-cell : (n : ℕ) (w : List ℕ) (c : Point) → Fine n w → OfGrid n c → noneOdd (getD w (pointNumber n c) 0) ≡ false → Cell n c
 low-cell n w c f g h = let s = some-low n w c h in face-cell n (s .0) c (f .between (s .0) c g (s .1)) .0
 
-pub fit-of : (n : ℕ) (F : Set) (w v : List ℕ) (c : Point) (b : Box) → Found n F w v c b → Fits n b
+pub fit-of : (n : ℕ) (F : Set) (w v : List ℕ) (c : Point) (b : Box) → Found n F w v c b → CellBox n b
 fit-of n F w v c b f = fits-of n b c (f .least (whole n) (λ q h. cell-whole n q (h .cell))) (f .holds c (f .first))
 
 -- ---- one point of the scan, as code does it

@@ -35,7 +35,7 @@ use Rattle.lattice.proofs.PointSteps.{pred-most, up-down, cell-grid, down-cell}
 use Rattle.walking.proofs.Faces.{which, face-lower, face-upper, across-lower, across-upper, index-small, face-cell}
 use Rattle.walking.proofs.Bytes.{seen-same}
 use Rattle.halving.proofs.Boxes.{patchOf-cong, face-grid as box-face}
-use Rattle.halving.specs.Halving.{Fits}
+use Rattle.halving.specs.Halving.{CellBox}
 
 -- a face of the table belongs to its cell and to the one across
 of-own : (f : ℕ) (q : Point) → f < 6 → ofCell q (faceOf f q) ≡ true
@@ -94,7 +94,7 @@ lower-sub h = go (h .axis) (h .at)
 pub cell-whole : (n : ℕ) (q : Point) → Cell n q → Sub (cellBox q) (whole n)
 cell-whole n q h = omega arith
 
-pub fits-of : (n : ℕ) (b : Box) (c : Point) → Sub b (whole n) → Sub (cellBox c) b → Fits n b
+pub fits-of : (n : ℕ) (b : Box) (c : Point) → Sub b (whole n) → Sub (cellBox c) b → CellBox n b
 fits-of n b c u t = omega arith
 
 module _ (n : ℕ) (E : Set) (inner : AllInner n E)
@@ -199,7 +199,7 @@ module _ (n : ℕ) (E : Set) (inner : AllInner n E)
           ∙ sym (ap (λ (x : Bool). x && oddFace E a p) (none (seenB n v p) (seenB n w p) (seen-same n w v p e)))
       go (inr h) = F .faces p h a ∙ sym (ap (λ (x : Bool). x && oddFace E a p) (of-new p h))
 
-  pub fits : Fits n b
+  pub fits : CellBox n b
   fits =
       let u = F .least (whole n) (λ q h. cell-whole n q (h .cell)) in
       let t = F .holds c (F .first) in

@@ -7,8 +7,8 @@ use rules::Point;
 use walking::find_rim;
 ghost use mathlib.Core.Path.{_≡_};
 ghost use Prim.Native.Nat.{_≤_, _<_};
-ghost use lib.ListN.{length};
 ghost use Rattle.rules.specs.Lattice.{pointCount, pointOf};
+ghost use Rattle.lattice.specs.Buffers.{BothSized};
 ghost use Rattle.walking.specs.Walks.{Fine};
 ghost use Rattle.mending.specs.Between.{Moves, AllPatched};
 
@@ -27,7 +27,7 @@ fn point_of(n: usize, p: usize) -> Point
 
 // Finds and patches the rim that has a lower face at point number p, if there is one that hasn't been patched. Answers how many it patched.
 fn rim_at(n: usize, grid: &mut [u8], work: &mut [u8], p: usize) -> u32
-    requires { ⌜ (n ≤ 32) × (pointCount n ≤ length (now grid)) × (pointCount n ≤ length (now work)) × (p < pointCount n) × Fine n (now work) ⌝ }
+    requires { ⌜ record { sized : BothSized n (now grid) (now work); below : p < pointCount n; fine : Fine n (now work) } ⌝ }
     ensures { λ r. ⌜ (r ≤ 1) × Moves n (pointOf n p) (now (grid .entry)) (now (work .entry)) (now (grid .exit)) (now (work .exit)) r
         × Fine n (now (work .exit)) ⌝ }
 {
@@ -45,7 +45,7 @@ fn rim_at(n: usize, grid: &mut [u8], work: &mut [u8], p: usize) -> u32
 
 // Patches every rim, and counts them. The points are scanned once.
 pub fn all_rims(n: usize, grid: &mut [u8], work: &mut [u8]) -> u32
-    requires { ⌜ (n ≤ 32) × (pointCount n ≤ length (now grid)) × (pointCount n ≤ length (now work)) × Fine n (now work) ⌝ }
+    requires { ⌜ BothSized n (now grid) (now work) × Fine n (now work) ⌝ }
     ensures { λ r. ⌜ AllPatched n (now (grid .entry)) (now (work .entry)) (now (grid .exit)) (now (work .exit)) r ⌝ }
 {
     let count = point_count(n);

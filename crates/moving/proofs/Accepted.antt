@@ -2,7 +2,7 @@
 use mathlib.Core.Path.{_≡_, refl}
 use mathlib.Core.List.{map}
 use lib.Count.{trailingZeros}
-use lib.Ieee.{binary32, round, units, odd, span, climb, size, toBits, mul, ofInt}
+use lib.Ieee.{round, units, odd, span, climb, size, toBits, mul, ofInt}
 use Rattle.rounding.specs.Pattern.{nearestAway, sizeTimes, roundTimes}
 use Rattle.moving.specs.Back.{backOf, movedWord}
 use Rattle.moving.specs.Examples.{Example, examples}

@@ -7,7 +7,7 @@ use native.Mathlib.Numerals.{add-one}
 use native.Mathlib.Omega.{arith}
 use lib.IntN.{ℤ}
 use lib.ListN.{length, getD, take, drop, length-append, length-drop, take-append-drop}
-use lib.Seq.{sets, sets-eq, length-take-le, take-append-add, drop-append-add, getD-append-add, getD-drop, drop-drop}
+use lib.Seq.{sets-eq, length-take-le, take-append-add, drop-append-add, getD-append-add, getD-drop, drop-drop}
 use Rattle.rules.specs.Lists.{each, upto}
 use Rattle.octets.specs.Octets.{puts}
 use Rattle.text.proofs.Texts.{each-more}

@@ -9,7 +9,6 @@ use native.Mathlib.Nat.{div-div-eq-div-mul, le-trans, lt-of-lt-of-le, lt-of-le-o
 use native.Mathlib.Numerals.{add-one}
 use native.Mathlib.Omega.{arith}
 use borrow.Author.Tests.{ltb-true, ltb-false}
-use lib.Count.{trailingZeros}
 use lib.Dec.{T, ltb, lit<}
 use lib.Ieee.{Float, nan, inf, fin, binary32, up, down, size, nearest, round, units, odd, neg, mul, ofInt, isNan, unlike, minus}
 use lib.Ieee.Back.{round-whole}

@@ -5,10 +5,9 @@ use Prim.Native.Nat.{ℕ, zero, suc, _+_, _-_, _*_, _/_, _≤_, _<_}
 use native.Mathlib.Numerals.{add-one}
 use native.Mathlib.Omega.{arith}
 use borrow.Author.Tests.{le-ltb}
-use lib.Dec.{lit<}
-use lib.Ieee.{Float, mul, ofInt, toBits, binary32}
-use lib.IntN.{ℤ, pos, _-ℤ_, _*ℤ_}
-use lib.ListN.{length, take, drop, length-append, length-drop, take-append-drop}
+use lib.Ieee.{mul, ofInt, toBits, binary32}
+use lib.IntN.{ℤ, pos, _-ℤ_}
+use lib.ListN.{length, take, drop, take-append-drop}
 use lib.Seq.{sets-eq}
 use Rattle.octets.specs.Octets.{Bytes, wordAt, word, puts}
 use Rattle.octets.proofs.Words.{word-again}

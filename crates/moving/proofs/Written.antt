@@ -2,8 +2,8 @@
 -- Assumes nothing.
 use mathlib.Core.Path.{_≡_, refl, sym, ap, subst, _∙_}
 use mathlib.Core.Bool.{Bool, true, false}
-use mathlib.Core.List.{List, [], _∷_, _++_}
-use Prim.Native.Nat.{ℕ, zero, suc, _+_, _*_, _/_, _≤_, _<_}
+use mathlib.Core.List.{List, [], _∷_}
+use Prim.Native.Nat.{ℕ, suc, _+_, _*_, _≤_, _<_}
 use native.Mathlib.Omega.{arith}
 use borrow.Author.Tests.{eqb-true, eqb-false}
 use lib.Dec.{eqb}
@@ -23,7 +23,7 @@ use Rattle.rounding.specs.Scales.{badScale, scaleAt, exponentOf}
 use Rattle.rounding.proofs.Scaled.{scale-back}
 use Rattle.coordinates.specs.Coordinates.{coordOf}
 use Rattle.stl_reading.specs.File.{countOf, verticesAt}
-use Rattle.stl_records.specs.Records.{Placed, centreOf}
+use Rattle.stl_records.specs.Records.{CellInLattice, centreOf}
 use Rattle.stl_records.specs.File.{Facing, facings, fileOf}
 use Rattle.stl_records.proofs.Centres.{centre-least, centre-most}
 use Rattle.stl_records.proofs.File.{file-length}
@@ -32,7 +32,7 @@ use Rattle.stl_writing.proofs.Corners.{side-wide}
 use Rattle.stl_writing.proofs.Done.{write-done}
 use Rattle.stl_writing.proofs.Files.{facings-count}
 use Rattle.stl_trips.specs.Facets.{Facet, facets, InLattice}
-use Rattle.stl_trips.specs.Turning.{Corner, Going, cornerAt, cornerBits, goingsAt, goingsIn, facetGoings}
+use Rattle.stl_trips.specs.Turning.{Corner, Going, cornerAt, cornerBits, goingsAt, facetGoings}
 use Rattle.stl_trips.proofs.Done.{quads-in, quads-few, centre-even}
 use Rattle.stl_trips.proofs.Pieces.{file-split, two-each, header-count}
 use Rattle.stl_trips.proofs.ReadBack.{FacetIn}
@@ -55,7 +55,7 @@ module _ (v : Level) (s : ℕ) (x : List ℕ) where
   wide : 4 ≤ side
   wide = side-wide (cellsOf v) (sideOf v) (cells-most v) (side-whole v)
 
-  corner-stands : (at : ℕ) (p : Point) → Placed side p → cornerAt x at ≡ cornerBits side (exponentOf s) p → Three at
+  corner-stands : (at : ℕ) (p : Point) → CellInLattice side p → cornerAt x at ≡ cornerBits side (exponentOf s) p → Three at
   corner-stands at p h q = (
     one (p .i) (h .on-i) (ap (λ (c : Corner). c .x) q),
     one (p .j) (h .on-j) (ap (λ (c : Corner). c .y) q),

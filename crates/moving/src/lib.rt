@@ -14,8 +14,7 @@ ghost use lib.IntN.{pos, natAbs, _-ℤ_, _*ℤ_};
 ghost use lib.ListN.{length};
 ghost use Rattle.octets.specs.Octets.{wordAt, word, puts};
 ghost use Rattle.rounding.specs.Scales.{exponentOf};
-ghost use Rattle.shifting.specs.Shift.{along};
-ghost use Rattle.moving.specs.Back.{backOf, twiceFrom, movedWord, Centred, Near};
+ghost use Rattle.moving.specs.Back.{backOf, movedWord, Centred, Near};
 ghost use Rattle.moving.specs.Moved.{movedVertex, movedVertices, movedFile, Written};
 
 // 2d - 1 times half of 2^-e, with s for e + 20: the nearest f32 of its size, with its sign, times the power.
@@ -31,7 +30,12 @@ fn back(d: i32, s: u32) -> f32
 
 // Moves the coordinate at a place by the shift along its axis.
 fn move_word(file: &mut [u8], at: usize, s: u32, shift: i32)
-    requires { ⌜ (at + 4 ≤ length (now file)) × (s ≤ 40) × (natAbs shift ≤ 1074266112) × Centred (exponentOf s) (wordAt (now file) at) ⌝ }
+    requires { ⌜ record {
+      file-room : at + 4 ≤ length (now file);
+      scale : s ≤ 40;
+      near : natAbs shift ≤ 1074266112;
+      centred : Centred (exponentOf s) (wordAt (now file) at);
+    } ⌝ }
     ensures { λ _. ⌜ now (file .exit) ≡ puts (now (file .entry)) at (word (movedWord (exponentOf s) shift (wordAt (now (file .entry)) at))) ⌝ }
 {
     let v = rounded(word_at(file, at), s);
@@ -40,8 +44,12 @@ fn move_word(file: &mut [u8], at: usize, s: u32, shift: i32)
 
 // Moves the vertex at a place.
 fn move_vertex(file: &mut [u8], at: usize, s: u32, shift: Shift)
-    requires { ⌜ (at + 12 ≤ length (now file)) × (s ≤ 40) × Near shift ⌝ }
-    requires { ⌜ ((k : ℕ) → k < 3 → Centred (exponentOf s) (wordAt (now file) (at + 4 * k))) ⌝ }
+    requires { ⌜ record {
+      file-room : at + 12 ≤ length (now file);
+      scale : s ≤ 40;
+      near : Near shift;
+      centred : (k : ℕ) → k < 3 → Centred (exponentOf s) (wordAt (now file) (at + 4 * k));
+    } ⌝ }
     ensures { λ _. ⌜ now (file .exit) ≡ puts (now (file .entry)) at (movedVertex (exponentOf s) shift (now (file .entry)) at) ⌝ }
 {
     move_word(file, at, s, shift.x);
@@ -51,8 +59,12 @@ fn move_vertex(file: &mut [u8], at: usize, s: u32, shift: Shift)
 
 // Moves the three vertices that begin at a place.
 fn move_vertices(file: &mut [u8], at: usize, s: u32, shift: Shift)
-    requires { ⌜ (at + 36 ≤ length (now file)) × (s ≤ 40) × Near shift ⌝ }
-    requires { ⌜ ((k : ℕ) → k < 9 → Centred (exponentOf s) (wordAt (now file) (at + 4 * k))) ⌝ }
+    requires { ⌜ record {
+      file-room : at + 36 ≤ length (now file);
+      scale : s ≤ 40;
+      near : Near shift;
+      centred : (k : ℕ) → k < 9 → Centred (exponentOf s) (wordAt (now file) (at + 4 * k));
+    } ⌝ }
     ensures { λ _. ⌜ now (file .exit) ≡ puts (now (file .entry)) at (movedVertices (exponentOf s) shift (now (file .entry)) at) ⌝ }
 {
     move_vertex(file, at, s, shift);
@@ -62,7 +74,12 @@ fn move_vertices(file: &mut [u8], at: usize, s: u32, shift: Shift)
 
 // Moves every vertex of a file of so many triangles that write_stl wrote with e, s being e + 20. All else keeps its bytes.
 pub fn move_back(file: &mut [u8], triangles: usize, s: u32, shift: Shift)
-    requires { ⌜ (84 + 50 * triangles ≤ length (now file)) × (s ≤ 40) × Near shift × Written (exponentOf s) triangles (now file) ⌝ }
+    requires { ⌜ record {
+      file-room : 84 + 50 * triangles ≤ length (now file);
+      scale : s ≤ 40;
+      near : Near shift;
+      written : Written (exponentOf s) triangles (now file);
+    } ⌝ }
     ensures { λ _. ⌜ now (file .exit) ≡ movedFile (exponentOf s) shift triangles (now (file .entry)) ⌝ }
 {
     let mut t: usize = 0;

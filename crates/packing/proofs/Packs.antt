@@ -19,7 +19,7 @@ use Rattle.reporting.proofs.Lent.{list-long}
 use Rattle.streaming.specs.Read.{Streamed}
 use Rattle.streaming.proofs.Opened.{open-done}
 use Rattle.job_making.specs.declared.Parts.{Parts}
-use Rattle.job_making.specs.Parts.{alone, Room, Makes}
+use Rattle.job_making.specs.Parts.{alone, JobRoom, Makes}
 use Rattle.packing.specs.Pack.{lentFile, packedTaken, jobOf}
 use Rattle.packing.specs.Read.{PackedAt, Packed}
 use Rattle.packing.proofs.Counted.{taken-count}
@@ -37,7 +37,7 @@ unfolding lentFile
 file-long = length-replicate {A = ℕ} 3701502 0
 
 -- it has room for any stream's job
-stream-room : (l : Level) (t : ℕ) → t ≤ 100000 → Room l t (length lentList) lentFile
+stream-room : (l : Level) (t : ℕ) → t ≤ 100000 → JobRoom l t (length lentList) lentFile
 stream-room l t few near = omega (arith, file-long, list-long, points-most l)
 
 -- ---- a stream that was taken

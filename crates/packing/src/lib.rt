@@ -35,7 +35,7 @@ fn empty_back() -> [u8; 65536]
 
 // Reads the triangles of a stream, repairs, and puts what stands before them in their job and what stands behind them, or a refusal.
 fn pack_at(level: u32, l: Level, front: &mut [u8], back: &mut [u8]) -> Parts
-    requires { ⌜ (level ≡ numberOf l) × (35966 ≤ length (now front)) × (65536 ≤ length (now back)) ⌝ }
+    requires { ⌜ record { level-is : level ≡ numberOf l; front-room : 35966 ≤ length (now front); back-room : 65536 ≤ length (now back) } ⌝ }
     ensures { λ r. ⌜ PackedAt l (now (front .exit)) (now (back .exit)) r ⌝ }
 {
     let mut grid = empty_grid();

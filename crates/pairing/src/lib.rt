@@ -21,7 +21,8 @@ ghost use Prim.Native.Nat.{_≤_, _<_, _-_};
 ghost use Rattle.rules.specs.Lattice.{coord};
 ghost use Rattle.rules.specs.Patch.{cut, patchOf};
 ghost use Rattle.rules.specs.Grid.{stored};
-ghost use Rattle.halving.specs.Halving.{Sized, Flipped, scanOf, Scanned, Placed, Fits, rowOf};
+ghost use Rattle.lattice.specs.Buffers.{BothSized};
+ghost use Rattle.halving.specs.Halving.{Flipped, scanOf, Scanned, SpotIn, CellBox, rowOf};
 
 // Takes one spot of a plane: a face that isn't in the working set is passed, one waits for a partner, the next is joined with it.
 fn pair_spot(
@@ -33,7 +34,13 @@ fn pair_spot(
     q: Spot,
     h: Unpaired,
 ) -> Unpaired
-    requires { ⌜ Sized n (now grid) (now work) × (1 ≤ m) × (m ≤ n) × Placed n q × Placed n (h .spot) ⌝ }
+    requires { ⌜ record {
+      sized : BothSized n (now grid) (now work);
+      plane-some : 1 ≤ m;
+      plane-most : m ≤ n;
+      q-placed : SpotIn n q;
+      unpaired : SpotIn n (h .spot);
+    } ⌝ }
     ensures { λ r. ⌜ Scanned n a m (q ∷ []) (scanOf h (now (grid .entry)) (now (work .entry))) (scanOf r (now (grid .exit)) (now (work .exit))) ⌝ }
 {
     let s = point_at(a, m, q.u, q.v);
@@ -63,7 +70,14 @@ fn pair_row(
     v: usize,
     first: Unpaired,
 ) -> Unpaired
-    requires { ⌜ Sized n (now grid) (now work) × (1 ≤ m) × (m ≤ n) × (to ≤ n) × (v < n) × Placed n (first .spot) ⌝ }
+    requires { ⌜ record {
+      sized : BothSized n (now grid) (now work);
+      plane-some : 1 ≤ m;
+      plane-most : m ≤ n;
+      to-most : to ≤ n;
+      row : v < n;
+      unpaired : SpotIn n (first .spot);
+    } ⌝ }
     ensures { λ r. ⌜ Scanned n a m (rowOf from (to - from) v) (scanOf first (now (grid .entry)) (now (work .entry)))
         (scanOf r (now (grid .exit)) (now (work .exit))) ⌝ }
 {
@@ -78,7 +92,7 @@ fn pair_row(
 
 // Takes the working faces in the plane m of a box in pairs, by rising point number, and joins each pair.
 fn cut_plane(n: usize, grid: &mut [u8], work: &mut [u8], b: Box, a: Axis, m: usize)
-    requires { ⌜ Sized n (now grid) (now work) × Fits n b × (coord a (b .lo) < m) × (m < coord a (b .hi)) ⌝ }
+    requires { ⌜ record { sized : BothSized n (now grid) (now work); fits : CellBox n b; lo-below : coord a (b .lo) < m; hi-above : m < coord a (b .hi) } ⌝ }
     ensures { λ _. ⌜ Flipped n (cut b (stored n (now (work .entry))) a m) (now (grid .entry)) (now (work .entry)) (now (grid .exit)) (now (work .exit)) ⌝ }
 {
     let lo = b.lo;
@@ -101,7 +115,7 @@ fn cut_plane(n: usize, grid: &mut [u8], work: &mut [u8], b: Box, a: Axis, m: usi
 
 // Patches a box: cuts its longest side, joins the working faces in the cut plane in pairs, and treats the two halves the same way.
 pub fn patch_box(n: usize, grid: &mut [u8], work: &mut [u8], b: Box)
-    requires { ⌜ Sized n (now grid) (now work) × Fits n b ⌝ }
+    requires { ⌜ BothSized n (now grid) (now work) × CellBox n b ⌝ }
     ensures { λ _. ⌜ Flipped n (patchOf b (stored n (now (work .entry)))) (now (grid .entry)) (now (work .entry)) (now (grid .exit)) (now (work .exit)) ⌝ }
 {
     if is_one_cell(n, b) {

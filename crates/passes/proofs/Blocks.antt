@@ -1,27 +1,27 @@
 -- Laws of a file's blocks, one behind another, in both passes. Assumes nothing.
 use mathlib.Core.Path.{_≡_, refl, sym, ap, _∙_}
 use mathlib.Core.List.{List, [], _++_, append-nil, append-assoc}
-use Prim.Native.Nat.{ℕ, zero, suc, _+_, _-_, _%_, _≤_, _<_}
+use Prim.Native.Nat.{ℕ, zero, suc, _-_, _%_, _≤_, _<_}
 use native.Mathlib.Omega.{arith}
 use lib.IntN.{ℤ}
 use lib.ListN.{length}
 use Rattle.lattice.specs.declared.level.Level.{Level}
 use Rattle.lattice.specs.Levels.{numberOf}
+use Rattle.lattice.specs.Buffers.{Ready}
 use Rattle.shifting.specs.declared.Shift.{Shift}
 use Rattle.measuring.specs.declared.Extent.{Extent}
 use Rattle.measuring.specs.Coordinates.{nothing}
 use Rattle.measuring.specs.Extents.{extentOf}
 use Rattle.feeding.specs.declared.Fed.{Fed}
 use Rattle.feeding.specs.declared.Fed.the-variants.{Marked, Refused}
-use Rattle.feeding.specs.Taken.{marked, refusedBy}
-use Rattle.feeding.specs.Feed.{Ready}
+use Rattle.feeding.specs.Taken.{refusedBy}
 use Rattle.stl_feeding.specs.declared.measure.Measured.{Measured}
 use Rattle.stl_feeding.specs.declared.measure.Measured.the-variants.{Seen, Refused as Stopped}
 use Rattle.stl_feeding.specs.Measured.{measured}
 use Rattle.stl_feeding.specs.Measure.{Measuring, after as afterSeen}
 use Rattle.stl_feeding.specs.Taken.{recordNumber, taken}
 use Rattle.stl_feeding.specs.Feed.{Feeding, after}
-use Rattle.passes.specs.Read.{Saw, MeasuredBy, Came, FedAll}
+use Rattle.passes.specs.Read.{Saw, MeasuredBy, CameAgain, FedAll}
 
 -- ---- where nothing is left of the file
 none-left : (all t : ℕ) → t < all → all - t ≡ suc (all - suc t)
@@ -75,7 +75,7 @@ module _ {all t : ℕ} {x : Extent} {s : List ℕ} (saw : Saw all t x) where
   saw-short u y f h = record { bytes = saw .bytes ++ s; ends = saw-end f ∙ rw (none-left all u h) refl }
 
 -- ---- the second
-pub came-none : (l : Level) (e : ℤ) (v : Shift) (all : ℕ) (g : List ℕ) → Came l e v all g 0 g
+pub came-none : (l : Level) (e : ℤ) (v : Shift) (all : ℕ) (g : List ℕ) → CameAgain l e v all g 0 g
 came-none l e v all g = record { bytes = []; goes-on = λ rest. ap (λ (n : ℕ). taken (numberOf l) e v n rest 0 g) (whole all) }
 
 -- a file that can't be read again: its first record is missing
@@ -87,8 +87,8 @@ nothing-taken l e v (suc n) g h = refl
 pub came-nothing : (l : Level) (e : ℤ) (v : Shift) (all : ℕ) (g : List ℕ) → 0 < all → Ready l g → FedAll l e v all g (Refused 10) g
 came-nothing l e v all g some r = record { bytes = []; ready = r; ends = nothing-taken l e v all g some }
 
-module _ {l : Level} {e : ℤ} {v : Shift} {all : ℕ} {g h : List ℕ} {t : ℕ} {s j : List ℕ} (came : Came l e v all g t h) where
-  pub came-more : (u : ℕ) → Feeding l e v all t s h (Marked u) j → length s % 50 ≡ 0 → Came l e v all g u j
+module _ {l : Level} {e : ℤ} {v : Shift} {all : ℕ} {g h : List ℕ} {t : ℕ} {s j : List ℕ} (came : CameAgain l e v all g t h) where
+  pub came-more : (u : ℕ) → Feeding l e v all t s h (Marked u) j → length s % 50 ≡ 0 → CameAgain l e v all g u j
   came-more u f z =
       record {
         bytes = came .bytes ++ s;

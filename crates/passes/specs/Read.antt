@@ -6,6 +6,7 @@ use Prim.Native.Nat.{ℕ, _-_}
 use lib.IntN.{ℤ}
 use Rattle.lattice.specs.declared.level.Level.{Level}
 use Rattle.lattice.specs.Levels.{numberOf}
+use Rattle.lattice.specs.Buffers.{Ready}
 use Rattle.shifting.specs.declared.Shift.{Shift}
 use Rattle.measuring.specs.declared.Extent.{Extent}
 use Rattle.measuring.specs.Coordinates.{nothing}
@@ -13,7 +14,6 @@ use Rattle.measuring.specs.Extents.{extentOf}
 use Rattle.feeding.specs.declared.Fed.{Fed}
 use Rattle.feeding.specs.declared.Fed.the-variants.{Marked, Refused}
 use Rattle.feeding.specs.Taken.{Taken, marked, refusedBy}
-use Rattle.feeding.specs.Feed.{Ready}
 use Rattle.stl_feeding.specs.declared.measure.Measured.{Measured}
 use Rattle.stl_feeding.specs.Measured.{measured}
 use Rattle.stl_feeding.specs.Taken.{taken}
@@ -28,7 +28,7 @@ pub record MeasuredBy (all : ℕ) (r : Measured) : Type 0 where
   pub ends : measured all bytes 0 (extentOf nothing) ≡ r
 
 -- ---- the second
-pub record Came (l : Level) (e : ℤ) (v : Shift) (all : ℕ) (g : List ℕ) (t : ℕ) (h : List ℕ) : Type 0 where
+pub record CameAgain (l : Level) (e : ℤ) (v : Shift) (all : ℕ) (g : List ℕ) (t : ℕ) (h : List ℕ) : Type 0 where
   pub bytes : List ℕ
   pub goes-on : (rest : List ℕ) → taken (numberOf l) e v all (bytes ++ rest) 0 g ≡ taken (numberOf l) e v (all - t) rest t h
 

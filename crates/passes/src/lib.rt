@@ -16,8 +16,8 @@ ghost use mathlib.Core.Path.{_≡_};
 ghost use Prim.Native.Nat.{_≤_, _<_};
 ghost use lib.ListN.{length};
 ghost use Rattle.rounding.specs.Scales.{exponentOf};
-ghost use Rattle.feeding.specs.Feed.{Ready};
 ghost use Rattle.passes.specs.Read.{MeasuredBy, FedAll};
+ghost use Rattle.lattice.specs.Buffers.{Ready};
 
 // Where the records of a file begin.
 const RECORDS: i64 = 84;
@@ -70,7 +70,7 @@ pub fn measure_all(all: u32) -> Measured
 
 // Reads so many records, and marks their triangles block by block.
 pub fn feed_all(l: Level, grid: &mut [u8], s: u32, shift: Shift, all: u32) -> Fed
-    requires { ⌜ (s ≤ 40) × Ready l (now grid) × (0 < all) ⌝ }
+    requires { ⌜ record { scale : s ≤ 40; ready : Ready l (now grid); some : 0 < all } ⌝ }
     ensures { λ r. ⌜ FedAll l (exponentOf s) shift all (now (grid .entry)) r (now (grid .exit)) ⌝ }
 {
     let mut triangles: u32 = 0;
@@ -93,7 +93,7 @@ pub fn feed_all(l: Level, grid: &mut [u8], s: u32, shift: Shift, all: u32) -> Fe
 
 // Reads so many records from the first on once more, and marks their triangles. A file that can't be read again has none.
 pub fn feed_again(l: Level, grid: &mut [u8], s: u32, shift: Shift, all: u32) -> Fed
-    requires { ⌜ (s ≤ 40) × Ready l (now grid) × (0 < all) ⌝ }
+    requires { ⌜ record { scale : s ≤ 40; ready : Ready l (now grid); some : 0 < all } ⌝ }
     ensures { λ r. ⌜ FedAll l (exponentOf s) shift all (now (grid .entry)) r (now (grid .exit)) ⌝ }
 {
     if libc::lseek(STDIN_FILENO, RECORDS, SEEK_SET) != RECORDS {

@@ -15,8 +15,8 @@ ghost use mathlib.Core.Bool.{true};
 ghost use mathlib.Core.List.{List};
 ghost use Prim.Native.Nat.{ℕ, _≤_};
 ghost use lib.ListN.{length};
-ghost use Rattle.rules.specs.Lattice.{pointCount};
 ghost use Rattle.rules.specs.Grid.{isGrid};
+ghost use Rattle.lattice.specs.Buffers.{BothSized};
 ghost use Rattle.totals.specs.Totals.{blockCount, trued};
 ghost use Rattle.mending.specs.Between.{Mends};
 ghost use Rattle.patching.specs.Call.{told, counted, patchDone, patchCall};
@@ -64,8 +64,12 @@ pub fn patch(level: u32, grid: &mut [u8], work: &mut [u8], totals: &mut [u16]) -
 
 // Patches what is known to be a grid of n cells a side, and makes every total true. Its buffers and its table are long enough.
 fn patch_held(n: usize, grid: &mut [u8], work: &mut [u8], totals: &mut [u16]) -> Counts
-    requires { ⌜ (1 ≤ n) × (n ≤ 32) × (pointCount n ≤ length (now grid)) × (pointCount n ≤ length (now work)) × (isGrid n (now grid) ≡ true) ⌝ }
-    requires { ⌜ blockCount n ≤ length (now totals) ⌝ }
+    requires { ⌜ record {
+      some : 1 ≤ n;
+      sized : BothSized n (now grid) (now work);
+      is-grid : isGrid n (now grid) ≡ true;
+      totals-long : blockCount n ≤ length (now totals);
+    } ⌝ }
     ensures { λ r. ⌜ counted (r .rims) (r .flips) (r .ones) (r .threes) (now (grid .exit)) (now (work .exit)) (now (totals .exit))
         ≡ patchDone n (now (grid .entry)) (now (work .entry)) (now (totals .entry)) ⌝ }
 {
@@ -81,7 +85,7 @@ fn patch_held(n: usize, grid: &mut [u8], work: &mut [u8], totals: &mut [u16]) ->
 
 // The same without a table: whatever table there is, once it is true of the grid that is left, the call has done what it promises.
 pub fn patch_grid(n: usize, grid: &mut [u8], work: &mut [u8]) -> Counts
-    requires { ⌜ (1 ≤ n) × (n ≤ 32) × (pointCount n ≤ length (now grid)) × (pointCount n ≤ length (now work)) × (isGrid n (now grid) ≡ true) ⌝ }
+    requires { ⌜ record { some : 1 ≤ n; sized : BothSized n (now grid) (now work); is-grid : isGrid n (now grid) ≡ true } ⌝ }
     ensures { λ r. ⌜ ((s : List ℕ) → counted (r .rims) (r .flips) (r .ones) (r .threes) (now (grid .exit)) (now (work .exit)) (trued n (now (grid .exit)) s)
         ≡ patchDone n (now (grid .entry)) (now (work .entry)) s) ⌝ }
 {
@@ -104,7 +108,7 @@ struct Mended {
 
 // Patches every rim of a grid; its marks as they came stay put by beside those that they are now.
 fn patch_rims(n: usize, grid: &mut [u8], work: &mut [u8]) -> Mended
-    requires { ⌜ (1 ≤ n) × (n ≤ 32) × (pointCount n ≤ length (now grid)) × (pointCount n ≤ length (now work)) × (isGrid n (now grid) ≡ true) ⌝ }
+    requires { ⌜ record { some : 1 ≤ n; sized : BothSized n (now grid) (now work); is-grid : isGrid n (now grid) ≡ true } ⌝ }
     ensures { λ r. ⌜ Mends n (now (grid .entry)) (now (work .entry)) (now (grid .exit)) (now (work .exit)) (r .rims) (r .ones) (r .threes) ⌝ }
 {
     let came = find_odd(n, grid, work);

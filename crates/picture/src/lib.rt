@@ -16,6 +16,7 @@ ghost use Rattle.rules.specs.Lists.{count};
 ghost use Rattle.rules.specs.Lattice.{OfGrid, points, pointNumber, pointCount};
 ghost use Rattle.rules.specs.Grid.{saysInside, inside, isGrid, marks};
 ghost use Rattle.lattice.specs.Levels.{cellsOf, pointsOf};
+ghost use Rattle.lattice.specs.Buffers.{Sized};
 ghost use Rattle.text.specs.Text.{Put};
 ghost use Rattle.picture.specs.Picture.{character, oneWith, letter, faceLetter, drawn, lineEnd, picture};
 
@@ -81,7 +82,7 @@ fn letter_of(x: u8, y: u8, z: u8) -> u8
 
 // The letter of a point and its number, by the face test. The faces of the last layer have no mark.
 fn letter_at(n: usize, grid: &[u8], p: usize, q: Point) -> u8
-    requires { ⌜ (n ≤ 32) × (pointCount n ≤ length (now grid)) × (isGrid n (now grid) ≡ true) × OfGrid n q × (p ≡ pointNumber n q) ⌝ }
+    requires { ⌜ record { sized : Sized n (now grid); is-grid : isGrid n (now grid) ≡ true; on-grid : OfGrid n q; number-is : p ≡ pointNumber n q } ⌝ }
     ensures { λ r. ⌜ r ≡ faceLetter (marks n (now (grid .entry))) q ⌝ }
 {
     if q.k == n {
@@ -95,7 +96,7 @@ fn letter_at(n: usize, grid: &[u8], p: usize, q: Point) -> u8
 
 // What is drawn at a point, by its number.
 fn drawn_at(w: Drawn, n: usize, grid: &[u8], p: usize, q: Point) -> u8
-    requires { ⌜ (n ≤ 32) × (pointCount n ≤ length (now grid)) × (isGrid n (now grid) ≡ true) × OfGrid n q × (p ≡ pointNumber n q) ⌝ }
+    requires { ⌜ record { sized : Sized n (now grid); is-grid : isGrid n (now grid) ≡ true; on-grid : OfGrid n q; number-is : p ≡ pointNumber n q } ⌝ }
     ensures { λ r. ⌜ r ≡ drawn w n (now (grid .entry)) q ⌝ }
 {
     match w {
@@ -120,7 +121,7 @@ fn put_end(out: &mut [u8], at: usize, n: usize, p: Point) -> usize
 
 // Puts the picture of what is drawn of a grid, and answers its length.
 pub fn put_picture(out: &mut [u8], n: usize, grid: &[u8], w: Drawn) -> usize
-    requires { ⌜ (n ≤ 32) × (pointCount n ≤ length (now grid)) × (3 * pointCount n ≤ length (now out)) × (isGrid n (now grid) ≡ true) ⌝ }
+    requires { ⌜ record { sized : Sized n (now grid); out-room : 3 * pointCount n ≤ length (now out); is-grid : isGrid n (now grid) ≡ true } ⌝ }
     ensures { λ r. ⌜ Put (now (out .entry)) 0 (picture n (drawn w n (now (grid .entry)))) (now (out .exit)) r × (r ≤ 3 * pointCount n) ⌝ }
 {
     let count = point_count(n);

@@ -17,7 +17,7 @@ use Rattle.wording.specs.declared.Order.{Order}
 use Rattle.wording.specs.declared.Word.{Word}
 use Rattle.wording.specs.declared.Word.the-variants.{Known as Asks, Bad}
 use Rattle.wording.specs.Word.{digitOf, scaleOf, isMode, isWant, asked, wordOf}
-use Rattle.planning.specs.Read.{Sound}
+use Rattle.planning.specs.Read.{SoundOrder}
 
 -- e + 20 of a scale that is known
 abbrev isAt : Scale → Bool
@@ -49,7 +49,7 @@ orderIn (Asks o) p = o
 orderIn Bad p = p
 
 asked-sound : (r : LevelRead) (level m : ℕ) (known : Bool) (s : Scale) (w : ℕ) (wanted : Bool) (o : Order)
-    → ((l : Level) → r ≡ Known l → level ≡ numberOf l) → ((k : ℕ) → s ≡ At k → k ≤ 40) → asked r level m known s w wanted ≡ Asks o → Sound o
+    → ((l : Level) → r ≡ Known l → level ≡ numberOf l) → ((k : ℕ) → s ≡ At k → k ≤ 40) → asked r level m known s w wanted ≡ Asks o → SoundOrder o
 asked-sound Unknown level m known s w wanted o f g e = absurd (true≢false (sym (ap isAsked e)))
 asked-sound (Known l) level m false s w wanted o f g e = absurd (true≢false (sym (ap isAsked e)))
 asked-sound (Known l) level m true NoScale w wanted o f g e = absurd (true≢false (sym (ap isAsked e)))
@@ -58,7 +58,7 @@ asked-sound (Known l) level m true (At s) w true o f g e =
     let d = ap (λ (x : Word). orderIn x o) e in
     rw (sym d) (record { level-is = f l refl; scale-most = g s refl })
 
-pub word-sound : (w : List ℕ) (o : Order) → wordOf w ≡ Asks o → Sound o
+pub word-sound : (w : List ℕ) (o : Order) → wordOf w ≡ Asks o → SoundOrder o
 unfolding wordOf
 word-sound w o e = go (eqb (length w) 5) e
   where
@@ -67,7 +67,7 @@ word-sound w o e = go (eqb (length w) 5) e
         (asked (levelOf (digitOf (getD w 0 0))) (digitOf (getD w 0 0)) (getD w 1 0) (isMode (getD w 1 0)) (scaleOf (getD w 2 0) (getD w 3 0)) (getD w 4 0)
         (isWant (getD w 4 0)))
         Bad
-        ≡ Asks o → Sound o
+        ≡ Asks o → SoundOrder o
     go true f =
         asked-sound (levelOf (digitOf (getD w 0 0))) (digitOf (getD w 0 0)) (getD w 1 0) (isMode (getD w 1 0)) (scaleOf (getD w 2 0) (getD w 3 0)) (getD w 4 0)
         (isWant (getD w 4 0)) o

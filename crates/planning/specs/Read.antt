@@ -4,11 +4,11 @@ use mathlib.Core.Path.{_≡_}
 use mathlib.Core.List.{List}
 use Prim.Native.Nat.{ℕ, _≤_, _<_}
 use Rattle.lattice.specs.Levels.{numberOf}
+use Rattle.lattice.specs.Buffers.{Ready}
 use Rattle.measuring.specs.declared.Extent.{Extent}
 use Rattle.measuring.specs.Coordinates.{Model}
 use Rattle.measuring.specs.Extents.{Measures}
 use Rattle.moving.specs.Back.{Near}
-use Rattle.feeding.specs.Feed.{Ready}
 use Rattle.standing.specs.Stand.{planOf}
 use Rattle.wording.specs.declared.Order.{Order}
 use Rattle.planning.specs.declared.Source.{Source}
@@ -19,14 +19,14 @@ use Rattle.planning.specs.Plan.{planned, planOfRecords, planOfFile, plan
 
 -- ---- a word that was read
 -- the level's number, and e + 20 from 0 to 40
-pub record Sound (o : Order) : Type 0 where
+pub record SoundOrder (o : Order) : Type 0 where
   pub level-is : o .level ≡ numberOf (o .l)
   pub scale-most : o .scale ≤ 40
 
 -- ---- a model that stands
 -- e from -20 to 20, a shift that is not too far, and one triangle at least
 abbrev pub Steady : Answer → Type 0
-Steady (Stands o all at) = Sound o × (at .s ≤ 40) × Near (at .shift) × (0 < all)
+Steady (Stands o all at) = SoundOrder o × (at .s ≤ 40) × Near (at .shift) × (0 < all)
 Steady (Stops w) = Unit {0}
 
 -- ---- plans
@@ -67,7 +67,7 @@ marksIn (Stops w) g = says w
 
 -- a model that stands, and a grid of its level with its marks
 abbrev pub Stood : Answer → List ℕ → Type 0
-Stood (Stands o t at) g = Sound o × (at .s ≤ 40) × Near (at .shift) × Ready (o .l) g
+Stood (Stands o t at) g = SoundOrder o × (at .s ≤ 40) × Near (at .shift) × Ready (o .l) g
 Stood (Stops w) g = Unit {0}
 
 pub record Marked (word : List ℕ) (r : Answer) (g : List ℕ) : Type 0 where

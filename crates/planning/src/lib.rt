@@ -24,7 +24,7 @@ ghost use lib.ListN.{length};
 ghost use Rattle.text.specs.Text.{Put};
 ghost use Rattle.placing.specs.Fitted.{Measured as Measurable};
 ghost use Rattle.planning.specs.Plan.{saidOf, rightSize, lengthNumber};
-ghost use Rattle.planning.specs.Read.{Sound, PlansMeasured, PlansRecords, PlansFile, PlansInput, Planned as PlannedBy, Marked};
+ghost use Rattle.planning.specs.Read.{SoundOrder, PlansMeasured, PlansRecords, PlansFile, PlansInput, Planned as PlannedBy, Marked};
 ghost use Rattle.reporting.specs.Report.{lentBytes};
 
 // What standard input is: a file of so many bytes, or something else.
@@ -104,7 +104,7 @@ fn length_number(front: &[u8], size: usize) -> u32
 
 // Finds where a model with this extent stands.
 fn plan_measured(order: Order, all: u32, extent: Extent) -> Planned
-    requires { ⌜ Sound order × Measurable extent × (0 < all) ⌝ }
+    requires { ⌜ record { sound : SoundOrder order; measurable : Measurable extent; some : 0 < all } ⌝ }
     ensures { λ r. ⌜ PlansMeasured order all extent r ⌝ }
 {
     let l = order.l;
@@ -121,7 +121,7 @@ fn plan_measured(order: Order, all: u32, extent: Extent) -> Planned
 
 // Measures so many records, and finds where their model stands.
 fn plan_records(order: Order, all: u32) -> Planned
-    requires { ⌜ Sound order × (0 < all) ⌝ }
+    requires { ⌜ SoundOrder order × (0 < all) ⌝ }
     ensures { λ r. ⌜ PlansRecords order all r ⌝ }
 {
     match measure_all(all) {
@@ -135,7 +135,7 @@ fn plan_records(order: Order, all: u32) -> Planned
 
 // Reads a file of so many bytes, its front first, and finds where its model stands.
 fn plan_file(order: Order, size: usize) -> Planned
-    requires { ⌜ Sound order ⌝ }
+    requires { ⌜ SoundOrder order ⌝ }
     ensures { λ r. ⌜ PlansFile order size r ⌝ }
 {
     let mut front = [0u8; 84];
@@ -153,7 +153,7 @@ fn plan_file(order: Order, size: usize) -> Planned
 
 // Reads standard input, which has to be a file, and finds where its model stands.
 pub fn plan_input(order: Order) -> Planned
-    requires { ⌜ Sound order ⌝ }
+    requires { ⌜ SoundOrder order ⌝ }
     ensures { λ r. ⌜ PlansInput order r ⌝ }
 {
     match size_of_input() {

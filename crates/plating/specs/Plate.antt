@@ -9,7 +9,7 @@ use Rattle.planning.specs.Plan.{saidOf}
 use Rattle.planning.specs.Marks.{Marks, marks, says, marksOf}
 use Rattle.telling.specs.declared.Parts.{Parts}
 use Rattle.telling.specs.Told.{toldOf}
-use Rattle.telling.specs.Parts.{writes, Fits}
+use Rattle.telling.specs.Parts.{writes, PartsFit}
 
 -- everything that is told of a model whose triangles are marked, or what is said in its place
 abbrev pub toldMarks : Marks → List ℕ
@@ -26,5 +26,5 @@ pub record Plated (word head faces layers masks quads file : List ℕ) (p : Part
   pub front : List ℕ
   pub first : List ℕ
   pub second : List ℕ
-  pub fits : Fits head faces layers masks quads file p
+  pub fits : PartsFit head faces layers masks quads file p
   pub text : writes head faces layers masks quads file p ≡ plateOf word source front first second

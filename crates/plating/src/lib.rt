@@ -22,8 +22,14 @@ pub fn plate_model(
     quads: &mut [u8],
     file: &mut [u8],
 ) -> Parts
-    requires { ⌜ (300 ≤ length (now head)) × (107811 ≤ length (now faces)) × (107811 ≤ length (now layers)) × (5742 ≤ length (now masks)) ⌝ }
-    requires { ⌜ (262144 ≤ length (now quads)) × (now file ≡ lentFile) ⌝ }
+    requires { ⌜ record {
+      head-room : 300 ≤ length (now head);
+      faces-room : 107811 ≤ length (now faces);
+      layers-room : 107811 ≤ length (now layers);
+      masks-room : 5742 ≤ length (now masks);
+      quads-room : 262144 ≤ length (now quads);
+      file-lent : now file ≡ lentFile;
+    } ⌝ }
     ensures { λ r. ⌜ Plated (now (word .entry)) (now (head .exit)) (now (faces .exit)) (now (layers .exit)) (now (masks .exit)) (now (quads .exit))
         (now (file .exit)) r ⌝ }
 {

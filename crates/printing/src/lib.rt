@@ -7,7 +7,7 @@ use plating::plate_model;
 use telling::Parts;
 ghost use mathlib.Core.Path.{_≡_};
 ghost use lib.ListN.{length, replicate};
-ghost use Rattle.telling.specs.Parts.{Fits};
+ghost use Rattle.telling.specs.Parts.{PartsFit};
 
 // Room for the five lines, or for what else is said.
 fn empty_head() -> [u8; 300]
@@ -47,7 +47,7 @@ fn write_parts(
     quads: &[u8],
     file: &[u8],
 )
-    requires { ⌜ Fits (now head) (now faces) (now layers) (now masks) (now quads) (now file) parts ⌝ }
+    requires { ⌜ PartsFit (now head) (now faces) (now layers) (now masks) (now quads) (now file) parts ⌝ }
 {
     if !write_part(head, parts.head) {
         return;

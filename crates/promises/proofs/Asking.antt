@@ -15,7 +15,7 @@ use Rattle.refusals.proofs.Answered.{answered-number, answered-refused}
 use Rattle.refusals.proofs.Reasons.{read-back}
 use Rattle.asking.specs.declared.AskAnswer.{AskAnswer}
 use Rattle.asking.specs.declared.AskAnswer.the-variants.{Yes, No, Refused}
-use Rattle.asking.specs.Call.{Outcome, Counted, refused, told, anyRows, anyCall, tableRows, trueCall, countTold, countRefused, countDone, countCall}
+use Rattle.asking.specs.Call.{Outcome, CountOutcome, refused, told, anyRows, anyCall, tableRows, trueCall, countTold, countRefused, countDone, countCall}
 use Rattle.promises.proofs.OneOutcome.{settled}
 
 -- ---- any mark
@@ -63,7 +63,7 @@ module _ (level : ℕ) (g t : List ℕ) where
   -- a refusal changes no entry
   pub count-untouched : countCall level g t .number ≢ 0 → countCall level g t .totals ≡ t
   unfolding countDone countCall
-  count-untouched n = ap (λ (o : Counted). o .totals) (answered-refused (λ o. o .number) (countRefused t) _ (λ i. refl) refl (tableRows level g t) n)
+  count-untouched n = ap (λ (o : CountOutcome). o .totals) (answered-refused (λ o. o .number) (countRefused t) _ (λ i. refl) refl (tableRows level g t) n)
 
 -- the numbers of the rows rise, so that where several apply the lowest number is given
 pub any-rise : (level : ℕ) (g t : List ℕ) (l h : Point) → rising 0 (anyRows level g t l h) ≡ true

@@ -5,7 +5,6 @@ use mathlib.Core.Bool.{Bool}
 use mathlib.Core.List.{List}
 use mathlib.Core.Logic.{_↔_}
 use Prim.Native.Nat.{ℕ}
-use native.Mathlib.Omega.{arith}
 use borrow.Author.Tests.{ltb-false}
 use lib.IntN.{ℤ}
 use lib.ListN.{length}
@@ -83,12 +82,12 @@ pub counted-true : (L : ℕ) (g u : List ℕ) → countCall L g u .number ≡ 0 
 unfolding tableRows countDone countCall
 counted-true L g u e =
     let r = answered-done (λ o. o .number) (Asking.countRefused u) (countDone (cells L) g u) (λ i. refl) refl (tableRows L g u) refl e in
-    subst (λ (o : Asking.Counted). True (cells L) g (o .totals)) (sym (r .1)) (trued-true (cells L) g u)
+    subst (λ (o : Asking.CountOutcome). True (cells L) g (o .totals)) (sym (r .1)) (trued-true (cells L) g u)
 
 pub counted-past : (L : ℕ) (g u : List ℕ) → pastBlocks L (countCall L g u .totals) ≡ pastBlocks L u
 unfolding countDone countCall
 counted-past L g u =
-    answered-both (λ (o : Asking.Counted). pastBlocks L (o .totals) ≡ pastBlocks L u) (Asking.countRefused u) (countDone (cells L) g u) (λ k. refl)
+    answered-both (λ (o : Asking.CountOutcome). pastBlocks L (o .totals) ≡ pastBlocks L u) (Asking.countRefused u) (countDone (cells L) g u) (λ k. refl)
     (trued-past (cells L) g u) (tableRows L g u)
 
 -- ---- asking a table

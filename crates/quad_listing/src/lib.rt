@@ -9,15 +9,13 @@ use refusals::Refusal;
 use surfacing::SurfaceAnswer;
 ghost use mathlib.Core.Path.{_≡_};
 ghost use mathlib.Core.Bool.{true};
-ghost use Prim.Native.Nat.{_≤_};
-ghost use lib.ListN.{length};
-ghost use Rattle.rules.specs.Lattice.{pointCount};
 ghost use Rattle.rules.specs.Grid.{marks, inside, isGrid};
+ghost use Rattle.lattice.specs.Buffers.{Sized};
 ghost use Rattle.surfacing.specs.Call.{told, listed, surfaceCall};
 
 // Lists the quads of a grid, if the list has room for them.
 pub fn list_quads(n: usize, grid: &[u8], list: &mut [u16]) -> SurfaceAnswer
-    requires { ⌜ (n ≤ 32) × (pointCount n ≤ length (now grid)) × (isGrid n (now grid) ≡ true) ⌝ }
+    requires { ⌜ Sized n (now grid) × (isGrid n (now grid) ≡ true) ⌝ }
     ensures { λ r. ⌜ told r (now (list .exit)) ≡ listed n (marks n (now (grid .entry))) (inside n (now (grid .entry))) (now (list .entry)) ⌝ }
 {
     let quads = count_quads(n, grid);

@@ -19,7 +19,8 @@ use Rattle.surfacing.specs.Listing.{cellStep}
 use Rattle.surfacing.specs.Sides.{Four, four, begun}
 use Rattle.surfacing.proofs.Around.{inner→, number-down, down-other}
 use Rattle.quad_reading.specs.Same.{sameQuad}
-use Rattle.quad_reading.specs.Read.{Reading, Nothing, Of, isSome, cellAt, stepAxis, turnFor, axisFor, isQuad, tryEdge, readAt, highest, read, Fits}
+use Rattle.quad_reading.specs.Read.{Reading, Nothing, Of, isSome, cellAt, stepAxis, turnFor, axisFor, isQuad, tryEdge, readAt, highest, read}
+use Rattle.quad_reading.specs.Read.{InnerOrNothing}
 use Rattle.quad_reading.proofs.Same.{four→, four-self, quad-self, quad-cases, quad-same, is-begun}
 
 -- ---- a cell by its number
@@ -238,11 +239,11 @@ read-same n q r big e f =
     read-some n q (k .0) (k .1) (k .2) big (k .3) (quad-same q r e (four n (k .0) (k .1) (k .2)) ∙ k .4)
 
 -- ---- what is read is an inner edge
-pub fits-read : (n : ℕ) (q : Four) → Fits n (read n q)
-unfolding Fits
+pub fits-read : (n : ℕ) (q : Four) → InnerOrNothing n (read n q)
+unfolding InnerOrNothing
 fits-read n q = go (read n q) (read-sound n q)
   where
-    go : (r : Reading) → Sound n q r → Fits n r
+    go : (r : Reading) → Sound n q r → InnerOrNothing n r
     go r none-read = tt
     go r (edge-read t a p e f) = e
 
@@ -252,6 +253,6 @@ inner-grid n X p e = let k = inner→ n X p e .cell in (omega arith, k .i)
 inner-grid n Y p e = let k = inner→ n Y p e .cell in (omega arith, k .j)
 inner-grid n Z p e = let k = inner→ n Z p e .cell in (omega arith, k .k)
 
-pub fits-of : (n : ℕ) (r : Reading) (t : Bool) (a : Axis) (p : Point) → Fits n r → r ≡ Of t a p → inner n a p ≡ true
-unfolding Fits
-fits-of n r t a p h e = subst (Fits n) e h
+pub fits-of : (n : ℕ) (r : Reading) (t : Bool) (a : Axis) (p : Point) → InnerOrNothing n r → r ≡ Of t a p → inner n a p ≡ true
+unfolding InnerOrNothing
+fits-of n r t a p h e = subst (InnerOrNothing n) e h

@@ -64,6 +64,6 @@ read n q =
     cond (highest q) (readAt n q) (cond (highest r) (readAt n r) (cond (highest s) (readAt n s) (readAt n (begun s))))
 
 -- what was read is an inner edge, or nothing
-unfoldable pub Fits : ℕ → Reading → Type 0
-Fits n Nothing = Unit {0}
-Fits n (Of t a p) = inner n a p ≡ true
+unfoldable pub InnerOrNothing : ℕ → Reading → Type 0
+InnerOrNothing n Nothing = Unit {0}
+InnerOrNothing n (Of t a p) = inner n a p ≡ true

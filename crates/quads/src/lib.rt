@@ -12,10 +12,11 @@ ghost use mathlib.Core.List.{[], _∷_};
 ghost use Prim.Native.Nat.{_+_, _*_, _≤_, _<_};
 ghost use lib.ListN.{length};
 ghost use lib.Seq.{sets};
-ghost use Rattle.rules.specs.Lattice.{inner, cellNumber, pointCount};
+ghost use Rattle.rules.specs.Lattice.{inner, cellNumber};
 ghost use Rattle.rules.specs.Grid.{has, marks, inside, isGrid, byteMarks};
 ghost use Rattle.rules.specs.Quads.{next};
 ghost use Rattle.lattice.specs.Cells.{Cell};
+ghost use Rattle.lattice.specs.Buffers.{Sized};
 ghost use Rattle.surfacing.specs.Call.{surfaceDone};
 ghost use Rattle.surfacing.specs.Listing.{quadCount, cellStep, byteQuad, byteQuads, MarksInner};
 
@@ -64,7 +65,11 @@ fn put_four(list: &mut [u16], at: usize, a: u16, b: u16, c: u16, d: u16)
 
 // Writes the quad of the edge along a at the point q, if q's byte b has its mark, and answers where the next one goes.
 fn put_quad(n: usize, b: u8, inside: bool, a: Axis, q: Point, list: &mut [u16], at: usize) -> usize
-    requires { ⌜ (n ≤ 32) × (has a b ≡ true → inner n a q ≡ true) × (at + length (byteQuad n b inside a q) ≤ length (now list)) ⌝ }
+    requires { ⌜ record {
+      small : n ≤ 32;
+      is-inner : has a b ≡ true → inner n a q ≡ true;
+      list-room : at + length (byteQuad n b inside a q) ≤ length (now list);
+    } ⌝ }
     ensures { λ r. ⌜ (r ≡ at + length (byteQuad n b inside a q)) × (now (list .exit) ≡ sets (now (list .entry)) at (byteQuad n b inside a q)) ⌝ }
 {
     if !bit(b, a) {
@@ -87,7 +92,7 @@ fn put_quad(n: usize, b: u8, inside: bool, a: Axis, q: Point, list: &mut [u16], 
 
 // Writes the quads of the three edges at the point q, b being its byte, and answers where the next one goes. Most points have no mark.
 fn put_quads(n: usize, b: u8, inside: bool, q: Point, list: &mut [u16], at: usize) -> usize
-    requires { ⌜ (n ≤ 32) × MarksInner n b q × (at + length (byteQuads n b inside q) ≤ length (now list)) ⌝ }
+    requires { ⌜ record { small : n ≤ 32; marks-inner : MarksInner n b q; list-room : at + length (byteQuads n b inside q) ≤ length (now list) } ⌝ }
     ensures { λ r. ⌜ (r ≡ at + length (byteQuads n b inside q)) × (now (list .exit) ≡ sets (now (list .entry)) at (byteQuads n b inside q)) ⌝ }
 {
     if low(b) == 0 {
@@ -108,7 +113,7 @@ fn marks_in(b: u8) -> usize
 
 // The number of quads: one for each marked edge.
 pub fn count_quads(n: usize, grid: &[u8]) -> usize
-    requires { ⌜ (n ≤ 32) × (pointCount n ≤ length (now grid)) × (isGrid n (now grid) ≡ true) ⌝ }
+    requires { ⌜ Sized n (now grid) × (isGrid n (now grid) ≡ true) ⌝ }
     ensures { λ r. ⌜ (r ≡ quadCount n (marks n (now (grid .entry)))) × (r ≤ 107811) ⌝ }
 {
     let count = point_count(n);
@@ -123,7 +128,11 @@ pub fn count_quads(n: usize, grid: &[u8]) -> usize
 
 // Writes the quads into a list that has room for them.
 pub fn write_quads(n: usize, grid: &[u8], list: &mut [u16])
-    requires { ⌜ (n ≤ 32) × (pointCount n ≤ length (now grid)) × (isGrid n (now grid) ≡ true) × (4 * quadCount n (marks n (now grid)) ≤ length (now list)) ⌝ }
+    requires { ⌜ record {
+      sized : Sized n (now grid);
+      is-grid : isGrid n (now grid) ≡ true;
+      list-room : 4 * quadCount n (marks n (now grid)) ≤ length (now list);
+    } ⌝ }
     ensures { λ _. ⌜ now (list .exit) ≡ surfaceDone n (marks n (now (grid .entry))) (inside n (now (grid .entry))) (now (list .entry)) .list ⌝ }
 {
     let count = point_count(n);

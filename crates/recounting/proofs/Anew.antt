@@ -14,7 +14,7 @@ use Rattle.rules.specs.declared.Box.{Box}
 use Rattle.rules.specs.Lists.{upto}
 use Rattle.rules.specs.Lattice.{Set, samePoint, pointNumber, pointCount, OfGrid, cellIn}
 use Rattle.rules.specs.Grid.{marks, isGrid}
-use Rattle.rules.specs.Patch.{side, extent}
+use Rattle.rules.specs.Patch.{side}
 use Rattle.rules.proofs.Bits.{Bounds, is-false}
 use Rattle.rules.proofs.Boxes.{InBox, inBox→}
 use Rattle.rules.proofs.Lists.{upto-more}

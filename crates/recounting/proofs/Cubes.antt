@@ -1,9 +1,9 @@
 -- Cubes of blocks: where the cube of their cells is dropped none got a mark, one block is a single one, and a cube has the blocks of its
 -- eighths. Assumes nothing.
 use mathlib.Core.Path.{_≡_, refl, sym, ap, _∙_}
-use mathlib.Core.Bool.{Bool, true, false, _&&_, _||_, true≢false, and-false, and-or-distrib-right}
+use mathlib.Core.Bool.{Bool, true, false, _&&_, true≢false, and-false, and-or-distrib-right}
 use mathlib.Core.List.{List}
-use Prim.Native.Nat.{ℕ, suc, _+_, _*_, _/_, _^_, _≤_, _<_}
+use Prim.Native.Nat.{ℕ, suc, _+_, _*_, _/_, _^_, _≤_}
 use native.Mathlib.Nat.{pow-succ'}
 use native.Mathlib.Omega.{arith}
 use lib.ListN.{length}

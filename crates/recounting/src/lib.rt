@@ -27,8 +27,9 @@ ghost use mathlib.Core.Path.{_≡_};
 ghost use mathlib.Core.Bool.{true};
 ghost use Prim.Native.Nat.{_/_, _≤_, _<_};
 ghost use lib.ListN.{length};
-ghost use Rattle.rules.specs.Lattice.{pointCount, OfGrid};
+ghost use Rattle.rules.specs.Lattice.{OfGrid};
 ghost use Rattle.lattice.specs.Levels.{cellsOf, pointsOf};
+ghost use Rattle.lattice.specs.Buffers.{Sized};
 ghost use Rattle.triangles.specs.Meets.{Inside};
 ghost use Rattle.meeting.specs.Within.{TriangleWithin};
 ghost use Rattle.meeting.specs.Met.{met};
@@ -41,7 +42,7 @@ ghost use Rattle.recounting.specs.Beside.{Beside, CubeRecounted};
 
 // Counts a block anew.
 fn recount(n: usize, grid: &[u8], table: &mut [u16], c: Point)
-    requires { ⌜ (n ≤ 32) × (pointCount n ≤ length (now grid)) × (blockCount n ≤ length (now table)) × OfGrid (n / 4) c ⌝ }
+    requires { ⌜ record { sized : Sized n (now grid); table-long : blockCount n ≤ length (now table); block : OfGrid (n / 4) c } ⌝ }
     ensures { λ _. ⌜ now (table .exit) ≡ blockAnew n (now (grid .entry)) c (now (table .entry)) ⌝ }
 {
     let q = number_of(n / 4, c);
@@ -50,7 +51,13 @@ fn recount(n: usize, grid: &[u8], table: &mut [u16], c: Point)
 
 // Counts the row (j, k) of a box of blocks anew.
 fn recount_row(n: usize, grid: &[u8], table: &mut [u16], b: Box, k: usize, j: usize)
-    requires { ⌜ (n ≤ 32) × (pointCount n ≤ length (now grid)) × (blockCount n ≤ length (now table)) × OfBlocks n b × (k ≤ n / 4) × (j ≤ n / 4) ⌝ }
+    requires { ⌜ record {
+      sized : Sized n (now grid);
+      table-long : blockCount n ≤ length (now table);
+      blocks : OfBlocks n b;
+      layer : k ≤ n / 4;
+      row : j ≤ n / 4;
+    } ⌝ }
     ensures { λ _. ⌜ now (table .exit) ≡ rowAnew n (now (grid .entry)) b k j (now (table .entry)) ⌝ }
 {
     let past = b.hi.i;
@@ -63,7 +70,7 @@ fn recount_row(n: usize, grid: &[u8], table: &mut [u16], b: Box, k: usize, j: us
 
 // Counts the layer k of a box of blocks anew.
 fn recount_layer(n: usize, grid: &[u8], table: &mut [u16], b: Box, k: usize)
-    requires { ⌜ (n ≤ 32) × (pointCount n ≤ length (now grid)) × (blockCount n ≤ length (now table)) × OfBlocks n b × (k ≤ n / 4) ⌝ }
+    requires { ⌜ record { sized : Sized n (now grid); table-long : blockCount n ≤ length (now table); blocks : OfBlocks n b; layer : k ≤ n / 4 } ⌝ }
     ensures { λ _. ⌜ now (table .exit) ≡ layerAnew n (now (grid .entry)) b k (now (table .entry)) ⌝ }
 {
     let past = b.hi.j;
@@ -76,7 +83,7 @@ fn recount_layer(n: usize, grid: &[u8], table: &mut [u16], b: Box, k: usize)
 
 // Counts a box of blocks anew.
 fn recount_blocks(n: usize, grid: &[u8], table: &mut [u16], b: Box)
-    requires { ⌜ (n ≤ 32) × (pointCount n ≤ length (now grid)) × (blockCount n ≤ length (now table)) × OfBlocks n b ⌝ }
+    requires { ⌜ record { sized : Sized n (now grid); table-long : blockCount n ≤ length (now table); blocks : OfBlocks n b } ⌝ }
     ensures { λ _. ⌜ now (table .exit) ≡ boxAnew n (now (grid .entry)) b (now (table .entry)) ⌝ }
 {
     let past = b.hi.k;
@@ -89,7 +96,7 @@ fn recount_blocks(n: usize, grid: &[u8], table: &mut [u16], b: Box)
 
 // Counts anew the blocks that have a point of a box of points, and no others.
 fn recount_box(n: usize, grid: &[u8], table: &mut [u16], b: Box)
-    requires { ⌜ (n ≤ 32) × (pointCount n ≤ length (now grid)) × (blockCount n ≤ length (now table)) × OfGrid n (b .hi) ⌝ }
+    requires { ⌜ record { sized : Sized n (now grid); table-long : blockCount n ≤ length (now table); on-grid : OfGrid n (b .hi) } ⌝ }
     ensures { λ _. ⌜ now (table .exit) ≡ boxAnew n (now (grid .entry)) (blocksOf b) (now (table .entry)) ⌝ }
 {
     let lo = Point {
@@ -123,7 +130,7 @@ fn cells_of(c: Cube) -> Cube
 
 // Answers whether the axis kept as number k separates a cube of cells from the triangle.
 fn is_beside(l: Level, kept: &[i64; NUMBERS], reach: &[i64; REACHES], k: usize, c: Cube) -> bool
-    requires { ⌜ Loaded l (now kept) (now reach) × CubeOf (cellsOf l) c × (k < 10) ⌝ }
+    requires { ⌜ record { loaded : Loaded l (now kept) (now reach); cube : CubeOf (cellsOf l) c; axis : k < 10 } ⌝ }
     ensures { λ r. ⌜ (r ≡ true → Beside l (now (kept .entry)) (now (reach .entry)) c) ⌝ }
 {
     misses(
@@ -136,7 +143,7 @@ fn is_beside(l: Level, kept: &[i64; NUMBERS], reach: &[i64; REACHES], k: usize, 
 
 // Answers whether a cube of cells lies beside the triangle's plane, or beside one of its sides as seen along x, y or z.
 fn is_spared(l: Level, kept: &[i64; NUMBERS], reach: &[i64; REACHES], side: usize, c: Cube) -> bool
-    requires { ⌜ Loaded l (now kept) (now reach) × CubeOf (cellsOf l) c × (side < 3) ⌝ }
+    requires { ⌜ record { loaded : Loaded l (now kept) (now reach); cube : CubeOf (cellsOf l) c; side-of : side < 3 } ⌝ }
     ensures { λ r. ⌜ (r ≡ true → Beside l (now (kept .entry)) (now (reach .entry)) c) ⌝ }
 {
     if is_beside(l, kept, reach, 0, c) {
@@ -175,8 +182,14 @@ fn recount_cube(
     b: Box,
     c: Cube,
 )
-    requires { ⌜ (n ≡ cellsOf l) × (pointsOf l ≤ length (now grid)) × (blockCount (cellsOf l) ≤ length (now table)) ⌝ }
-    requires { ⌜ CubeOf (cellsOf l / 4) c × Loaded l (now kept) (now reach) × (side < 3) ⌝ }
+    requires { ⌜ record {
+      cells-are : n ≡ cellsOf l;
+      grid-long : pointsOf l ≤ length (now grid);
+      table-long : blockCount (cellsOf l) ≤ length (now table);
+      cube : CubeOf (cellsOf l / 4) c;
+      loaded : Loaded l (now kept) (now reach);
+      side-of : side < 3;
+    } ⌝ }
     ensures { λ _. ⌜ CubeRecounted l (now (kept .entry)) (now (reach .entry)) b c (now (grid .entry)) (now (table .entry)) (now (table .exit)) ⌝ }
 {
     let cells = cells_of(c);
@@ -199,7 +212,12 @@ fn recount_cube(
 
 // Counts anew the blocks that a triangle can have added a mark to, down from all blocks as one cube. The blocks cut off got none.
 fn recount_cubes(l: Level, grid: &[u8], t: Triangle, table: &mut [u16], b: Box)
-    requires { ⌜ Inside t × Covers l t b × (pointsOf l ≤ length (now grid)) × (blockCount (cellsOf l) ≤ length (now table)) ⌝ }
+    requires { ⌜ record {
+      inside : Inside t;
+      covers : Covers l t b;
+      grid-long : pointsOf l ≤ length (now grid);
+      table-long : blockCount (cellsOf l) ≤ length (now table);
+    } ⌝ }
     ensures { λ _. ⌜ Recounted (cellsOf l) (now (grid .entry)) (met l t) (now (table .entry)) (now (table .exit)) ⌝ }
 {
     let mut kept = [0i64; NUMBERS];
@@ -218,7 +236,11 @@ fn recount_cubes(l: Level, grid: &[u8], t: Triangle, table: &mut [u16], b: Box)
 // Counts anew blocks of a grid to which the marks of the edges that a triangle meets were added, so that every total is true that was so
 // before. A triangle's box of few cells has few blocks, and all of them are counted.
 pub fn recount_met(l: Level, grid: &[u8], t: Triangle, table: &mut [u16])
-    requires { ⌜ TriangleWithin l t × (pointsOf l ≤ length (now grid)) × (blockCount (cellsOf l) ≤ length (now table)) ⌝ }
+    requires { ⌜ record {
+      within : TriangleWithin l t;
+      grid-long : pointsOf l ≤ length (now grid);
+      table-long : blockCount (cellsOf l) ≤ length (now table);
+    } ⌝ }
     ensures { λ _. ⌜ Recounted (cellsOf l) (now (grid .entry)) (met l t) (now (table .entry)) (now (table .exit)) ⌝ }
 {
     let b = box_of(l, t);

@@ -19,6 +19,7 @@ use Rattle.rules.proofs.OddList.{even-all}
 use Rattle.lattice.specs.declared.level.Level.{Level}
 use Rattle.lattice.specs.Levels.{numberOf, cellsOf, pointsOf}
 use Rattle.grids.proofs.Ahead.{bytes-are-grid, bytes-have-marks}
+use Rattle.lattice.specs.Buffers.{Ready}
 use Rattle.refusals.specs.Columns.{badLevel, levelAt}
 use Rattle.patching.specs.Call.{Outcome as Patching, counted, patchRows, patchDone, patchCall}
 use Rattle.signing.specs.Call.{done, signRows, signCall}
@@ -30,7 +31,6 @@ use Rattle.signing.proofs.Only.{signs-grid, signs-marks}
 use Rattle.surfacing.proofs.Misfit.{signs-fit}
 use Rattle.totals.specs.Totals.{trued}
 use Rattle.feeding.specs.Lent.{lentTotals}
-use Rattle.feeding.specs.Feed.{Ready}
 use Rattle.feeding.proofs.Lent.{lent-long}
 use Rattle.feeding.proofs.Marked.{known}
 use Rattle.reporting.specs.Close.{Closed}

@@ -18,8 +18,8 @@ ghost use mathlib.Core.Path.{_≡_};
 ghost use Prim.Native.Nat.{_≤_};
 ghost use lib.ListN.{length};
 ghost use Rattle.lattice.specs.Levels.{numberOf, pointsOf};
+ghost use Rattle.lattice.specs.Buffers.{Ready};
 ghost use Rattle.text.specs.Text.{PutFirst};
-ghost use Rattle.feeding.specs.Feed.{Ready};
 ghost use Rattle.reporting.specs.Report.{lentBytes, lentList, closed, surfaced, layered, masked, faced};
 ghost use Rattle.reporting.specs.Close.{Closed};
 
@@ -45,7 +45,13 @@ pub fn report(
     list: &mut [u16],
     out: &mut [u8],
 ) -> usize
-    requires { ⌜ (level ≡ numberOf l) × Ready l (now grid) × (now work ≡ lentBytes) × (now list ≡ lentList) × (213098 ≤ length (now out)) ⌝ }
+    requires { ⌜ record {
+      level-is : level ≡ numberOf l;
+      ready : Ready l (now grid);
+      work-lent : now work ≡ lentBytes;
+      list-lent : now list ≡ lentList;
+      out-room : 213098 ≤ length (now out);
+    } ⌝ }
     ensures { λ r. ⌜ PutFirst (now (out .entry)) (closed level (now (grid .entry)) (surfaced level triangles)) (now (out .exit)) r ⌝ }
 {
     let counts = close_grid(l, grid, work);
@@ -67,7 +73,7 @@ pub fn report(
 
 // Closes a grid and puts the picture of its layers, and behind it the number of faces with one mark and with three; answers its length.
 pub fn show(l: Level, grid: &mut [u8], work: &mut [u8], out: &mut [u8]) -> usize
-    requires { ⌜ Ready l (now grid) × (now work ≡ lentBytes) × (107845 ≤ length (now out)) ⌝ }
+    requires { ⌜ record { ready : Ready l (now grid); work-lent : now work ≡ lentBytes; out-room : 107845 ≤ length (now out) } ⌝ }
     ensures { λ r. ⌜ PutFirst (now (out .entry)) (closed (numberOf l) (now (grid .entry)) (layered (numberOf l))) (now (out .exit)) r ⌝ }
 {
     let counts = close_grid(l, grid, work);
@@ -77,7 +83,7 @@ pub fn show(l: Level, grid: &mut [u8], work: &mut [u8], out: &mut [u8]) -> usize
 
 // Closes a grid and puts the masks of its layers; answers their length.
 pub fn show_masks(l: Level, grid: &mut [u8], work: &mut [u8], out: &mut [u8]) -> usize
-    requires { ⌜ Ready l (now grid) × (now work ≡ lentBytes) × (5742 ≤ length (now out)) ⌝ }
+    requires { ⌜ record { ready : Ready l (now grid); work-lent : now work ≡ lentBytes; out-room : 5742 ≤ length (now out) } ⌝ }
     ensures { λ r. ⌜ PutFirst (now (out .entry)) (closed (numberOf l) (now (grid .entry)) (masked (numberOf l))) (now (out .exit)) r ⌝ }
 {
     close_grid(l, grid, work);

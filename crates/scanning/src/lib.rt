@@ -9,16 +9,15 @@ use rules::Box;
 use rules::Point;
 use triangles::Triangle;
 ghost use mathlib.Core.Path.{_≡_};
-ghost use mathlib.Core.Bool.{true};
 ghost use Prim.Native.Nat.{_+_, _≤_};
 ghost use lib.ListN.{length};
 ghost use Rattle.rules.specs.Lattice.{OfGrid};
-ghost use Rattle.rules.specs.Grid.{isGrid, Unsigned};
 ghost use Rattle.lattice.specs.Levels.{cellsOf, pointsOf};
+ghost use Rattle.lattice.specs.Buffers.{Ready};
 ghost use Rattle.triangles.specs.Meets.{Inside};
 ghost use Rattle.meeting.specs.Within.{TriangleWithin};
 ghost use Rattle.meeting.specs.Met.{met, marked};
-ghost use Rattle.corners.specs.Corner.{Keeps};
+ghost use Rattle.corners.specs.Corner.{KeepsAxes};
 ghost use Rattle.meeting.specs.Covered.{Covers};
 ghost use Rattle.scanning.specs.Scan.{RowOf, nextRow, inRun};
 ghost use Rattle.meeting.specs.Adding.{Added};
@@ -53,8 +52,14 @@ fn mark_row(
     b: Box,
     c: Point,
 ) -> usize
-    requires { ⌜ Inside t × (built ≤ 10) × Keeps l t built (now kept) ⌝ }
-    requires { ⌜ (pointsOf l ≤ length (now grid)) × Covers l t b × RowOf b c ⌝ }
+    requires { ⌜ record {
+      inside : Inside t;
+      built-most : built ≤ 10;
+      keeps : KeepsAxes l t built (now kept);
+      grid-long : pointsOf l ≤ length (now grid);
+      covers : Covers l t b;
+      row-of : RowOf b c;
+    } ⌝ }
     ensures { λ r. ⌜ Went l t (inRun c (b .hi .i) (met l t)) r (now (kept .exit)) (now (grid .entry)) (now (grid .exit)) ⌝ }
 {
     let n = l.cells();
@@ -70,8 +75,7 @@ fn mark_row(
 
 // Adds the marks of the edges met at the lowest corners of a box's cells, row by row.
 pub fn mark_box(l: Level, grid: &mut [u8], t: Triangle, b: Box)
-    requires { ⌜ Inside t × Covers l t b ⌝ }
-    requires { ⌜ pointsOf l ≤ length (now grid) ⌝ }
+    requires { ⌜ record { inside : Inside t; covers : Covers l t b; grid-long : pointsOf l ≤ length (now grid) } ⌝ }
     ensures { λ _. ⌜ Added (cellsOf l) (met l t) (now (grid .entry)) (now (grid .exit)) ⌝ }
 {
     let mut kept = [0i64; NUMBERS];
@@ -86,8 +90,7 @@ pub fn mark_box(l: Level, grid: &mut [u8], t: Triangle, b: Box)
 
 // Adds the marks of the edges that a triangle meets to a buffer that is known to be a grid without signs.
 pub fn mark_grid(l: Level, grid: &mut [u8], t: Triangle)
-    requires { ⌜ TriangleWithin l t ⌝ }
-    requires { ⌜ (pointsOf l ≤ length (now grid)) × (isGrid (cellsOf l) (now grid) ≡ true) × Unsigned (cellsOf l) (now grid) ⌝ }
+    requires { ⌜ TriangleWithin l t × Ready l (now grid) ⌝ }
     ensures { λ _. ⌜ now (grid .exit) ≡ marked l t (now (grid .entry)) ⌝ }
 {
     let b = box_of(l, t);

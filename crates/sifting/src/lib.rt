@@ -25,7 +25,7 @@ ghost use Rattle.lattice.specs.Levels.{cellsOf};
 ghost use Rattle.lattice.specs.Cells.{Cell};
 ghost use Rattle.triangles.specs.Vectors.{Size, dotMost};
 ghost use Rattle.triangles.specs.Meets.{Inside};
-ghost use Rattle.corners.specs.Corner.{masked, ofThree, beyond, Fits, keptAt, Keeps, noneParts, stillLeft, RestLeft};
+ghost use Rattle.corners.specs.Corner.{masked, ofThree, beyond, KeptFits, keptAt, KeepsAxes, noneParts, stillLeft, RestLeft};
 
 // Answers the members of a byte that a mask has too, if the mask is on.
 fn masked(left: u8, mask: u8, on: bool) -> u8
@@ -80,7 +80,7 @@ fn begins_after(low: i64, d: i64, n: i64) -> bool
 // Answers the edges left that an axis does not separate. Where the lower end lies beside the triangle's span, an edge is
 // separated when its upper end lies on the same side; where it lies in the span, none is.
 fn still_left(left: u8, a: Kept, p: Vector) -> u8
-    requires { ⌜ (left < 8) × Fits a p ⌝ }
+    requires { ⌜ (left < 8) × KeptFits a p ⌝ }
     ensures { λ r. ⌜ (r < 8) × ((e : Axis) → has e r ≡ stillLeft a p e (has e left)) ⌝ }
 {
     let d = a.axis.dot(p);
@@ -101,7 +101,7 @@ fn still_left(left: u8, a: Kept, p: Vector) -> u8
 
 // Answers the edges left that none of the axes built so far separates.
 pub fn left_of_kept(kept: &[i64; NUMBERS], built: usize, p: Vector, left: u8) -> u8
-    requires { ⌜ (left < 8) × (built ≤ 10) × ((k : ℕ) → k < built → Fits (keptAt (now kept) k) p) ⌝ }
+    requires { ⌜ record { left-fits : left < 8; built-most : built ≤ 10; fits-kept : (k : ℕ) → k < built → KeptFits (keptAt (now kept) k) p } ⌝ }
     ensures { λ r. ⌜ (r < 8) × ((a : Axis) → has a r ≡ has a left && noneParts (now (kept .entry)) built p a) ⌝ }
 {
     let mut left = left;
@@ -125,7 +125,13 @@ pub fn left_of_rest(
     c: Point,
     left: u8,
 ) -> Tested
-    requires { ⌜ Inside t × (left < 8) × (built ≤ 10) × Keeps l t built (now kept) × Cell (cellsOf l) c ⌝ }
+    requires { ⌜ record {
+      inside : Inside t;
+      left-fits : left < 8;
+      built-most : built ≤ 10;
+      keeps : KeepsAxes l t built (now kept);
+      cell : Cell (cellsOf l) c;
+    } ⌝ }
     ensures { λ r. ⌜ RestLeft l t built c left r (now (kept .exit)) ⌝ }
 {
     let mut left = left;

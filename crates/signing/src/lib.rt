@@ -12,14 +12,14 @@ use rules::Axis;
 ghost use mathlib.Core.Path.{_≡_};
 ghost use mathlib.Core.Bool.{true};
 ghost use mathlib.Core.List.{_++_};
-ghost use Prim.Native.Nat.{_≤_};
-ghost use lib.ListN.{length, drop};
+ghost use lib.ListN.{drop};
 ghost use Rattle.rules.specs.Lists.{_⊕_};
 ghost use Rattle.rules.specs.declared.Axis.the-variants.{X};
 ghost use Rattle.rules.specs.Lattice.{pointCount};
 ghost use Rattle.rules.specs.Grid.{has, marks, isGrid};
 ghost use Rattle.rules.specs.Rims.{evenFaces};
 ghost use Rattle.rules.specs.Signs.{signBytes};
+ghost use Rattle.lattice.specs.Buffers.{Sized};
 ghost use Rattle.signing.specs.Call.{told, signCall};
 
 // Answers whether the far end of an x edge is inside, b being the byte of its near end.
@@ -32,8 +32,7 @@ pub fn across(inside: bool, b: u8) -> bool
 // Writes the signs of a grid that has no odd face, and leaves its marks. A grid has no mark on its outside: each row of points along x
 // begins and ends outside, so that one run over the x marks of all rows, one behind another, meets every sign.
 pub fn sign_grid(n: usize, grid: &mut [u8])
-    requires { ⌜ (n ≤ 32) × (pointCount n ≤ length (now grid)) ⌝ }
-    requires { ⌜ (isGrid n (now grid) ≡ true) × (evenFaces n (marks n (now grid)) ≡ true) ⌝ }
+    requires { ⌜ record { sized : Sized n (now grid); is-grid : isGrid n (now grid) ≡ true; even : evenFaces n (marks n (now grid)) ≡ true } ⌝ }
     ensures { λ _. ⌜ now (grid .exit) ≡ signBytes n (marks n (now (grid .entry))) ++ drop (pointCount n) (now (grid .entry)) ⌝ }
 {
     let count = point_count(n);

@@ -22,11 +22,11 @@ ghost use Rattle.signing.specs.Call.{Outcome as SignOutcome, signCall};
 ghost use Rattle.surfacing.specs.Call.{Outcome as SurfaceOutcome, surfaceCall};
 ghost use Rattle.stl_reading.specs.Call.{Outcome as ReadOutcome, readCall};
 ghost use Rattle.stl_writing.specs.Call.{Outcome as WriteOutcome, writeCall};
-ghost use Rattle.job_reading.specs.Read.{Numbers as JobNumbers, numbersOf, readCall as readJobCall};
+ghost use Rattle.job_reading.specs.Read.{JobTold, numbersOf, readCall as readJobCall};
 ghost use Rattle.job_writing.specs.Write.{Outcome as WriteJobOutcome, writeCall as writeJobCall};
 ghost use Rattle.accepting.specs.Call.{Outcome as AcceptOutcome, acceptCall};
 ghost use Rattle.masks.specs.Call.{Outcome as MasksOutcome, masksCall};
-ghost use Rattle.asking.specs.Call.{Outcome as AskOutcome, Counted, anyCall, trueCall, countCall};
+ghost use Rattle.asking.specs.Call.{Outcome as AskOutcome, CountOutcome, anyCall, trueCall, countCall};
 
 // Open (level, grid, totals): the P bytes become 0, and so does the total of each block.
 #[no_mangle]
@@ -184,7 +184,7 @@ pub extern "C" fn omphirun_totals_true(
 // Count totals (level, grid, totals): makes every total true for the bytes as they are.
 #[no_mangle]
 pub extern "C" fn omphirun_count_totals(level: u32, grid: &[u8], totals: &mut [u16]) -> u32
-    ensures { λ r. ⌜ _≡_ {A = Counted} (record { number = r; totals = now (totals .exit) }) (countCall level (now (grid .entry)) (now (totals .entry))) ⌝ }
+    ensures { λ r. ⌜ _≡_ {A = CountOutcome} (record { number = r; totals = now (totals .exit) }) (countCall level (now (grid .entry)) (now (totals .entry))) ⌝ }
 {
     table_calls::count_totals(level, grid, totals).number()
 }
@@ -258,7 +258,7 @@ pub extern "C" fn omphirun_read_job(
     quads_at: &mut u32,
     quads_len: &mut u32,
 ) -> u32
-    ensures { λ r. ⌜ _≡_ {A = JobNumbers}
+    ensures { λ r. ⌜ _≡_ {A = JobTold}
         (record {
           number = r;
           level = now (level .exit);

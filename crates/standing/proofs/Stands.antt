@@ -17,7 +17,7 @@ use Rattle.shifting.specs.declared.Shift.{Shift}
 use Rattle.moving.specs.Back.{Near}
 use Rattle.standing.specs.declared.Standing.{Standing}
 use Rattle.standing.specs.declared.Plan.the-variants.{Stands}
-use Rattle.standing.specs.Stand.{still, standingOf, Sound}
+use Rattle.standing.specs.Stand.{still, standingOf, SoundPlan}
 
 most : {z : ℤ} → Size 1074003967 z → natAbs z ≤ 1074266112
 most {z} h = let m = h .most in omega (arith, m)
@@ -35,7 +35,7 @@ shift-near l e m h f =
 pub still-near : Near still
 still-near = record { on-x = omega arith; on-y = omega arith; on-z = omega arith }
 
-pub sound-at : (s : ℕ) (v w : Shift) (m : Model) (r : Standing) → s ≤ 40 → r ≡ standingOf s v m → v ≡ w → Near w → Sound (Stands r)
+pub sound-at : (s : ℕ) (v w : Shift) (m : Model) (r : Standing) → s ≤ 40 → r ≡ standingOf s v m → v ≡ w → Near w → SoundPlan (Stands r)
 unfolding standingOf
 sound-at s v w m r h e d n =
     (subst (λ (k : ℕ). k ≤ 40) (sym (ap (λ (p : Standing). p .s) e)) h, subst Near (sym (ap (λ (p : Standing). p .shift) e ∙ d)) n)

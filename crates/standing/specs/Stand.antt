@@ -52,7 +52,7 @@ unfoldable pub planOf : Level → ℕ → ℕ → Model → Plan
 planOf l mode scale m = cond (eqb mode 102) (fitted l m (chosen l m)) (cond (eqb mode 99) (centredOf l scale m) (keptOf scale m))
 
 -- e from -20 to 20, and a shift that is not too far
-abbrev pub Sound : Plan → Type 0
-Sound (Stands p) = (p .s ≤ 40) × Near (p .shift)
-Sound TooLarge = Unit {0}
-Sound TooFar = Unit {0}
+abbrev pub SoundPlan : Plan → Type 0
+SoundPlan (Stands p) = (p .s ≤ 40) × Near (p .shift)
+SoundPlan TooLarge = Unit {0}
+SoundPlan TooFar = Unit {0}

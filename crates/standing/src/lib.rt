@@ -16,7 +16,7 @@ ghost use Rattle.rounding.specs.Scales.{exponentOf};
 ghost use Rattle.measuring.specs.Coordinates.{Model};
 ghost use Rattle.measuring.specs.Extents.{Measures};
 ghost use Rattle.placing.specs.Fitted.{NearBy, Measured};
-ghost use Rattle.standing.specs.Stand.{standingOf, centredOf, keptOf, planOf, Sound};
+ghost use Rattle.standing.specs.Stand.{standingOf, centredOf, keptOf, planOf, SoundPlan};
 
 // e as e + 20, the shift, and on each axis the least and the greatest result at e.
 pub struct Standing {
@@ -35,7 +35,12 @@ pub enum Plan {
 
 // Where a model stands with a shift.
 fn stand(x: Extent, s: u32, shift: Shift) -> Standing
-    requires { ⌜ (s ≤ 40) × NearBy (exponentOf s) (x .x) × NearBy (exponentOf s) (x .y) × NearBy (exponentOf s) (x .z) ⌝ }
+    requires { ⌜ record {
+      scale : s ≤ 40;
+      x-near : NearBy (exponentOf s) (x .x);
+      y-near : NearBy (exponentOf s) (x .y);
+      z-near : NearBy (exponentOf s) (x .z);
+    } ⌝ }
     ensures { λ r. ⌜ ((m : Model) → Measures x m → r ≡ standingOf s shift m) ⌝ }
 {
     Standing {
@@ -57,7 +62,7 @@ fn stand(x: Extent, s: u32, shift: Shift) -> Standing
 // With the given e, and the shift by the rule of fit.
 fn centre(l: Level, x: Extent, s: u32) -> Plan
     requires { ⌜ (s ≤ 40) × Measured x ⌝ }
-    ensures { λ r. ⌜ Sound r × ((m : Model) → Measures x m → r ≡ centredOf l s m) ⌝ }
+    ensures { λ r. ⌜ SoundPlan r × ((m : Model) → Measures x m → r ≡ centredOf l s m) ⌝ }
 {
     if !fits_at(l, x, s) {
         return Plan::TooLarge;
@@ -68,7 +73,7 @@ fn centre(l: Level, x: Extent, s: u32) -> Plan
 // With the given e, and no shift.
 fn keep(x: Extent, s: u32) -> Plan
     requires { ⌜ (s ≤ 40) × Measured x ⌝ }
-    ensures { λ r. ⌜ Sound r × ((m : Model) → Measures x m → r ≡ keptOf s m) ⌝ }
+    ensures { λ r. ⌜ SoundPlan r × ((m : Model) → Measures x m → r ≡ keptOf s m) ⌝ }
 {
     if !near_at(x, s) {
         return Plan::TooFar;
@@ -79,7 +84,7 @@ fn keep(x: Extent, s: u32) -> Plan
 // As the letter asks: `f` with the largest e that fits, `c` with the given one, and `k` as the file has it.
 pub fn plan_for(l: Level, mode: u8, scale: u32, x: Extent) -> Plan
     requires { ⌜ (scale ≤ 40) × Measured x ⌝ }
-    ensures { λ r. ⌜ Sound r × ((m : Model) → Measures x m → r ≡ planOf l mode scale m) ⌝ }
+    ensures { λ r. ⌜ SoundPlan r × ((m : Model) → Measures x m → r ≡ planOf l mode scale m) ⌝ }
 {
     if mode == b'f' {
         let Choice::At(s) = choose(l, x) else {

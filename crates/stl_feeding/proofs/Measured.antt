@@ -1,24 +1,22 @@
 -- Laws of a file's records measured: one record looked at, each refusal, the records of a block, and the model that is measured. Assumes nothing.
 use mathlib.Core.Path.{_≡_, refl, sym, ap, _∙_}
 use mathlib.Core.Bool.{Bool, true, false, cond}
-use mathlib.Core.List.{List, [], _∷_, _++_, append-nil, append-assoc}
-use Prim.Native.Nat.{ℕ, zero, suc, _+_, _-_, _%_, _≤_, _<_}
+use mathlib.Core.List.{List, [], _∷_, _++_, append-nil}
+use Prim.Native.Nat.{ℕ, suc, _+_, _-_, _%_, _≤_, _<_}
 use native.Mathlib.Numerals.{add-one}
 use native.Mathlib.Omega.{arith}
 use borrow.Author.Tests.{lt-ltb, le-ltb}
-use lib.Dec.{ltb}
 use lib.ListN.{length, take, drop, length-drop}
 use lib.Seq.{drop-append-le, drop-drop, take-append-le, length-take-le, take-all}
 use Rattle.measuring.specs.declared.Extent.{Extent}
-use Rattle.measuring.specs.Coordinates.{Model, nothing, joined, triangleAt}
-use Rattle.measuring.specs.Extents.{widened, extentOf}
-use Rattle.measuring.proofs.Joining.{extent-more}
+use Rattle.measuring.specs.Coordinates.{triangleAt}
+use Rattle.measuring.specs.Extents.{widened}
 use Rattle.stl_feeding.specs.declared.measure.Looked.{Looked}
 use Rattle.stl_feeding.specs.declared.measure.Looked.the-variants.{Finite as With, NotFinite as Without}
 use Rattle.stl_feeding.specs.declared.measure.Measured.{Measured}
-use Rattle.stl_feeding.specs.declared.measure.Measured.the-variants.{Seen, Refused}
-use Rattle.stl_feeding.specs.Feed.{Whole}
-use Rattle.stl_feeding.specs.Measured.{finiteRecord, lookedAt, measured, modelOf}
+use Rattle.stl_feeding.specs.declared.measure.Measured.the-variants.{Refused}
+use Rattle.stl_feeding.specs.Feed.{UncutRecords}
+use Rattle.stl_feeding.specs.Measured.{finiteRecord, lookedAt, measured}
 
 -- ---- a record that the file ends in
 measured-short : (k t : ℕ) (s : List ℕ) (x : Extent) → length (take 50 s) < 50 → measured (suc k) s t x ≡ Refused 10
@@ -60,13 +58,13 @@ module _ (all t : ℕ) (x : Extent) (block rest : List ℕ) (at : ℕ) where
     one-less = omega arith
 
     -- 10: the last block ends within a record
-    pub seen-short : Whole block rest → at % 50 ≡ 0 → at < length block → length block - at < 50 → measured (all - t) (left ++ rest) t x ≡ Refused 10
+    pub seen-short : UncutRecords block rest → at % 50 ≡ 0 → at < length block → length block - at < 50 → measured (all - t) (left ++ rest) t x ≡ Refused 10
     seen-short w z some short = go rest w
       where
         few : length (take 50 left) < 50
         few = let n = ap length (take-all 50 left (omega (arith, left-long))) in omega (arith, n, left-long)
 
-        go : (s : List ℕ) → Whole block s → measured (all - t) (left ++ s) t x ≡ Refused 10
+        go : (s : List ℕ) → UncutRecords block s → measured (all - t) (left ++ s) t x ≡ Refused 10
         go [] w = rw (one-less, append-nil) (measured-short (all - (t + 1)) t left x few)
         go (y ∷ s) w = absurd (torn (w (omega arith)))
           where

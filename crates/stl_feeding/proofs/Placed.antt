@@ -1,6 +1,6 @@
 -- Laws of placing: a sum on the machine, and the numbers of a triangle moved one after the other. Assumes nothing.
 use mathlib.Core.Path.{_≡_, refl, ap, _∙_}
-use mathlib.Core.Bool.{true, false}
+use mathlib.Core.Bool.{false}
 use mathlib.Core.List.{List, [], _∷_, _++_, append-nil}
 use Prim.Native.Nat.{ℕ, zero, suc, _+_, _%_, _^_, _<_}
 use native.Mathlib.Numerals.{add-one}
@@ -13,7 +13,7 @@ use lib.Signed.{ltZ, natAbs-le}
 use mir.Syntax.{w32, w64}
 use mir.Val.{SFits}
 use Rattle.triangles.specs.Vectors.{Size}
-use Rattle.triangles.proofs.Held.{Near, held as read, fits, stored, local, near-sum}
+use Rattle.triangles.proofs.Held.{held as read, fits, stored, local, near-sum}
 use Rattle.shifting.specs.declared.Shift.{Shift}
 use Rattle.shifting.specs.Shift.{along}
 use Rattle.stl_reading.specs.File.{triangleNumbers}

@@ -1,8 +1,7 @@
 -- Laws of a file's records: one record taken, each refusal, and the records of a block. Assumes nothing.
 use mathlib.Core.Path.{_≡_, refl, sym, ap, _∙_}
-use mathlib.Core.Bool.{true, false}
 use mathlib.Core.List.{List, [], _∷_, _++_, append-nil}
-use Prim.Native.Nat.{ℕ, zero, suc, _+_, _-_, _%_, _≤_, _<_}
+use Prim.Native.Nat.{ℕ, suc, _+_, _-_, _%_, _≤_, _<_}
 use native.Mathlib.Numerals.{add-one}
 use native.Mathlib.Omega.{arith}
 use borrow.Author.Tests.{lt-ltb, le-ltb, eq-eqb, ne-eqb}
@@ -11,6 +10,7 @@ use lib.ListN.{length, take, drop, length-drop}
 use lib.Seq.{drop-append-le, drop-drop, take-append-le, take-all}
 use Rattle.lattice.specs.declared.level.Level.{Level}
 use Rattle.lattice.specs.Levels.{numberOf}
+use Rattle.lattice.specs.Buffers.{Ready}
 use Rattle.rounding.specs.Pattern.{isNear}
 use Rattle.shifting.specs.declared.Shift.{Shift}
 use Rattle.stl_reading.specs.declared.vertices.Fault.{Fault}
@@ -18,11 +18,11 @@ use Rattle.stl_reading.specs.declared.vertices.Fault.the-variants.{Clear}
 use Rattle.stl_reading.specs.File.{triangleFault}
 use Rattle.marking.specs.Mark.{markCall}
 use Rattle.feeding.specs.Lent.{lentTotals}
-use Rattle.feeding.specs.Taken.{marked, refusedBy}
-use Rattle.feeding.specs.Feed.{Ready, Marking}
+use Rattle.feeding.specs.Taken.{refusedBy}
+use Rattle.feeding.specs.Feed.{Marking}
 use Rattle.stl_feeding.specs.Placed.{placed}
 use Rattle.stl_feeding.specs.Taken.{faultNumber, orNumber, recordNumber, taken}
-use Rattle.stl_feeding.specs.Feed.{Recorded, Whole}
+use Rattle.stl_feeding.specs.Feed.{Recorded, UncutRecords}
 
 -- ---- a whole record: its fault, and then what mark says
 pub record-is : (level : ℕ) (e : ℤ) (v : Shift) (r g : List ℕ) (f : Fault) → length r ≡ 50 → f ≡ triangleFault (isNear e) r 12
@@ -92,14 +92,14 @@ module _ (l : Level) (e : ℤ) (v : Shift) (all t : ℕ) (g block rest : List �
     one-less = omega arith
 
     -- 10: the last block ends within a record
-    pub block-short : Whole block rest → at % 50 ≡ 0 → at < length block → length block - at < 50 →
+    pub block-short : UncutRecords block rest → at % 50 ≡ 0 → at < length block → length block - at < 50 →
         taken (numberOf l) e v (all - t) (left ++ rest) t g ≡ refusedBy 10
     block-short w z some short = go rest w
       where
         few : length (take 50 left) < 50
         few = let n = ap length (take-all 50 left (omega (arith, left-long))) in omega (arith, n, left-long)
 
-        go : (s : List ℕ) → Whole block s → taken (numberOf l) e v (all - t) (left ++ s) t g ≡ refusedBy 10
+        go : (s : List ℕ) → UncutRecords block s → taken (numberOf l) e v (all - t) (left ++ s) t g ≡ refusedBy 10
         go [] w =
             rw (one-less, append-nil)
             (taken-refused (numberOf l) e v then t left g 10 (sym (record-short (numberOf l) e v (take 50 left) g few)) (λ n. omega arith))

@@ -6,7 +6,7 @@ use lib.ListN.{length}
 use Rattle.measuring.specs.declared.Extent.{Extent}
 use Rattle.stl_feeding.specs.declared.measure.Measured.{Measured}
 use Rattle.stl_feeding.specs.declared.measure.Measured.the-variants.{Seen, Refused}
-use Rattle.stl_feeding.specs.Feed.{Whole}
+use Rattle.stl_feeding.specs.Feed.{UncutRecords}
 use Rattle.stl_feeding.specs.Measured.{measured}
 
 -- what follows an answer
@@ -22,4 +22,4 @@ Counted (Refused k) all t s = Unit {0}
 -- t records had come, with the extent x, before the block s
 pub record Measuring (all t : ℕ) (s : List ℕ) (x : Extent) (r : Measured) : Type 0 where
   pub counted : Counted r all t s
-  pub goes-on : (rest : List ℕ) → Whole s rest → measured (all - t) (s ++ rest) t x ≡ after all r rest
+  pub goes-on : (rest : List ℕ) → UncutRecords s rest → measured (all - t) (s ++ rest) t x ≡ after all r rest

@@ -34,7 +34,7 @@ pub record Laid (e : ℤ) (v : Shift) (r : List ℕ) (at number : ℕ) (out out�
   pub left-is : (number ≡ 0 → ⊥) → out′ ≡ out
 
 -- t records had come before the block s: all have come now, or those of the whole block, and more than before when there was one; what they are put as
-pub record Came (e : ℤ) (v : Shift) (all t : ℕ) (s : List ℕ) (u bytes : ℕ) (out out′ : List ℕ) : Type 0 where
+pub record PutBlock (e : ℤ) (v : Shift) (all t : ℕ) (s : List ℕ) (u bytes : ℕ) (out out′ : List ℕ) : Type 0 where
   pub most : u ≤ all
   pub more : 50 ≤ length s → t < all → t < u
   pub whole : u < all → length s ≡ 50 * (u - t)
@@ -53,5 +53,5 @@ pub record Stopped (e : ℤ) (all t : ℕ) (s : List ℕ) (k : ℕ) : Type 0 whe
   pub refused-by : refusalOf e (suc ahead) s ≡ k
 
 abbrev pub Putting : ℤ → Shift → ℕ → ℕ → List ℕ → Put → List ℕ → List ℕ → Type 0
-Putting e v all t s (Done u bytes) out out′ = Came e v all t s u bytes out out′
+Putting e v all t s (Done u bytes) out out′ = PutBlock e v all t s u bytes out out′
 Putting e v all t s (Refused k) out out′ = Stopped e all t s k

@@ -10,16 +10,16 @@ use stl_reading::vertices::Fault;
 use stl_triangles::triangles::put_triangle;
 use stl_triangles::triangles::triangle_fault;
 ghost use mathlib.Core.Path.{_≡_};
-ghost use Prim.Native.Nat.{_≤_, _+_, _*_, _<_};
+ghost use Prim.Native.Nat.{_≤_, _+_, _<_};
 ghost use lib.IntN.{_+ℤ_};
 ghost use lib.ListN.{length};
 ghost use Rattle.rounding.specs.Pattern.{isNear};
 ghost use Rattle.rounding.specs.Scales.{exponentOf};
 ghost use Rattle.shifting.specs.Shift.{along};
 ghost use Rattle.stl_reading.specs.File.{triangleFault};
-ghost use Rattle.feeding.specs.Feed.{Ready};
 ghost use Rattle.stl_feeding.specs.Placed.{held, placed};
 ghost use Rattle.stl_feeding.specs.Feed.{Recorded, Feeding};
+ghost use Rattle.lattice.specs.Buffers.{Ready};
 
 // The bytes of a record: a normal, three vertices, and a u16.
 const RECORD: usize = 50;
@@ -58,7 +58,11 @@ fn moved(v: i32, by: i32) -> i32
 
 // The nine numbers of a record without fault, placed on the plate.
 pub(crate) fn placed_numbers(bytes: &[u8], s: u32, shift: Shift) -> [i32; 9]
-    requires { ⌜ (50 ≤ length (now bytes)) × (s ≤ 40) × (triangleFault (isNear (exponentOf s)) (now bytes) 12 ≡ Fault.Clear) ⌝ }
+    requires { ⌜ record {
+      bytes-room : 50 ≤ length (now bytes);
+      scale : s ≤ 40;
+      clear : triangleFault (isNear (exponentOf s)) (now bytes) 12 ≡ Fault.Clear;
+    } ⌝ }
     ensures { λ r. ⌜ r ≡ placed (exponentOf s) shift (now (bytes .entry)) ⌝ }
 {
     let mut c = [0i32; 9];
@@ -73,7 +77,7 @@ pub(crate) fn placed_numbers(bytes: &[u8], s: u32, shift: Shift) -> [i32; 9]
 
 // Marks the triangle of a record, placed on the plate, and answers 0; or answers the number of its first fault, or what mark refuses it by.
 fn mark_record(l: Level, grid: &mut [u8], bytes: &[u8], s: u32, shift: Shift) -> u32
-    requires { ⌜ (length (now bytes) ≡ 50) × (s ≤ 40) × Ready l (now grid) ⌝ }
+    requires { ⌜ record { bytes-long : length (now bytes) ≡ 50; scale : s ≤ 40; ready : Ready l (now grid) } ⌝ }
     ensures { λ r. ⌜ Recorded l (exponentOf s) shift (now (bytes .entry)) r (now (grid .entry)) (now (grid .exit)) ⌝ }
 {
     match triangle_fault(bytes, 12, s) {
@@ -94,7 +98,7 @@ pub fn feed_records(
     count: u32,
     block: &[u8],
 ) -> Fed
-    requires { ⌜ (count ≤ all) × (s ≤ 40) × Ready l (now grid) ⌝ }
+    requires { ⌜ record { count-most : count ≤ all; scale : s ≤ 40; ready : Ready l (now grid) } ⌝ }
     ensures { λ r. ⌜ Feeding l (exponentOf s) shift all count (now (block .entry)) (now (grid .entry)) r (now (grid .exit)) ⌝ }
 {
     let mut triangles = count;

@@ -48,7 +48,7 @@ fn put_numbers(out: &mut [u8], at: usize, c: &[i32])
 
 // Puts the triangle of a record, placed on the plate, and answers 0; or answers the number of its first fault.
 fn put_record(bytes: &[u8], s: u32, shift: Shift, out: &mut [u8], at: usize) -> u32
-    requires { ⌜ (length (now bytes) ≡ 50) × (s ≤ 40) × (at + 36 ≤ length (now out)) ⌝ }
+    requires { ⌜ record { bytes-long : length (now bytes) ≡ 50; scale : s ≤ 40; out-room : at + 36 ≤ length (now out) } ⌝ }
     ensures { λ r. ⌜ Laid (exponentOf s) shift (now (bytes .entry)) at r (now (out .entry)) (now (out .exit)) ⌝ }
 {
     match triangle_fault(bytes, 12, s) {
@@ -64,7 +64,7 @@ fn put_record(bytes: &[u8], s: u32, shift: Shift, out: &mut [u8], at: usize) -> 
 // Puts the triangles of a block of a file's records, after so many of them all that have come before. Refusals come in file order: the file
 // ends early, a vertex has a fault.
 pub fn put_records(s: u32, shift: Shift, all: u32, count: u32, block: &[u8], out: &mut [u8]) -> Put
-    requires { ⌜ (count ≤ all) × (s ≤ 40) × (36 * (length (now block) / 50) ≤ length (now out)) ⌝ }
+    requires { ⌜ record { count-most : count ≤ all; scale : s ≤ 40; out-room : 36 * (length (now block) / 50) ≤ length (now out) } ⌝ }
     ensures { λ r. ⌜ Putting (exponentOf s) shift all count (now (block .entry)) r (now (out .entry)) (now (out .exit)) ⌝ }
 {
     let mut triangles = count;

@@ -9,7 +9,7 @@ ghost use Prim.Native.Nat.{_≤_, _<_, _+_, _*_};
 ghost use lib.ListN.{length};
 ghost use Rattle.octets.specs.Octets.{puts};
 ghost use Rattle.rounding.specs.Scales.{exponentOf};
-ghost use Rattle.stl_records.specs.Records.{Numbers, Placed, vertexBytes, triangleBytes, pairBytes, centreOf, cornerOf, unit, plusZero, normalOf};
+ghost use Rattle.stl_records.specs.Records.{Numbers, CellInLattice, vertexBytes, triangleBytes, pairBytes, centreOf, cornerOf, unit, plusZero, normalOf};
 
 // Puts a vertex.
 fn put_vertex(out: &mut [u8], at: usize, v: Vertex)
@@ -23,7 +23,13 @@ fn put_vertex(out: &mut [u8], at: usize, v: Vertex)
 
 // Puts a triangle: normal, three vertices, and a zero u16.
 fn put_triangle(out: &mut [u8], at: usize, normal: Vertex, a: Vertex, b: Vertex, c: Vertex)
-    requires { ⌜ (at + 50 ≤ length (now out)) × Numbers normal × Numbers a × Numbers b × Numbers c ⌝ }
+    requires { ⌜ record {
+      out-room : at + 50 ≤ length (now out);
+      normal-held : Numbers normal;
+      a-held : Numbers a;
+      b-held : Numbers b;
+      c-held : Numbers c;
+    } ⌝ }
     ensures { λ _. ⌜ now (out .exit) ≡ puts (now (out .entry)) at (triangleBytes normal a b c) ⌝ }
 {
     put_vertex(out, at, normal);
@@ -44,7 +50,14 @@ pub fn put_pair(
     c: Vertex,
     d: Vertex,
 )
-    requires { ⌜ (at + 100 ≤ length (now out)) × Numbers normal × Numbers a × Numbers b × Numbers c × Numbers d ⌝ }
+    requires { ⌜ record {
+      out-room : at + 100 ≤ length (now out);
+      normal-held : Numbers normal;
+      a-held : Numbers a;
+      b-held : Numbers b;
+      c-held : Numbers c;
+      d-held : Numbers d;
+    } ⌝ }
     ensures { λ _. ⌜ now (out .exit) ≡ puts (now (out .entry)) at (pairBytes normal a b c d) ⌝ }
 {
     put_triangle(out, at, normal, a, b, c);
@@ -61,7 +74,7 @@ fn centre(side: usize, i: usize) -> u32
 
 // The vertex at the centre of a cell, with s for e + 20.
 pub fn corner(side: usize, s: u32, c: Point) -> Vertex
-    requires { ⌜ (4 ≤ side) × (s ≤ 40) × Placed side c ⌝ }
+    requires { ⌜ record { side-least : 4 ≤ side; scale : s ≤ 40; placed : CellInLattice side c } ⌝ }
     ensures { λ r. ⌜ (r ≡ cornerOf side (exponentOf s) c) × Numbers r ⌝ }
 {
     Vertex {

@@ -32,7 +32,7 @@ cornerOf side e c =
     record { x = coordOf (centreOf side (c .i)) e; y = coordOf (centreOf side (c .j)) e; z = coordOf (centreOf side (c .k)) e }
 
 -- the cell lies in the lattice
-pub record Placed (side : ℕ) (c : Point) : Type 0 where
+pub record CellInLattice (side : ℕ) (c : Point) : Type 0 where
   pub on-i : c .i * side + side ≤ 1048576
   pub on-j : c .j * side + side ≤ 1048576
   pub on-k : c .k * side + side ≤ 1048576

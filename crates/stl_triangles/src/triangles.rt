@@ -57,8 +57,12 @@ pub fn first_fault(file: &[u8], s: u32, count: usize) -> Fault
 
 // Puts the nine numbers of the triangle whose vertices begin at `from`, which has no fault, into the list.
 pub fn put_triangle(file: &[u8], from: usize, s: u32, list: &mut [i32], at: usize)
-    requires { ⌜ (from + 36 ≤ length (now file)) × (s ≤ 40) × (at + 9 ≤ length (now list)) ⌝ }
-    requires { ⌜ triangleFault (isNear (exponentOf s)) (now file) from ≡ Fault.Clear ⌝ }
+    requires { ⌜ record {
+      file-room : from + 36 ≤ length (now file);
+      scale : s ≤ 40;
+      list-room : at + 9 ≤ length (now list);
+      clear : triangleFault (isNear (exponentOf s)) (now file) from ≡ Fault.Clear;
+    } ⌝ }
     ensures { λ _. ⌜ now (list .exit) ≡ sets (now (list .entry)) at (triangleNumbers (roundTimes (exponentOf s)) (now (file .entry)) from) ⌝ }
 {
     put_vertex(file, from, s, list, at);
@@ -68,8 +72,12 @@ pub fn put_triangle(file: &[u8], from: usize, s: u32, list: &mut [i32], at: usiz
 
 // Puts the triangles of a file without fault into the list; what is behind them keeps its contents.
 pub fn put_triangles(file: &[u8], s: u32, count: usize, list: &mut [i32])
-    requires { ⌜ (84 + 50 * count ≤ length (now file)) × (s ≤ 40) × (9 * count ≤ length (now list)) ⌝ }
-    requires { ⌜ firstFault (isNear (exponentOf s)) (now file) count ≡ Fault.Clear ⌝ }
+    requires { ⌜ record {
+      file-room : 84 + 50 * count ≤ length (now file);
+      scale : s ≤ 40;
+      list-room : 9 * count ≤ length (now list);
+      clear : firstFault (isNear (exponentOf s)) (now file) count ≡ Fault.Clear;
+    } ⌝ }
     ensures { λ _. ⌜ now (list .exit) ≡ numbersOf (roundTimes (exponentOf s)) (now (file .entry)) count ++ drop (9 * count) (now (list .entry)) ⌝ }
 {
     let mut t: usize = 0;

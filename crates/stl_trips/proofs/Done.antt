@@ -22,7 +22,7 @@ use Rattle.lattice.proofs.LevelFacts.{number-most, cells-most, side-whole, coun
 use Rattle.surfacing.specs.Listing.{quadCount}
 use Rattle.surfacing.proofs.Exist.{quad-cells}
 use Rattle.stl_reading.specs.Call.{readCall}
-use Rattle.stl_records.specs.Records.{Placed, centreOf}
+use Rattle.stl_records.specs.Records.{CellInLattice, centreOf}
 use Rattle.stl_records.specs.File.{Facing, facing, facings}
 use Rattle.stl_writing.specs.Call.{writeCall}
 use Rattle.stl_writing.proofs.Corners.{side-wide, cell-placed}
@@ -50,7 +50,7 @@ quads-in v g s =
     edges : List Place
     edges = keep (isIn (marks n g)) (places (suc n))
 
-    put : (p : Point) → Cell n p → Placed (sideOf v) p
+    put : (p : Point) → Cell n p → CellInLattice (sideOf v) p
     put p h = cell-placed n (sideOf v) p (side-whole v) h
 
     one : (x : Place) → isIn (marks n g) x ≡ true → InLattice (sideOf v) (facing s x)

@@ -18,7 +18,7 @@ use Rattle.coordinates.proofs.Back.{ReadBack, coord-word, read-back}
 use Rattle.stl_reading.specs.declared.vertices.Fault.the-variants.{Clear}
 use Rattle.stl_reading.specs.File.{verticesAt, faultAt, orElse, triangleFault, vertexNumbers, triangleNumbers}
 use Rattle.stl_reading.proofs.Told.{fault-clear}
-use Rattle.stl_records.specs.Records.{Placed, centreOf, cornerOf, vertexBytes, triangleBytes}
+use Rattle.stl_records.specs.Records.{CellInLattice, centreOf, cornerOf, vertexBytes, triangleBytes}
 use Rattle.stl_records.proofs.Centres.{centre-least, centre-most}
 use Rattle.stl_records.proofs.Records.{vertex-length, triangle-length}
 use Rattle.stl_trips.specs.Facets.{Facet, facetBytes, cornerNumbers, facetNumbers}
@@ -27,9 +27,9 @@ use Rattle.stl_trips.proofs.Pieces.{first-word, second-word, third-word
 
 -- the cells at its corners lie in the lattice
 pub record FacetIn (side : ℕ) (t : Facet) : Type 0 where
-  pub one : Placed side (t .first)
-  pub two : Placed side (t .second)
-  pub three : Placed side (t .third)
+  pub one : CellInLattice side (t .first)
+  pub two : CellInLattice side (t .second)
+  pub three : CellInLattice side (t .third)
 
 module _ (side s : ℕ) (big : 4 ≤ side) (small : s ≤ 40) where
   abbrev e : ℤ
@@ -47,7 +47,7 @@ module _ (side s : ℕ) (big : 4 ≤ side) (small : s ≤ 40) where
     numbers : vertexNumbers (roundTimes e) x at ≡ cornerNumbers side c
     clear : faultAt (isNear e) x at ≡ Clear
 
-  words-read : (x : List ℕ) (at : ℕ) (c : Point) → Placed side c → wordAt x at ≡ bitsOf (c .i) → wordAt x (at + 4) ≡ bitsOf (c .j) →
+  words-read : (x : List ℕ) (at : ℕ) (c : Point) → CellInLattice side c → wordAt x at ≡ bitsOf (c .i) → wordAt x (at + 4) ≡ bitsOf (c .j) →
       wordAt x (at + 8) ≡ bitsOf (c .k) → VertexReads x at c
   words-read x at c h a b d =
       let u = back (c .i) (h .on-i) in
@@ -62,7 +62,7 @@ module _ (side s : ℕ) (big : 4 ≤ side) (small : s ≤ 40) where
             (both (isNear e (wordAt x (at + 4))) (isNear e (wordAt x (at + 8))) (ap (isNear e) b ∙ v .near) (ap (isNear e) d ∙ w .near))));
       }
 
-  vertex-reads : (xs q zs : List ℕ) (at : ℕ) (c : Point) → length xs ≡ at → Placed side c →
+  vertex-reads : (xs q zs : List ℕ) (at : ℕ) (c : Point) → length xs ≡ at → CellInLattice side c →
       VertexReads (xs ++ ((vertexBytes (cornerOf side e c) ++ q) ++ zs)) at c
   unfolding vertexBytes
   vertex-reads xs q zs at c long h =

@@ -4,7 +4,7 @@ use Prim.Native.Nat.{ℕ, _/_}
 use lib.IntN.{ℤ, pos}
 use Rattle.rules.specs.declared.Point.{Point}
 use Rattle.stl_records.specs.declared.Vertex.{Vertex}
-use Rattle.stl_records.specs.Records.{Placed, centreOf, cornerOf, normalOf, triangleBytes}
+use Rattle.stl_records.specs.Records.{CellInLattice, centreOf, cornerOf, normalOf, triangleBytes}
 use Rattle.stl_records.specs.File.{Facing, cellAt}
 
 -- a triangle: its normal, and the cells at its corners
@@ -35,7 +35,7 @@ facetNumbers side t = cornerNumbers side (t .first) ++ (cornerNumbers side (t .s
 
 -- the quad's cells lie in the lattice
 pub record InLattice (side : ℕ) (f : Facing) : Type 0 where
-  pub one : Placed side (cellAt f 1)
-  pub two : Placed side (cellAt f 2)
-  pub three : Placed side (cellAt f 3)
-  pub four : Placed side (cellAt f 4)
+  pub one : CellInLattice side (cellAt f 1)
+  pub two : CellInLattice side (cellAt f 2)
+  pub three : CellInLattice side (cellAt f 3)
+  pub four : CellInLattice side (cellAt f 4)

@@ -76,7 +76,7 @@ pub fn fault_at(file: &[u8], at: usize, s: u32) -> Fault
 
 // Rounds a number times 2^(s - 20) that is not beyond 2^30 in size.
 fn rounded(x: f32, s: u32) -> i32
-    requires { ⌜ T (not (isNan x)) × (s ≤ 40) × (isNear (exponentOf s) (toBits binary32 x) ≡ true) ⌝ }
+    requires { ⌜ record { no-nan : T (not (isNan x)); scale : s ≤ 40; near : isNear (exponentOf s) (toBits binary32 x) ≡ true } ⌝ }
     ensures { λ r. ⌜ r ≡ roundTimes (exponentOf s) (toBits binary32 x) ⌝ }
 {
     rounding::rounded(f32::to_bits(x), s)
@@ -84,8 +84,12 @@ fn rounded(x: f32, s: u32) -> i32
 
 // Puts the three numbers of the vertex that begins at `from`, which has no fault, into the list.
 pub fn put_vertex(file: &[u8], from: usize, s: u32, list: &mut [i32], at: usize)
-    requires { ⌜ (from + 12 ≤ length (now file)) × (s ≤ 40) × (at + 3 ≤ length (now list)) ⌝ }
-    requires { ⌜ faultAt (isNear (exponentOf s)) (now file) from ≡ Fault.Clear ⌝ }
+    requires { ⌜ record {
+      file-room : from + 12 ≤ length (now file);
+      scale : s ≤ 40;
+      list-room : at + 3 ≤ length (now list);
+      clear : faultAt (isNear (exponentOf s)) (now file) from ≡ Fault.Clear;
+    } ⌝ }
     ensures { λ _. ⌜ now (list .exit) ≡ sets (now (list .entry)) at (vertexNumbers (roundTimes (exponentOf s)) (now (file .entry)) from) ⌝ }
 {
     let Vertex::Finite(p) = vertex_at(file, from) else {

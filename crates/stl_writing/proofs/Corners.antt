@@ -14,9 +14,9 @@ use Rattle.rules.specs.Lattice.{coord, down, inner}
 use Rattle.rules.specs.Quads.{next, quadCells}
 use Rattle.lattice.specs.Cells.{Cell}
 use Rattle.lattice.proofs.PointSteps.{pred-most}
-use Rattle.surfacing.proofs.Around.{InnerEdge, inner→, down-other}
+use Rattle.surfacing.proofs.Around.{inner→, down-other}
 use Rattle.stl_records.specs.declared.Vertex.{Vertex}
-use Rattle.stl_records.specs.Records.{Placed, cornerOf, normalOf, pairBytes}
+use Rattle.stl_records.specs.Records.{CellInLattice, cornerOf, normalOf, pairBytes}
 use Rattle.stl_records.specs.File.{facing, quadBytes}
 use Rattle.stl_writing.specs.Listing.{edge, Surrounded}
 
@@ -28,7 +28,7 @@ minus-one (suc k) = let e : suc k - 1 ≡ k = omega arith in e
 lower : (side i : ℕ) → i * side + side ≤ 1048576 → pred i * side + side ≤ 1048576
 lower side i h = let m : pred i * side ≤ i * side = mul-le-mul-right side (pred-most i) in omega arith
 
-pub down-placed : (side : ℕ) (a : Axis) (p : Point) → Placed side p → Placed side (down a p)
+pub down-placed : (side : ℕ) (a : Axis) (p : Point) → CellInLattice side p → CellInLattice side (down a p)
 down-placed side X p h = record { on-i = lower side (p .i) (h .on-i); on-j = h .on-j; on-k = h .on-k }
 down-placed side Y p h = record { on-i = h .on-i; on-j = lower side (p .j) (h .on-j); on-k = h .on-k }
 down-placed side Z p h = record { on-i = h .on-i; on-j = h .on-j; on-k = lower side (p .k) (h .on-k) }
@@ -42,7 +42,7 @@ side-wide n side h whole = go (decLe 4 side)
     go (no w) = let thin : side ≤ 3 = omega (arith, w) in let m : n * side ≤ 32 * 3 = mul-le-mul h thin in absurd (omega (arith, m, whole))
 
 -- a cell of a grid whose cells are `side` wide
-pub cell-placed : (n side : ℕ) (p : Point) → n * side ≡ 1048576 → Cell n p → Placed side p
+pub cell-placed : (n side : ℕ) (p : Point) → n * side ≡ 1048576 → Cell n p → CellInLattice side p
 cell-placed n side p whole h = record { on-i = one (p .i) (h .i); on-j = one (p .j) (h .j); on-k = one (p .k) (h .k) }
   where
     one : (i : ℕ) → i < n → i * side + side ≤ 1048576
@@ -74,8 +74,8 @@ module _ (a u w : Axis) (q below : Point) (eu : u ≡ next a) (ew : w ≡ next u
     pub on-first : 0 < coord u below
     on-first = subst (λ (k : ℕ). 0 < k) (sym (ap (coord u) (eb ∙ ap (λ (x : Axis). down x q) ew) ∙ down-other u q)) on-next
 
-    pub below-placed : Placed side below
-    below-placed = subst (Placed side) (sym eb) (down-placed side w q (h .cell))
+    pub below-placed : CellInLattice side below
+    below-placed = subst (CellInLattice side) (sym eb) (down-placed side w q (h .cell))
 
 -- ---- the quad that the corners make, in the one turn or in the other
 module _ (side : ℕ) (e : ℤ) (a : Axis) (q : Point) (upward : Bool) (v first second third fourth : Vertex) (normal : v ≡ normalOf a upward)

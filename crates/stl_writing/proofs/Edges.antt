@@ -1,7 +1,7 @@
 -- The bytes of the quads, point by point: what is before a scan, and how it is put. Assumes nothing.
 use mathlib.Core.Path.{_≡_, refl, sym, ap, ap₂, _∙_}
 use mathlib.Core.Bool.{Bool, true, false, cond}
-use mathlib.Core.List.{List, [], _∷_, _++_}
+use mathlib.Core.List.{List, [], _++_}
 use Prim.Native.Nat.{ℕ, suc, _+_, _*_, _≤_, _<_}
 use native.Mathlib.Omega.{arith}
 use lib.IntN.{ℤ}
@@ -18,7 +18,6 @@ use Rattle.rules.proofs.Numbers.{has-low, zero-has}
 use Rattle.lattice.specs.Byte.{low}
 use Rattle.grids.proofs.Points.{At, at-grid}
 use Rattle.grids.proofs.GridFacts.{grid-marks}
-use Rattle.surfacing.specs.Listing.{MarksInner}
 use Rattle.surfacing.proofs.Around.{marks-inner-at}
 use Rattle.surfacing.proofs.Quads.{givenAt, givenFrom, given-start, given-room}
 use Rattle.stl_records.specs.File.{facing, facings, quadBytes}

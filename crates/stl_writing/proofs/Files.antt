@@ -8,7 +8,6 @@ use borrow.Author.Tests.{lt-ltb, le-ltb}
 use lib.IntN.{ℤ}
 use lib.ListN.{length, drop, replicate, length-map}
 use Rattle.rules.specs.declared.Point.{Point}
-use Rattle.rules.specs.declared.Place.{Place}
 use Rattle.rules.specs.Lists.{count, keep, each}
 use Rattle.rules.specs.Lattice.{Set, isIn, places}
 use Rattle.octets.specs.Octets.{word, puts}

@@ -13,7 +13,7 @@ use Rattle.rules.specs.Lattice.{coord, placesAt}
 use Rattle.rules.specs.Grid.{has, marks, inside}
 use Rattle.rules.specs.Quads.{next}
 use Rattle.octets.specs.Octets.{puts}
-use Rattle.stl_records.specs.Records.{Placed}
+use Rattle.stl_records.specs.Records.{CellInLattice}
 use Rattle.stl_records.specs.File.{Facing, facing, facings, quadBytes}
 
 -- the quads of a grid of n cells a side, by its marks and signs
@@ -30,7 +30,7 @@ edge a p = record { axis = a; at = p }
 
 -- the four cells around the edge along a at p lie in the lattice
 pub record Surrounded (side : ℕ) (a : Axis) (p : Point) : Type 0 where
-  pub cell : Placed side p
+  pub cell : CellInLattice side p
   pub on-next : 0 < coord (next a) p
   pub on-last : 0 < coord (next (next a)) p
 

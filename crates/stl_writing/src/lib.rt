@@ -16,8 +16,8 @@ ghost use mathlib.Core.Path.{_≡_};
 ghost use mathlib.Core.Bool.{true};
 ghost use Prim.Native.Nat.{_≤_, _*_};
 ghost use lib.ListN.{length};
-ghost use Rattle.rules.specs.Lattice.{pointCount};
 ghost use Rattle.rules.specs.Grid.{isGrid};
+ghost use Rattle.lattice.specs.Buffers.{Sized};
 ghost use Rattle.octets.specs.Octets.{puts};
 ghost use Rattle.rounding.specs.Scales.{exponentOf};
 ghost use Rattle.stl_records.specs.File.{header};
@@ -41,7 +41,7 @@ fn put_header(out: &mut [u8], triangles: u32)
 
 // Writes the file of a grid whose cells are `side` wide, with s for e + 20, if the buffer has room for it.
 fn write_file(n: usize, side: usize, s: u32, grid: &[u8], out: &mut [u8]) -> WriteAnswer
-    requires { ⌜ (n ≤ 32) × (n * side ≡ 1048576) × (s ≤ 40) × (pointCount n ≤ length (now grid)) × (isGrid n (now grid) ≡ true) ⌝ }
+    requires { ⌜ record { sized : Sized n (now grid); side-is : n * side ≡ 1048576; scale : s ≤ 40; is-grid : isGrid n (now grid) ≡ true } ⌝ }
     ensures { λ r. ⌜ told r (now (out .exit)) ≡ written side (exponentOf s) (facingsIn n (now (grid .entry))) (now (out .entry)) ⌝ }
 {
     let quads = count_quads(n, grid);

@@ -15,8 +15,9 @@ ghost use mathlib.Core.Bool.{true};
 ghost use Prim.Native.Nat.{_+_, _*_, _≤_, _<_};
 ghost use lib.ListN.{length};
 ghost use Rattle.rules.specs.Lists.{each};
-ghost use Rattle.rules.specs.Lattice.{coord, down, pointCount};
+ghost use Rattle.rules.specs.Lattice.{coord, down};
 ghost use Rattle.rules.specs.Grid.{has, marks, isGrid};
+ghost use Rattle.lattice.specs.Buffers.{Sized};
 ghost use Rattle.surfacing.specs.Listing.{quadCount};
 ghost use Rattle.octets.specs.Octets.{puts};
 ghost use Rattle.rounding.specs.Scales.{exponentOf};
@@ -49,7 +50,7 @@ fn down(p: Point, a: Axis) -> Point
 
 // Puts the quad of the edge along a at the point q, whose lower end is inside or not. A vertex is built for each corner.
 fn put_quad(side: usize, s: u32, a: Axis, upward: bool, q: Point, out: &mut [u8], at: usize)
-    requires { ⌜ (4 ≤ side) × (s ≤ 40) × Surrounded side a q × (at + 100 ≤ length (now out)) ⌝ }
+    requires { ⌜ record { side-least : 4 ≤ side; scale : s ≤ 40; surrounded : Surrounded side a q; out-room : at + 100 ≤ length (now out) } ⌝ }
     ensures { λ _. ⌜ now (out .exit) ≡ puts (now (out .entry)) at (quadBytes side (exponentOf s) (facing (λ p. upward) (edge a q))) ⌝ }
 {
     let u = next(a);
@@ -77,8 +78,12 @@ fn put_edge(
     out: &mut [u8],
     at: usize,
 ) -> usize
-    requires { ⌜ (4 ≤ side) × (s ≤ 40) × (has a b ≡ true → Surrounded side a q)
-        × (at + length (byteEdge side (exponentOf s) b upward a q) ≤ length (now out)) ⌝ }
+    requires { ⌜ record {
+      side-least : 4 ≤ side;
+      scale : s ≤ 40;
+      surrounded : has a b ≡ true → Surrounded side a q;
+      out-room : at + length (byteEdge side (exponentOf s) b upward a q) ≤ length (now out);
+    } ⌝ }
     ensures { λ r. ⌜ PutAt (now (out .entry)) at (byteEdge side (exponentOf s) b upward a q) (now (out .exit)) r ⌝ }
 {
     if !bit(b, a) {
@@ -90,7 +95,12 @@ fn put_edge(
 
 // Puts the quads of the three edges at the point q, b being its byte, and answers where the next one goes. Most points have no mark.
 fn put_edges(side: usize, s: u32, b: u8, upward: bool, q: Point, out: &mut [u8], at: usize) -> usize
-    requires { ⌜ (4 ≤ side) × (s ≤ 40) × MarksSurrounded side b q × (at + length (byteEdges side (exponentOf s) b upward q) ≤ length (now out)) ⌝ }
+    requires { ⌜ record {
+      side-least : 4 ≤ side;
+      scale : s ≤ 40;
+      surrounded : MarksSurrounded side b q;
+      out-room : at + length (byteEdges side (exponentOf s) b upward q) ≤ length (now out);
+    } ⌝ }
     ensures { λ r. ⌜ PutAt (now (out .entry)) at (byteEdges side (exponentOf s) b upward q) (now (out .exit)) r ⌝ }
 {
     if low(b) == 0 {
@@ -103,8 +113,13 @@ fn put_edges(side: usize, s: u32, b: u8, upward: bool, q: Point, out: &mut [u8],
 
 // Puts the quads of a grid behind the header of a file, which has room for them.
 pub fn put_quads(n: usize, side: usize, s: u32, grid: &[u8], out: &mut [u8])
-    requires { ⌜ (n ≤ 32) × (n * side ≡ 1048576) × (s ≤ 40) × (pointCount n ≤ length (now grid)) × (isGrid n (now grid) ≡ true) ⌝ }
-    requires { ⌜ 84 + 100 * quadCount n (marks n (now grid)) ≤ length (now out) ⌝ }
+    requires { ⌜ record {
+      sized : Sized n (now grid);
+      side-is : n * side ≡ 1048576;
+      scale : s ≤ 40;
+      is-grid : isGrid n (now grid) ≡ true;
+      out-room : 84 + 100 * quadCount n (marks n (now grid)) ≤ length (now out);
+    } ⌝ }
     ensures { λ _. ⌜ now (out .exit) ≡ puts (now (out .entry)) 84 (each (quadBytes side (exponentOf s)) (facingsIn n (now (grid .entry)))) ⌝ }
 {
     let count = point_count(n);

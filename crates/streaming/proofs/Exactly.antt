@@ -1,9 +1,9 @@
 -- The program prints a refusal exactly when its row applies and none before it in the stream does. Assumes nothing.
 use mathlib.Core.Path.{_≡_, refl, sym, ap, subst, _∙_}
-use mathlib.Core.Bool.{Bool, true, false, not}
+use mathlib.Core.Bool.{Bool, true, false}
 use mathlib.Core.List.{List, [], _∷_, _++_}
 use mathlib.Core.Logic.{_↔_}
-use Prim.Native.Nat.{ℕ, zero, suc, _+_, _≤_, _<_}
+use Prim.Native.Nat.{ℕ, zero, suc, _≤_, _<_}
 use native.Mathlib.Omega.{arith}
 use lib.Dec.{eqb, ltb}
 use lib.ListN.{length, drop, getD, replicate, length-append}
@@ -16,6 +16,7 @@ use Rattle.rules.specs.Signs.{signBytes}
 use Rattle.rules.proofs.Numbers.{bytes-length, marks-inner}
 use Rattle.lattice.specs.declared.level.Level.{Level}
 use Rattle.lattice.specs.Levels.{numberOf, cellsOf, pointsOf}
+use Rattle.lattice.specs.Buffers.{Ready}
 use Rattle.refusals.specs.Rows.{_when_, firstOf, Given}
 use Rattle.refusals.specs.Columns.{badLevel, levelAt}
 use Rattle.refusals.proofs.Answered.{answered-number}
@@ -40,7 +41,6 @@ use Rattle.feeding.specs.Taken.{taken, mostTriangles}
 use Rattle.reporting.specs.Report.{lentBytes, lentList, unless, closed, surfaced}
 use Rattle.streaming.specs.Stream.{printedTaken, printed}
 use Rattle.streaming.specs.Rows.{surfaceRows, triangleRows, streamRows}
-use Rattle.feeding.specs.Feed.{Ready}
 use Rattle.reporting.specs.Close.{Closed}
 use Rattle.feeding.proofs.Marked.{known, mark-short, mark-out, mark-in, ready-after}
 use Rattle.reporting.proofs.Called.{surface-listed, left-marks, closing}

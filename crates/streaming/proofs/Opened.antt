@@ -12,6 +12,7 @@ use Rattle.lattice.specs.declared.level.Level.{Level}
 use Rattle.lattice.specs.declared.level.LevelRead.the-variants.{Known, Unknown}
 use Rattle.lattice.specs.Levels.{levelOf, numberOf, cellsOf, pointsOf}
 use Rattle.grids.proofs.Ahead.{open-grid, open-unsigned}
+use Rattle.lattice.specs.Buffers.{Ready}
 use Rattle.refusals.proofs.Levels.{read-unknown, read-known, good-number}
 use Rattle.totals.specs.Totals.{trued}
 use Rattle.marking.specs.Outcome.{done}
@@ -25,7 +26,6 @@ use Rattle.feeding.specs.Taken.{taken, mostTriangles}
 use Rattle.reporting.specs.Report.{lentBytes}
 use Rattle.reporting.proofs.Lent.{bytes-long}
 use Rattle.streaming.specs.Stream.{shown, printedTaken, printed}
-use Rattle.feeding.specs.Feed.{Ready}
 use Rattle.filing.proofs.Filed.{file-long}
 use Rattle.streaming.specs.Read.{isFile, Room, Streamed}
 use Rattle.feeding.specs.Lent.{lentTotals}

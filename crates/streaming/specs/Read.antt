@@ -7,6 +7,7 @@ use Prim.Native.Nat.{ℕ, _-_, _≤_}
 use lib.ListN.{length, take}
 use Rattle.lattice.specs.declared.level.Level.{Level}
 use Rattle.lattice.specs.Levels.{numberOf}
+use Rattle.lattice.specs.Buffers.{Ready}
 use Rattle.streaming.specs.declared.Wanted.{Wanted}
 use Rattle.streaming.specs.declared.Wanted.the-variants.{Listing, Layers, Masks, Faces, Surface}
 use Rattle.feeding.specs.declared.Fed.{Fed}
@@ -14,7 +15,7 @@ use Rattle.feeding.specs.Taken.{taken, mostTriangles}
 use Rattle.reporting.specs.Report.{lentBytes}
 use Rattle.filing.specs.File.{lentFile}
 use Rattle.streaming.specs.Stream.{printedTaken, printed}
-use Rattle.feeding.specs.Feed.{Ready, after}
+use Rattle.feeding.specs.Feed.{after}
 
 -- a file is wanted, and no text
 abbrev pub isFile : Wanted → Bool

@@ -13,10 +13,9 @@ use reporting::show_faces;
 use reporting::show_masks;
 use text::listing::put_refusal;
 ghost use mathlib.Core.Path.{_≡_};
-ghost use Prim.Native.Nat.{_≤_};
 ghost use lib.ListN.{length, replicate};
 ghost use Rattle.lattice.specs.Levels.{numberOf};
-ghost use Rattle.feeding.specs.Feed.{Ready};
+ghost use Rattle.lattice.specs.Buffers.{Ready};
 ghost use Rattle.streaming.specs.Read.{isFile, Room, Streamed, PrintedAt, Printed};
 
 // What is printed for a stream that is not refused: the listing of its surface, its layers of points, their masks, the faces with one mark

@@ -1,7 +1,7 @@
 -- A surface that was listed and written, by what its calls told. Assumes nothing.
-use mathlib.Core.Path.{_≡_, refl, sym, ap, subst, _∙_}
+use mathlib.Core.Path.{_≡_, sym, ap, subst, _∙_}
 use mathlib.Core.Bool.{Bool, true, false, cond}
-use mathlib.Core.List.{List, _++_}
+use mathlib.Core.List.{List}
 use Prim.Native.Nat.{ℕ, _+_, _*_, _≤_}
 use native.Mathlib.Omega.{arith}
 use lib.Dec.{ltb}
@@ -38,7 +38,7 @@ use Rattle.feeding.proofs.Marked.{known}
 use Rattle.reporting.specs.Report.{unless}
 use Rattle.reporting.proofs.Called.{surface-listed}
 use Rattle.reporting.proofs.Reports.{unless-some, listed-room}
-use Rattle.surface_telling.specs.Surfaced.{Whole}
+use Rattle.surface_telling.specs.Surfaced.{SurfaceDone}
 
 -- a list that was written has all the quads
 listed-count : (n : ℕ) (E : Set) (s : Point → Bool) (l l′ : List ℕ) (q : ℕ) → told (Listed q) l′ ≡ listed n E s l → q ≡ quadCount n E
@@ -101,7 +101,7 @@ module _ (l : Level) (s : ℕ) (v : Shift) (g list file list′ : List ℕ) (lon
       -- both buffers
       pub whole : (quads quads′ moved : List ℕ) → 2 * length list ≤ length quads → length list′ ≡ length list →
           quads′ ≡ puts quads 0 (halves (take (4 * q) list′)) →
-          moved ≡ movedFile (exponentOf s) v (2 * q) file′ → Whole (numberOf l) s v g list file q b quads′ moved
+          moved ≡ movedFile (exponentOf s) v (2 * q) file′ → SurfaceDone (numberOf l) s v g list file q b quads′ moved
       whole quads quads′ moved wide same put is =
           let run = halves (take (4 * q) list′) in
           let o = surface-is (Listed q) e in

@@ -15,7 +15,7 @@ use Rattle.surface_telling.specs.declared.Surface.{Surface}
 use Rattle.surface_telling.specs.declared.Surface.the-variants.{Done, Refused}
 
 -- surface and write_stl are done, and the quads and the moved file stand in their buffers
-pub record Whole (level s : ℕ) (v : Shift) (g list file : List ℕ) (q b : ℕ) (quads′ file′ : List ℕ) : Type 0 where
+pub record SurfaceDone (level s : ℕ) (v : Shift) (g list file : List ℕ) (q b : ℕ) (quads′ file′ : List ℕ) : Type 0 where
   pub listed : surfaceCall level g list .number ≡ 0
   pub written : writeCall level g (exponentOf s) file .number ≡ 0
   pub count-is : q ≡ surfaceCall level g list .quads
@@ -28,6 +28,6 @@ pub record Whole (level s : ℕ) (v : Shift) (g list file : List ℕ) (q b : ℕ
 
 -- what is done with a surface, or the first number that it is refused by
 abbrev pub Surfaced : ℕ → ℕ → Shift → List ℕ → List ℕ → List ℕ → Surface → List ℕ → List ℕ → Type 0
-Surfaced level s v g list file (Done q b) quads′ file′ = Whole level s v g list file q b quads′ file′
+Surfaced level s v g list file (Done q b) quads′ file′ = SurfaceDone level s v g list file q b quads′ file′
 Surfaced level s v g list file (Refused k) quads′ file′ =
     (next : List ℕ) → unless (surfaceCall level g list .number) (unless (writeCall level g (exponentOf s) file .number) next) ≡ refusedLine k

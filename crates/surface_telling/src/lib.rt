@@ -46,9 +46,15 @@ pub fn put_surface(
     quads: &mut [u8],
     file: &mut [u8],
 ) -> Surface
-    requires { ⌜ (level ≡ numberOf l) × (s ≤ 40) × Near shift × (pointsOf l ≤ length (now grid)) × (isGrid (cellsOf l) (now grid) ≡ true) ⌝ }
-    requires { ⌜ signsFit (cellsOf l) (marks (cellsOf l) (now grid)) (inside (cellsOf l) (now grid)) ≡ true ⌝ }
-    requires { ⌜ 2 * length (now list) ≤ length (now quads) ⌝ }
+    requires { ⌜ record {
+      level-is : level ≡ numberOf l;
+      scale : s ≤ 40;
+      near : Near shift;
+      grid-long : pointsOf l ≤ length (now grid);
+      is-grid : isGrid (cellsOf l) (now grid) ≡ true;
+      signs-fit : signsFit (cellsOf l) (marks (cellsOf l) (now grid)) (inside (cellsOf l) (now grid)) ≡ true;
+      quads-room : 2 * length (now list) ≤ length (now quads);
+    } ⌝ }
     ensures { λ r. ⌜ Surfaced level s shift (now (grid .entry)) (now (list .entry)) (now (file .entry)) r (now (quads .exit)) (now (file .exit)) ⌝ }
 {
     match list_quads(l.cells(), grid, list) {

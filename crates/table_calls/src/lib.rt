@@ -14,7 +14,7 @@ use totals::count_held;
 ghost use mathlib.Core.Path.{_≡_};
 ghost use Prim.Native.Nat.{_≤_};
 ghost use lib.ListN.{length};
-ghost use Rattle.rules.specs.Lattice.{pointCount};
+ghost use Rattle.lattice.specs.Buffers.{Sized};
 ghost use Rattle.totals.specs.Totals.{blockCount};
 ghost use Rattle.asking.specs.Ask.{isTrue};
 ghost use Rattle.asking.specs.Call.{said, told, badAlong, badBox, anyCall, trueCall, countTold, countCall};
@@ -75,7 +75,7 @@ pub fn any_mark(level: u32, grid: &[u8], totals: &[u16], low: Point, high: Point
 
 // Whether every total is true: each block is counted, up to the first whose total is not.
 fn is_true(n: usize, grid: &[u8], totals: &[u16]) -> bool
-    requires { ⌜ (n ≤ 32) × (pointCount n ≤ length (now grid)) × (blockCount n ≤ length (now totals)) ⌝ }
+    requires { ⌜ Sized n (now grid) × (blockCount n ≤ length (now totals)) ⌝ }
     ensures { λ r. ⌜ r ≡ isTrue n (now (grid .entry)) (now (totals .entry)) ⌝ }
 {
     let last = n / 4;

@@ -24,7 +24,7 @@ use Rattle.heading.specs.Head.{plateHead}
 use Rattle.standing.specs.declared.Standing.{Standing}
 use Rattle.telling.specs.Told.{lentList, lentFile, headOf, told, toldOf}
 use Rattle.telling.specs.declared.Views.{Views}
-use Rattle.surface_telling.specs.Surfaced.{Whole}
+use Rattle.surface_telling.specs.Surfaced.{SurfaceDone}
 use Rattle.telling.specs.Parts.{alone, Viewed, Lined, Tells}
 
 pub list-long : length lentList ≡ 131072
@@ -41,7 +41,7 @@ module _ (l : Level) (t : ℕ) (at : Standing) (g : List ℕ) {rims flips ones t
   n = cellsOf l
 
   -- all of it
-  told-done : (q b : ℕ) (quads file : List ℕ) → Whole (numberOf l) (at .s) (at .shift) h lentList lentFile q b quads file →
+  told-done : (q b : ℕ) (quads file : List ℕ) → SurfaceDone (numberOf l) (at .s) (at .shift) h lentList lentFile q b quads file →
       plateHead (headOf (numberOf l) t at rims flips ones threes (count (inside n h) (points (suc n))) q)
       ++ (faced (numberOf l) g ++ (picture n (drawn Inside n h) ++ (masks n (inside n h) ++ (take (8 * q) quads ++ take b file)))) ≡ toldOf (numberOf l) t at g
   unfolding told
@@ -61,7 +61,7 @@ module _ (l : Level) (t : ℕ) (at : Standing) (g : List ℕ) {rims flips ones t
 
   -- as it stands in the buffers
   pub tells-done : (q b ph pf : ℕ) (u : Views) (head faces layers pictures quads file : List ℕ) →
-      Whole (numberOf l) (at .s) (at .shift) h lentList lentFile q b quads file →
+      SurfaceDone (numberOf l) (at .s) (at .shift) h lentList lentFile q b quads file →
       Lined (headOf (numberOf l) t at rims flips ones threes (u .inside) q) head ph → take pf faces ≡ faced (numberOf l) g → pf ≤ length faces →
       Viewed l h layers pictures u →
       Tells l t at g head faces layers pictures quads file (record { head = ph; faces = pf; layers = u .layers; masks = u .masks; quads = 8 * q; file = b })

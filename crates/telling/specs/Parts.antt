@@ -31,7 +31,7 @@ writes head faces layers masks quads file p =
     ++ (take (p .faces) faces ++ (take (p .layers) layers ++ (take (p .masks) masks ++ (take (p .quads) quads ++ take (p .file) file))))
 
 -- they are as long as what is written of them
-pub record Fits (head faces layers masks quads file : List ℕ) (p : Parts) : Type 0 where
+pub record PartsFit (head faces layers masks quads file : List ℕ) (p : Parts) : Type 0 where
   pub in-head : p .head ≤ length head
   pub in-faces : p .faces ≤ length faces
   pub in-layers : p .layers ≤ length layers
@@ -59,5 +59,5 @@ pub record Lined (p : PlateHead) (head : List ℕ) (k : ℕ) : Type 0 where
 
 -- what is written is what is told of a grid with the marks of t triangles
 pub record Tells (l : Level) (t : ℕ) (at : Standing) (g head faces layers masks quads file : List ℕ) (p : Parts) : Type 0 where
-  pub fits : Fits head faces layers masks quads file p
+  pub fits : PartsFit head faces layers masks quads file p
   pub text : writes head faces layers masks quads file p ≡ toldOf (numberOf l) t at g

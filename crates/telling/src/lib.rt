@@ -24,10 +24,9 @@ ghost use Prim.Native.Nat.{_≤_, _*_};
 ghost use lib.ListN.{length, replicate};
 ghost use Rattle.rules.specs.Grid.{marks, inside, isGrid};
 ghost use Rattle.lattice.specs.Levels.{numberOf, cellsOf, pointsOf};
-ghost use Rattle.rounding.specs.Scales.{exponentOf};
+ghost use Rattle.lattice.specs.Buffers.{Ready};
 ghost use Rattle.surfacing.specs.Fit.{signsFit};
 ghost use Rattle.moving.specs.Back.{Near};
-ghost use Rattle.feeding.specs.Feed.{Ready};
 ghost use Rattle.telling.specs.Told.{lentList, lentFile, headOf};
 ghost use Rattle.surface_telling.specs.Surfaced.{Surfaced};
 ghost use Rattle.telling.specs.Parts.{alone, ClosedBy, Viewed, Lined, Tells};
@@ -124,9 +123,16 @@ fn put_quads(
     quads: &mut [u8],
     file: &mut [u8],
 ) -> Surface
-    requires { ⌜ (level ≡ numberOf l) × (s ≤ 40) × Near shift × (pointsOf l ≤ length (now grid)) × (isGrid (cellsOf l) (now grid) ≡ true) ⌝ }
-    requires { ⌜ signsFit (cellsOf l) (marks (cellsOf l) (now grid)) (inside (cellsOf l) (now grid)) ≡ true ⌝ }
-    requires { ⌜ (262144 ≤ length (now quads)) × (now file ≡ lentFile) ⌝ }
+    requires { ⌜ record {
+      level-is : level ≡ numberOf l;
+      scale : s ≤ 40;
+      near : Near shift;
+      grid-long : pointsOf l ≤ length (now grid);
+      is-grid : isGrid (cellsOf l) (now grid) ≡ true;
+      signs-fit : signsFit (cellsOf l) (marks (cellsOf l) (now grid)) (inside (cellsOf l) (now grid)) ≡ true;
+      quads-room : 262144 ≤ length (now quads);
+      file-lent : now file ≡ lentFile;
+    } ⌝ }
     ensures { λ r. ⌜ Surfaced (numberOf l) s shift (now (grid .entry)) lentList lentFile r (now (quads .exit)) (now (file .exit)) ⌝ }
 {
     let mut list = empty_list();
@@ -135,7 +141,12 @@ fn put_quads(
 
 // Puts the layers of a closed grid and their masks, and counts the points inside.
 fn put_views(l: Level, grid: &[u8], layers: &mut [u8], masks: &mut [u8]) -> Views
-    requires { ⌜ (pointsOf l ≤ length (now grid)) × (isGrid (cellsOf l) (now grid) ≡ true) × (107811 ≤ length (now layers)) × (5742 ≤ length (now masks)) ⌝ }
+    requires { ⌜ record {
+      grid-long : pointsOf l ≤ length (now grid);
+      is-grid : isGrid (cellsOf l) (now grid) ≡ true;
+      layers-room : 107811 ≤ length (now layers);
+      masks-room : 5742 ≤ length (now masks);
+    } ⌝ }
     ensures { λ r. ⌜ Viewed l (now (grid .entry)) (now (layers .exit)) (now (masks .exit)) r ⌝ }
 {
     let n = l.cells();
@@ -176,9 +187,18 @@ pub fn tell(
     quads: &mut [u8],
     file: &mut [u8],
 ) -> Parts
-    requires { ⌜ (level ≡ numberOf l) × (at .s ≤ 40) × Near (at .shift) × Ready l (now grid) ⌝ }
-    requires { ⌜ (300 ≤ length (now head)) × (107811 ≤ length (now faces)) × (107811 ≤ length (now layers)) × (5742 ≤ length (now masks)) ⌝ }
-    requires { ⌜ (262144 ≤ length (now quads)) × (now file ≡ lentFile) ⌝ }
+    requires { ⌜ record {
+      level-is : level ≡ numberOf l;
+      scale : at .s ≤ 40;
+      near : Near (at .shift);
+      ready : Ready l (now grid);
+      head-room : 300 ≤ length (now head);
+      faces-room : 107811 ≤ length (now faces);
+      layers-room : 107811 ≤ length (now layers);
+      masks-room : 5742 ≤ length (now masks);
+      quads-room : 262144 ≤ length (now quads);
+      file-lent : now file ≡ lentFile;
+    } ⌝ }
     ensures { λ r. ⌜ Tells l triangles at (now (grid .entry)) (now (head .exit)) (now (faces .exit)) (now (layers .exit)) (now (masks .exit))
         (now (quads .exit)) (now (file .exit)) r ⌝ }
 {

@@ -1,19 +1,19 @@
 -- The blocks of a grid, and the table of their totals. Assumes nothing.
-use mathlib.Core.Path.{_≡_, refl, sym, ap, _∙_}
-use mathlib.Core.List.{List, map, _++_}
-use Prim.Native.Nat.{ℕ, suc, _+_, _*_, _/_, _≤_, _<_, min}
+use mathlib.Core.Path.{_≡_, sym, ap, _∙_}
+use mathlib.Core.List.{List, _++_}
+use Prim.Native.Nat.{ℕ, suc, _/_, _≤_}
 use native.Mathlib.Omega.{arith}
-use lib.ListN.{length, getD, take, drop, length-map, length-append, length-drop, take-append-drop, List·getD-append}
+use lib.ListN.{length, getD, drop, length-map, length-append, length-drop, take-append-drop, List·getD-append}
 use lib.Seq.{take-at, drop-at}
 use Rattle.rules.specs.declared.Point.{Point}
-use Rattle.rules.specs.Lattice.{points, pointNumber, pointCount, OfGrid}
+use Rattle.rules.specs.Lattice.{pointNumber, OfGrid}
 use Rattle.rules.proofs.Numbers.{points-length, points-at, getD-map<}
 use Rattle.lattice.proofs.Laws.{num-below}
 use Rattle.totals.specs.Totals.{blockCount, blocks, blockBox, totalOf, totals, True, trued}
-use Rattle.totals.specs.Counting.{Small}
+use Rattle.totals.specs.Counting.{SmallBox}
 
 -- a block is small, and lies in the grid
-pub block-small : (n : ℕ) (c : Point) → OfGrid (n / 4) c → Small n (blockBox n c)
+pub block-small : (n : ℕ) (c : Point) → OfGrid (n / 4) c → SmallBox n (blockBox n c)
 block-small n c h =
     record {
       xs = omega (arith, h .i);

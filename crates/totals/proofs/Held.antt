@@ -6,12 +6,11 @@ use Prim.Native.Nat.{ℕ, zero, suc, _+_, _*_, _-_, _/_, _≤_, _<_, min}
 use native.Mathlib.Nat.{mul-suc, add-zero, mul-le-mul-left}
 use native.Mathlib.Omega.{arith}
 use lib.Dec.{eqb}
-use lib.ListN.{length, getD, set, take, drop, replicate, length-set, length-replicate, getD-replicate, take-append-drop, List·getD-append}
+use lib.ListN.{length, getD, set, drop, replicate, length-set, length-replicate, getD-replicate, take-append-drop, List·getD-append}
 use lib.Seq.{getD-set-same, getD-set-other, drop-set-lt, drop-at}
 use Rattle.rules.specs.declared.Axis.the-variants.{X, Y, Z}
 use Rattle.rules.specs.declared.Point.{Point}
-use Rattle.rules.specs.declared.Box.{Box}
-use Rattle.rules.specs.Lists.{upto, sumOf, All}
+use Rattle.rules.specs.Lists.{upto, sumOf}
 use Rattle.rules.specs.Lattice.{samePoint, points, pointNumber, pointCount, OfGrid}
 use Rattle.rules.specs.Grid.{value, has, byteMarks}
 use Rattle.rules.specs.Patch.{side, extent}
@@ -27,7 +26,7 @@ use Rattle.lattice.proofs.Laws.{num-below}
 use Rattle.lattice.proofs.Clearing.{cleared-length}
 use Rattle.grids.proofs.Points.{pointsFrom, points-start, points-more, points-end, At, at-grid}
 use Rattle.totals.specs.Totals.{boxPoints, marksAt, marksIn, blockCount, blocks, blockBox, totalOf, totals, True, trued}
-use Rattle.totals.specs.Counting.{Small, blockOf, blockAt, heldWith, share, Held}
+use Rattle.totals.specs.Counting.{blockOf, blockAt, heldWith, share, Held}
 use Rattle.totals.proofs.Sums.{nested-sum}
 use Rattle.totals.proofs.Blocks.{block-small}
 

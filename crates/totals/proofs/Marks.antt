@@ -1,22 +1,22 @@
 -- Totals and sets of marks: a block at whose points nothing changes has one total; a grid without marks has none. Assumes nothing.
 use mathlib.Core.Path.{_≡_, refl, sym, ap, _∙_}
 use mathlib.Core.Bool.{Bool, true, false}
-use mathlib.Core.List.{List, [], _∷_, map, _++_}
-use Prim.Native.Nat.{ℕ, suc, _+_, _/_, _≤_, _<_}
+use mathlib.Core.List.{List, [], _∷_, _++_}
+use Prim.Native.Nat.{ℕ, suc, _+_, _/_, _≤_}
 use native.Mathlib.Omega.{arith}
-use lib.ListN.{length, getD, drop, replicate}
+use lib.ListN.{length, drop, replicate}
 use Rattle.rules.specs.declared.Axis.{Axis}
 use Rattle.rules.specs.declared.Axis.the-variants.{X, Y, Z}
 use Rattle.rules.specs.declared.Point.{Point}
 use Rattle.rules.specs.Lists.{sumOf}
-use Rattle.rules.specs.Lattice.{Set, samePoint, points, pointNumber, pointCount, OfGrid}
-use Rattle.rules.specs.Grid.{value, has, marks, isGrid}
+use Rattle.rules.specs.Lattice.{Set, samePoint, points, pointCount, OfGrid}
+use Rattle.rules.specs.Grid.{value, marks, isGrid}
 use Rattle.rules.proofs.Same.{map-same, sum-same}
 use Rattle.rules.proofs.Cuts.{samePoint→}
 use Rattle.rules.proofs.PointOf.{all-points}
 use Rattle.grids.proofs.GridFacts.{grid-marks}
 use Rattle.totals.specs.Totals.{marksAt, marksIn, blockCount, blocks, totalOf, totals, trued}
-use Rattle.totals.specs.Counting.{blockOf, share, Held}
+use Rattle.totals.specs.Counting.{blockOf, share}
 use Rattle.totals.proofs.Held.{regrouped, held-start, held-end}
 
 -- ---- marks and totals

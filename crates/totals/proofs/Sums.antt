@@ -15,8 +15,8 @@ use Rattle.rules.specs.Patch.{side, extent}
 use Rattle.rules.proofs.Lists.{upto-more}
 use Rattle.rules.proofs.Sums.{sum-each, sum-map}
 use Rattle.lattice.proofs.Laws.{num-parts, num-below}
-use Rattle.totals.specs.Totals.{boxPoints, marksAt, marksIn}
-use Rattle.totals.specs.Counting.{rowMarks, boxRow, layerMarks, Small}
+use Rattle.totals.specs.Totals.{marksAt, marksIn}
+use Rattle.totals.specs.Counting.{rowMarks, layerMarks, SmallBox}
 
 -- where a loop over the numbers from a on and below c stands at p: what is held and what is left come to the whole
 module _ (f : ℕ → ℕ) (c : ℕ) where
@@ -67,7 +67,7 @@ by-layers n g b =
     ap (λ (f : ℕ → ℕ). sumOf f (extent b Y)) (fun-ext (λ y. sum-moved (λ i. byteMarks (getD g i 0)) (suc n * (y + suc n * z)) (b .lo .i) (side b X)))))
 
 -- the bytes of a box's row lie in the buffer
-pub row-fits : (n : ℕ) (b : Box) (w : List ℕ) (j k : ℕ) → n ≤ 32 → pointCount n ≤ length w → Small n b → j < b .hi .j → k ≤ n →
+pub row-fits : (n : ℕ) (b : Box) (w : List ℕ) (j k : ℕ) → n ≤ 32 → pointCount n ≤ length w → SmallBox n b → j < b .hi .j → k ≤ n →
     (pointNumber n (record { i = b .lo .i; j = j; k = k }) ≤ 35937) × (pointNumber n (record { i = b .lo .i; j = j; k = k }) + side b X ≤ length w)
 row-fits n b w j k m l f h r =
     let p = num-parts n (record { i = b .lo .i; j = j; k = k }) m (record { i = f .xl; j = omega (arith, f .ye); k = r }) in

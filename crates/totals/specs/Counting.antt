@@ -26,7 +26,7 @@ unfoldable pub layerMarks : ℕ → List ℕ → Box → ℕ → ℕ
 layerMarks n g b k = sumOf (boxRow n g b k) (extent b Y)
 
 -- a box of points of the grid with at most four along each axis
-pub record Small (n : ℕ) (b : Box) : Type 0 where
+pub record SmallBox (n : ℕ) (b : Box) : Type 0 where
   pub xs : b .lo .i ≤ b .hi .i
   pub ys : b .lo .j ≤ b .hi .j
   pub zs : b .lo .k ≤ b .hi .k

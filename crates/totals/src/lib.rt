@@ -15,11 +15,12 @@ ghost use mathlib.Core.Bool.{true};
 ghost use mathlib.Core.List.{_++_};
 ghost use Prim.Native.Nat.{_+_, _/_, _≤_};
 ghost use lib.ListN.{length, getD, take, drop, replicate};
-ghost use Rattle.rules.specs.Lattice.{pointCount, OfGrid};
+ghost use Rattle.rules.specs.Lattice.{OfGrid};
 ghost use Rattle.rules.specs.Grid.{byteMarks, isGrid};
 ghost use Rattle.grids.specs.Scans.{readOf};
+ghost use Rattle.lattice.specs.Buffers.{Sized};
 ghost use Rattle.totals.specs.Totals.{marksIn, blockCount, blockBox, trued};
-ghost use Rattle.totals.specs.Counting.{rowMarks, layerMarks, Small, blockAt, heldWith};
+ghost use Rattle.totals.specs.Counting.{rowMarks, layerMarks, SmallBox, blockAt, heldWith};
 
 // The number of marks of a byte.
 fn marks_of(b: u8) -> u16
@@ -41,7 +42,7 @@ fn four_marks(grid: &[u8], from: usize) -> u16
 
 // The marks of a row of points, by the number of its first.
 fn row_marks(grid: &[u8], from: usize, count: usize) -> u16
-    requires { ⌜ (count ≤ 4) × (from ≤ 35937) × (from + count ≤ length (now grid)) ⌝ }
+    requires { ⌜ record { count-most : count ≤ 4; from-most : from ≤ 35937; grid-room : from + count ≤ length (now grid) } ⌝ }
     ensures { λ r. ⌜ (r ≡ rowMarks (now (grid .entry)) from count) × (r ≤ 12) ⌝ }
 {
     if count == 4 {
@@ -59,7 +60,7 @@ fn row_marks(grid: &[u8], from: usize, count: usize) -> u16
 
 // The marks of the box's layer k.
 fn layer_marks(n: usize, grid: &[u8], b: Box, k: usize) -> u16
-    requires { ⌜ (n ≤ 32) × (pointCount n ≤ length (now grid)) × Small n b × (k ≤ n) ⌝ }
+    requires { ⌜ record { sized : Sized n (now grid); box-small : SmallBox n b; layer : k ≤ n } ⌝ }
     ensures { λ r. ⌜ (r ≡ layerMarks n (now (grid .entry)) b k) × (r ≤ 48) ⌝ }
 {
     let lo = b.lo;
@@ -83,7 +84,7 @@ fn layer_marks(n: usize, grid: &[u8], b: Box, k: usize) -> u16
 
 // The marks of a box of points.
 pub fn box_marks(n: usize, grid: &[u8], b: Box) -> u16
-    requires { ⌜ (n ≤ 32) × (pointCount n ≤ length (now grid)) × Small n b ⌝ }
+    requires { ⌜ Sized n (now grid) × SmallBox n b ⌝ }
     ensures { λ r. ⌜ (r ≡ marksIn n (now (grid .entry)) b) × (r ≤ 192) ⌝ }
 {
     let hi = b.hi;
@@ -129,7 +130,7 @@ pub fn clear_totals(n: usize, table: &mut [u16])
 
 // Copies the totals of all blocks.
 pub fn store(n: usize, held: &[u16], table: &mut [u16])
-    requires { ⌜ (n ≤ 32) × (blockCount n ≤ length (now held)) × (blockCount n ≤ length (now table)) ⌝ }
+    requires { ⌜ record { small : n ≤ 32; held-long : blockCount n ≤ length (now held); table-long : blockCount n ≤ length (now table) } ⌝ }
     ensures { λ _. ⌜ now (table .exit) ≡ take (blockCount n) (now (held .entry)) ++ drop (blockCount n) (now (table .entry)) ⌝ }
 {
     let count = point_count(n / 4);
@@ -142,7 +143,12 @@ pub fn store(n: usize, held: &[u16], table: &mut [u16])
 
 // Adds the marks of a byte to the total of its point's block. Most bytes are 0.
 pub fn hold(n: usize, table: &mut [u16], p: Point, b: u8)
-    requires { ⌜ (n ≤ 32) × OfGrid n p × (blockCount n ≤ length (now table)) × (getD (now table) (blockAt n p) 0 + byteMarks b ≤ 192) ⌝ }
+    requires { ⌜ record {
+      small : n ≤ 32;
+      on-grid : OfGrid n p;
+      table-long : blockCount n ≤ length (now table);
+      total-room : getD (now table) (blockAt n p) 0 + byteMarks b ≤ 192;
+    } ⌝ }
     ensures { λ _. ⌜ now (table .exit) ≡ heldWith (now (table .entry)) (blockAt n p) (byteMarks b) ⌝ }
 {
     if b == 0 {
@@ -161,7 +167,7 @@ pub fn hold(n: usize, table: &mut [u16], p: Point, b: u8)
 
 // Counts the totals of all blocks, in one scan of the points.
 pub fn count_held(n: usize, grid: &[u8], table: &mut [u16])
-    requires { ⌜ (n ≤ 32) × (pointCount n ≤ length (now grid)) × (blockCount n ≤ length (now table)) ⌝ }
+    requires { ⌜ Sized n (now grid) × (blockCount n ≤ length (now table)) ⌝ }
     ensures { λ _. ⌜ now (table .exit) ≡ trued n (now (grid .entry)) (now (table .entry)) ⌝ }
 {
     clear_totals(n, table);
@@ -177,7 +183,7 @@ pub fn count_held(n: usize, grid: &[u8], table: &mut [u16])
 
 // Looks at every byte of a buffer, as `read_grid` does, and counts the totals of all blocks in the same scan.
 pub fn read_held(n: usize, grid: &[u8], table: &mut [u16]) -> GridRead
-    requires { ⌜ (n ≤ 32) × (pointCount n ≤ length (now grid)) × (blockCount n ≤ length (now table)) ⌝ }
+    requires { ⌜ Sized n (now grid) × (blockCount n ≤ length (now table)) ⌝ }
     ensures { λ r. ⌜ (r ≡ readOf n (now (grid .entry)))
         × (isGrid n (now (grid .entry)) ≡ true → now (table .exit) ≡ trued n (now (grid .entry)) (now (table .entry))) ⌝ }
 {

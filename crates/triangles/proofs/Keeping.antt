@@ -5,7 +5,7 @@ use mathlib.Core.Bool.{Bool, true, false, cond, _||_, or-false}
 use Prim.Native.Nat.{ℕ}
 use lib.Dec.{eqb}
 use lib.IntN.{ℤ, pos, sucℤ, _+ℤ_, _*ℤ_, +ℤ-assoc, +ℤ-comm, *ℤ-comm, sucℤ-*ℤ}
-use lib.Signed.{ltZ, _≤ℤ_, _<ℤ_, <ℤ-≤ℤ-trans}
+use lib.Signed.{ltZ, _≤ℤ_, <ℤ-≤ℤ-trans}
 use Rattle.triangles.specs.declared.Vector.{Vector}
 use Rattle.triangles.specs.declared.Span.{Span}
 use Rattle.triangles.specs.declared.Triangle.{Triangle}

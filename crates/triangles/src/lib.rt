@@ -225,8 +225,7 @@ impl Triangle {
 
     // Answers such an axis as it is kept for a grid of cells of side s.
     pub fn kept(self, k: usize, s: i64) -> Kept
-        requires { ⌜ Inside self ⌝ }
-        requires { ⌜ (k < 10) × UpTo latticeMost s ⌝ }
+        requires { ⌜ record { inside : Inside self; axis : k < 10; side-fits : UpTo latticeMost s } ⌝ }
         ensures { λ r. ⌜ ((w : ℕ) → s ≡ pos w → r ≡ keptOf w (getD (laterAxes self) k zeroVector) self) ⌝ }
     {
         let n = self.axis(k);

@@ -10,7 +10,7 @@ use Rattle.rules.specs.declared.Point.{Point}
 use Rattle.rules.specs.Lattice.{pointCount}
 use Rattle.lattice.specs.Cells.{Cell}
 use Rattle.walking.specs.Walks.{oddIn, Fine, seenB, Walked, stepOf}
-use Rattle.walking.specs.Bound.{unseenCells, Steps, stay, step, startOf, Whole, Walks, none, more}
+use Rattle.walking.specs.Bound.{unseenCells, Steps, stay, step, startOf, EndedWalk, Walks, none, more}
 use Rattle.walking.proofs.Bytes.{odd-face, odd-inside}
 use Rattle.walking.proofs.Unseen.{unseen-most, unseen-same, unseen-enter}
 use Rattle.walking.proofs.Invariant.{Live, left}
@@ -53,13 +53,13 @@ module _ (n : ℕ) (w₀ : List ℕ) (seed : Point) (size : pointCount n ≤ len
 
 -- every walk ends
 pub walk-ends : (n : ℕ) (w : List ℕ) (seed : Point) → Cell n seed → seenB n w seed ≡ false → Fine n w → pointCount n ≤ length w → (k : ℕ) ×
-    (u : List ℕ) × Whole n w k u
+    (u : List ℕ) × EndedWalk n w k u
 walk-ends n w seed cell unseen fine long =
     let t = ends n w seed long fine _ (startOf n w seed) (start-live n (oddIn n w) w seed (odd-inside n w) long (odd-face n w fine) cell unseen) (le-refl _) in
     (t .0, t .1 .work, record { seed = seed; cell = cell; unseen = unseen; fine = fine; long = long; last = t .1; steps = t .2; off = t .3; work = refl })
 
 -- it takes one step less than twice the cells that it sees
-pub walk-steps : (n : ℕ) (w : List ℕ) (k : ℕ) (u : List ℕ) → Whole n w k u → k + 1 + 2 * unseenCells n u ≡ 2 * unseenCells n w
+pub walk-steps : (n : ℕ) (w : List ℕ) (k : ℕ) (u : List ℕ) → EndedWalk n w k u → k + 1 + 2 * unseenCells n u ≡ 2 * unseenCells n w
 walk-steps n w k u h =
     let e = steps-left n w (h .seed) (h .long) (h .fine) (h .steps)
     (start-live n (oddIn n w) w (h .seed) (odd-inside n w) (h .long) (odd-face n w (h .fine)) (h .cell) (h .unseen)) in

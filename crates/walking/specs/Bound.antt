@@ -32,7 +32,7 @@ abbrev pub startOf : ℕ → List ℕ → Point → Walked
 startOf n w seed = record { walk = record { cell = seed; depth = 0; reach = cellBox seed; on = true }; work = seeOf n seed 0 w }
 
 -- a walk of k steps that has ended, from the work bytes w to the work bytes u
-pub record Whole (n : ℕ) (w : List ℕ) (k : ℕ) (u : List ℕ) : Type 0 where
+pub record EndedWalk (n : ℕ) (w : List ℕ) (k : ℕ) (u : List ℕ) : Type 0 where
   pub seed : Point
   pub cell : Cell n seed
   pub unseen : seenB n w seed ≡ false
@@ -46,4 +46,4 @@ pub record Whole (n : ℕ) (w : List ℕ) (k : ℕ) (u : List ℕ) : Type 0 wher
 -- walks one after another, k steps in all; between two of them no cell is seen or forgotten
 pub data Walks (n : ℕ) : List ℕ → ℕ → List ℕ → Type 0 where
   none : {w : List ℕ} → Walks n w 0 w
-  more : {w u v x : List ℕ} {k j : ℕ} → Whole n w k u → ((q : Point) → Cell n q → seenB n v q ≡ seenB n u q) → Walks n v j x → Walks n w (k + j) x
+  more : {w u v x : List ℕ} {k j : ℕ} → EndedWalk n w k u → ((q : Point) → Cell n q → seenB n v q ≡ seenB n u q) → Walks n v j x → Walks n w (k + j) x

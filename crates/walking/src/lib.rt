@@ -18,11 +18,11 @@ ghost use mathlib.Core.Path.{_≡_};
 ghost use mathlib.Core.Bool.{false};
 ghost use Prim.Native.Nat.{_≤_, _<_, _+_, _-_, _*_};
 ghost use lib.Dec.{eqb};
-ghost use lib.ListN.{length};
 ghost use Rattle.rules.specs.Lattice.{coord, OfGrid, pointOf, pointCount};
 ghost use Rattle.rules.specs.Grid.{value};
 ghost use Rattle.rules.specs.Rims.{joinBox};
 ghost use Rattle.lattice.specs.Cells.{indexOf, Cell};
+ghost use Rattle.lattice.specs.Buffers.{Sized};
 ghost use Rattle.walking.specs.Walks.{oddIn, Fine, seenB, seeOf, wayOf, leaveOf, BetweenCells, crossedOn, acrossOf, opposite, openB, firstOpen};
 ghost use Rattle.walking.specs.Walks.{WayBack, cellBox, withWork, stepOf, Found};
 
@@ -36,7 +36,7 @@ pub struct Walk {
 
 // Whether face f of the cell at point number `at` is odd and leads to a cell not yet seen.
 fn is_open(n: usize, work: &[u8], at: usize, f: usize) -> bool
-    requires { ⌜ (n ≤ 32) × (pointCount n ≤ length (now work)) × (at < pointCount n) × Cell n (pointOf n at) × Fine n (now work) × (f < 6) ⌝ }
+    requires { ⌜ record { sized : Sized n (now work); below : at < pointCount n; cell : Cell n (pointOf n at); fine : Fine n (now work); face : f < 6 } ⌝ }
     ensures { λ r. ⌜ r ≡ openB n (oddIn n (now (work .entry))) (now (work .entry)) (pointOf n at) f ⌝ }
 {
     let e = face_rule(f);
@@ -52,7 +52,7 @@ fn is_open(n: usize, work: &[u8], at: usize, f: usize) -> bool
 
 // The first face of a cell that is odd and leads to a cell not yet seen, or 6.
 fn next_face(n: usize, work: &[u8], at: usize) -> usize
-    requires { ⌜ (n ≤ 32) × (pointCount n ≤ length (now work)) × (at < pointCount n) × Cell n (pointOf n at) × Fine n (now work) ⌝ }
+    requires { ⌜ record { sized : Sized n (now work); below : at < pointCount n; cell : Cell n (pointOf n at); fine : Fine n (now work) } ⌝ }
     ensures { λ r. ⌜ r ≡ firstOpen n (oddIn n (now (work .entry))) (now (work .entry)) (pointOf n at) 6 0 ⌝ }
 {
     let mut f: usize = 0;
@@ -77,7 +77,7 @@ fn same(f: usize, g: usize) -> usize
 
 // A coordinate moved by an offset of the table: on, back, or not at all.
 fn shifted(k: usize, o: usize, on: usize, back: usize) -> usize
-    requires { ⌜ (k ≤ 32) × (o ≤ 1) × (on ≤ 1) × (back * o ≤ k) ⌝ }
+    requires { ⌜ record { small : k ≤ 32; step-most : o ≤ 1; on-most : on ≤ 1; back-most : back * o ≤ k } ⌝ }
     ensures { λ r. ⌜ r ≡ k + on * o - back * o ⌝ }
 {
     k + on * o - back * o
@@ -85,7 +85,7 @@ fn shifted(k: usize, o: usize, on: usize, back: usize) -> usize
 
 // A cell moved across face f where that is one of its two faces square to a: on or back by the table's step to the upper one. Without a branch.
 fn crossed_on(n: usize, c: Point, a: Axis, f: usize) -> Point
-    requires { ⌜ (n ≤ 32) × OfGrid n c × (value (eqb f (indexOf a)) 1 ≤ coord a c) ⌝ }
+    requires { ⌜ record { small : n ≤ 32; on-grid : OfGrid n c; back-most : value (eqb f (indexOf a)) 1 ≤ coord a c } ⌝ }
     ensures { λ r. ⌜ r ≡ crossedOn a f c ⌝ }
 {
     let o = upper_face(a).at;
@@ -101,7 +101,7 @@ fn crossed_on(n: usize, c: Point, a: Axis, f: usize) -> Point
 
 // The cell across face f of a cell, where the face lies between two cells.
 fn across(n: usize, c: Point, f: usize) -> Point
-    requires { ⌜ (n ≤ 32) × Cell n c × (f < 6) × BetweenCells n f c ⌝ }
+    requires { ⌜ record { small : n ≤ 32; cell : Cell n c; face : f < 6; between : BetweenCells n f c } ⌝ }
     ensures { λ r. ⌜ r ≡ acrossOf f c ⌝ }
 {
     let p = crossed_on(n, c, Axis::X, f);
@@ -122,7 +122,7 @@ fn opposite_face(f: usize) -> usize
 
 // Enters a cell by way of face f of the cell before.
 fn enter(n: usize, work: &mut [u8], c: Point, f: usize)
-    requires { ⌜ (n ≤ 32) × (pointCount n ≤ length (now work)) × OfGrid n c × (f < 6) ⌝ }
+    requires { ⌜ record { sized : Sized n (now work); on-grid : OfGrid n c; face : f < 6 } ⌝ }
     ensures { λ _. ⌜ now (work .exit) ≡ seeOf n c f (now (work .entry)) ⌝ }
 {
     let at = number_of(n, c);
@@ -131,7 +131,7 @@ fn enter(n: usize, work: &mut [u8], c: Point, f: usize)
 
 // Leaves a cell for good: puts its odd lower faces into the working set, and answers the face by which it was entered.
 fn leave(n: usize, work: &mut [u8], c: Point) -> usize
-    requires { ⌜ (n ≤ 32) × (pointCount n ≤ length (now work)) × OfGrid n c ⌝ }
+    requires { ⌜ Sized n (now work) × OfGrid n c ⌝ }
     ensures { λ r. ⌜ (r ≡ wayOf n (now (work .entry)) c) × (now (work .exit) ≡ leaveOf n c (now (work .entry))) ⌝ }
 {
     let at = number_of(n, c);
@@ -175,8 +175,13 @@ fn single(n: usize, c: Point) -> Box
 
 // Takes one step: on to a cell not yet seen, else back to the cell before, else the walk ends.
 fn walk_on(n: usize, work: &mut [u8], s: Walk) -> Walk
-    requires { ⌜ (n ≤ 32) × (pointCount n ≤ length (now work)) × Cell n (s .cell) × Fine n (now work) × (s .depth < 100000)
-        × WayBack n (now work) s ⌝ }
+    requires { ⌜ record {
+      sized : Sized n (now work);
+      cell : Cell n (s .cell);
+      fine : Fine n (now work);
+      shallow : s .depth < 100000;
+      way-back : WayBack n (now work) s;
+    } ⌝ }
     ensures { λ r. ⌜ withWork r (now (work .exit)) ≡ stepOf n (oddIn n (now (work .entry))) (withWork s (now (work .entry))) ⌝ }
 {
     let c = s.cell;
@@ -214,7 +219,7 @@ fn walk_on(n: usize, work: &mut [u8], s: Walk) -> Walk
 
 // Finds the rim that has an odd face of the cell `seed`: sees its cells, makes its faces the working set, and answers its box.
 pub fn find_rim(n: usize, work: &mut [u8], seed: Point) -> Box
-    requires { ⌜ (n ≤ 32) × (pointCount n ≤ length (now work)) × Cell n seed × Fine n (now work) × (seenB n (now work) seed ≡ false) ⌝ }
+    requires { ⌜ record { sized : Sized n (now work); cell : Cell n seed; fine : Fine n (now work); unseen : seenB n (now work) seed ≡ false } ⌝ }
     ensures { λ r. ⌜ Found n (oddIn n (now (work .entry))) (now (work .entry)) (now (work .exit)) seed r ⌝ }
 {
     enter(n, work, seed, 0);

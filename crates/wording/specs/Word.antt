@@ -4,13 +4,11 @@ use mathlib.Core.List.{List}
 use Prim.Native.Nat.{ℕ, _+_, _-_, _*_}
 use lib.Dec.{eqb, ltb}
 use lib.ListN.{length, getD}
-use Rattle.lattice.specs.declared.level.Level.{Level}
 use Rattle.lattice.specs.declared.level.LevelRead.{LevelRead}
 use Rattle.lattice.specs.declared.level.LevelRead.the-variants.{Known, Unknown}
 use Rattle.lattice.specs.Levels.{levelOf}
 use Rattle.rounding.specs.declared.Scale.{Scale}
 use Rattle.rounding.specs.declared.Scale.the-variants.{Known as At, Bad as NoScale}
-use Rattle.wording.specs.declared.Order.{Order}
 use Rattle.wording.specs.declared.Word.{Word}
 use Rattle.wording.specs.declared.Word.the-variants.{Known as Asks, Bad}
 

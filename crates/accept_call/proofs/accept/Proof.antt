@@ -64,13 +64,16 @@ decide-requires c κs =
     let cells = c .before .before .before .before .before .before .cells in
     let l = c .before .before .before .before .before .before .before .before .l in
     let v = l .given .0 .0 in
-    rw (cells .ensures) (
-      cells-more v,
-      cells-most v,
-      rw (points .ensures) at (if1 .left),
-      rw (points .ensures) at (c .before .before .before .if2 .left),
-      c .before .before .if3 .left,
-    )
+    rw (cells .ensures) (record {
+      above-one = cells-more v;
+      sized = record {
+        small = cells-most v;
+        grid-long = rw (points .ensures) at (if1 .left);
+        work-long = rw (points .ensures) at
+            (c .before .before .before .if2 .left);
+      };
+      fours = c .before .before .if3 .left;
+    })
 
 same-length : tie.Need-same-length
 same-length c = search needs

@@ -1,11 +1,9 @@
 -- `decide`: the quads are gathered in a cleared work, and signed and copied only where they are some grid's.
 -- Assumes nothing.
 use borrow.Author.Needs.{needs}
-use mathlib.Core.Path.{sym, subst}
-use Prim.Native.Nat.{ℕ, _≤_}
 use native.Mathlib.Omega.{arith}
 use borrow.Author.Tests.{not-true, not-false}
-use Rattle.rules.specs.Lattice.{pointCount}
+use Rattle.lattice.proofs.Buffers.{sized-kept, work-sized}
 use Rattle.accepting.proofs.Gathers.{blank-now, said-no, said-yes}
 use Rattle.accept_call.proofs.decide.Statement.{statement}
 use Rattle.accept_call.proofs.decide.Tie as tie
@@ -14,7 +12,7 @@ point-count-requires : tie.Need-point-count-requires
 point-count-requires c κs = search needs
 
 clear-requires : tie.Need-clear-requires
-clear-requires c κs = omega (arith, c .before .point-count .ensures .0, c .before .before .before .before .before .pre .3)
+clear-requires c κs = omega (arith, c .before .point-count .ensures .0, c .before .before .before .before .before .pre .sized .work-long)
 
 gather-requires : tie.Need-gather-requires
 gather-requires c κs =
@@ -22,20 +20,20 @@ gather-requires c κs =
     let point-count = c .before .before .before .before .before .point-count in
     let start = c .before .before .before .before .before .before .before .before .before in
     let n = start .args .n in
-    let w = start .args .work .now in (
-      start .pre .0,
-      start .pre .1,
-      subst (λ (k : ℕ). pointCount n ≤ k) (sym (clear .kept .1 .0)) (start .pre .3),
-      start .pre .4,
-      blank-now n _ (start .args .list .now) (start .args .grid .now) w _ (point-count .ensures .0) (start .pre .3) (clear .ensures),
-    )
+    let w = start .args .work .now in record {
+      above-one = start .pre .above-one;
+      sized = sized-kept (clear .kept .1 .0) (work-sized (start .pre .sized));
+      fours = start .pre .fours;
+      blank = blank-now n _ (start .args .list .now) (start .args .grid .now) w _ (point-count .ensures .0) (start .pre .sized .work-long) (clear .ensures);
+    }
 
 clear-requires-2 : tie.Need-clear-requires-2
 clear-requires-2 c κs =
     let gathered = c .before .before .before .before in
     let point-count = gathered .before .before .before .before .before .before .point-count in
     let start = gathered .before .before .before .before .before .before .before .before .before .before in
-    omega (arith, point-count .ensures .0, start .pre .3, gathered .before .before .before .before .clear .kept .1 .0, gathered .gather .kept .1 .1 .0)
+    let cleared = gathered .before .before .before .before .clear .kept .1 .0 in
+    omega (arith, point-count .ensures .0, start .pre .sized .work-long, cleared, gathered .gather .kept .1 .1 .0)
 
 same-length : tie.Need-same-length
 same-length c = search needs
@@ -45,7 +43,8 @@ returns c =
     let gathered = c .before .before .before .before .before .before .before in
     let point-count = gathered .before .before .before .before .before .before .point-count in
     let start = gathered .before .before .before .before .before .before .before .before .before .before in
-    said-no (start .args .n) _ (start .args .list .now) (start .args .grid .now) (start .args .work .now) _ (point-count .ensures .0) (start .pre .3)
+    said-no (start .args .n) _ (start .args .list .now) (start .args .grid .now) (start .args .work .now) _ (point-count .ensures .0)
+    (start .pre .sized .work-long)
     (gathered .before .before .before .before .clear .ensures) _ _ _ (gathered .gather .ensures)
     (not-true _ (c .before .before .before .before .if1 .taken)) (c .before .before .clear2 .ensures)
 
@@ -54,10 +53,15 @@ sign-grid-requires c κs =
     let gathered = c .before .before .before .before in
     let start = gathered .before .before .before .before .before .before .before .before .before .before in
     let told = gathered .gather .ensures in
-    let said = not-false _ (c .before .if1 .left) in (
-      (start .pre .1, omega (arith, start .pre .3, gathered .before .before .before .before .clear .kept .1 .0, gathered .gather .kept .1 .1 .0)),
-      (told .grid said, told .even said),
-    )
+    let said = not-false _ (c .before .if1 .left) in record {
+      sized = record {
+        small = start .pre .sized .small;
+        long = omega
+            (arith, start .pre .sized .work-long, gathered .before .before .before .before .clear .kept .1 .0, gathered .gather .kept .1 .1 .0);
+      };
+      is-grid = told .grid said;
+      even = told .even said;
+    }
 
 copy-requires : tie.Need-copy-requires
 copy-requires c κs =
@@ -68,12 +72,12 @@ copy-requires c κs =
       omega (
         arith,
         point-count .ensures .0,
-        start .pre .3,
+        start .pre .sized .work-long,
         gathered .before .before .before .before .clear .kept .1 .0,
         gathered .gather .kept .1 .1 .0,
         sign-grid .kept .1 .0,
       ),
-      omega (arith, point-count .ensures .0, start .pre .2),
+      omega (arith, point-count .ensures .0, start .pre .sized .grid-long),
     )
 
 clear-requires-3 : tie.Need-clear-requires-3
@@ -85,7 +89,7 @@ clear-requires-3 c κs =
     omega (
       arith,
       point-count .ensures .0,
-      start .pre .3,
+      start .pre .sized .work-long,
       gathered .before .before .before .before .clear .kept .1 .0,
       gathered .gather .kept .1 .1 .0,
       sign-grid .kept .1 .0,
@@ -106,7 +110,8 @@ returns-2 c =
     let clear = gathered .before .before .before .before .clear in
     let point-count = gathered .before .before .before .before .before .before .point-count in
     let start = gathered .before .before .before .before .before .before .before .before .before .before in
-    said-yes (start .args .n) _ (start .args .list .now) (start .args .grid .now) (start .args .work .now) _ (point-count .ensures .0) (start .pre .3)
+    said-yes (start .args .n) _ (start .args .list .now) (start .args .grid .now) (start .args .work .now) _ (point-count .ensures .0)
+    (start .pre .sized .work-long)
     (clear .ensures) _ _ _ _ _ (gathered .gather .ensures) (not-false _ (if1 .left)) (sign-grid .ensures) (copy .ensures) (c .before .before .clear3 .ensures)
 
 pub decide-spec : {M : Type 1} → statement M

@@ -11,7 +11,8 @@ use Rattle.accept_call.proofs.gather.Statement.{statement}
 use Rattle.accept_call.proofs.gather.Tie as tie
 
 place-all-requires : tie.Need-place-all-requires
-place-all-requires c κs = let start = c .before .before .before in (omega (arith, start .pre .0), start .pre .1, start .pre .2, start .pre .3)
+place-all-requires c κs = let start = c .before .before .before in
+    record { some = omega (arith, start .pre .above-one); sized = start .pre .sized; fours = start .pre .fours }
 
 same-length : tie.Need-same-length
 same-length c = search needs
@@ -19,21 +20,25 @@ same-length c = search needs
 returns : tie.Need-returns
 returns c =
     let start = c .before .before .before .before .before .before .before in
-    not-placed (start .args .n) (start .args .list .now) (start .args .work .now) (start .pre .2) (start .pre .4) _ _ (c .before .before .before .place-all
+    not-placed (start .args .n) (start .args .list .now) (start .args .work .now) (start .pre .sized .long) (start .pre .blank) _ _
+    (c .before .before .before .place-all
     .ensures) (not-true _ (c .if1 .taken))
 
 all-even-requires : tie.Need-all-even-requires
 all-even-requires c κs =
     let start = c .before .before .before .before .before .before .before .before in
     let n = start .args .n in
-    let w = start .args .work .now in (
-      omega (arith, start .pre .0),
-      start .pre .1,
-      subst (λ (k : ℕ). pointCount n ≤ k) (sym (c .before .before .before .before .place-all .kept .1 .1 .0))
-          (start .pre .2),
-      grid-now n (start .args .list .now) w (start .pre .2) (start .pre .4) _ _ (c .before .before .before .before .place-all .ensures) (not-false _ (c
-          .before .if1 .left)),
-    )
+    let w = start .args .work .now in record {
+      some = omega (arith, start .pre .above-one);
+      sized = record {
+        small = start .pre .sized .small;
+        long = subst (λ (k : ℕ). pointCount n ≤ k)
+            (sym (c .before .before .before .before .place-all .kept .1 .1 .0)) (start .pre .sized .long);
+      };
+      is-grid = grid-now n (start .args .list .now) w (start .pre .sized .long) (start .pre .blank) _ _
+          (c .before .before .before .before .place-all .ensures) (not-false _ (c
+          .before .if1 .left));
+    }
 
 same-length-2 : tie.Need-same-length-2
 same-length-2 c = search needs
@@ -42,7 +47,7 @@ returns-2 : tie.Need-returns-2
 returns-2 c =
     let place-all = c .before .before .before .before .before .before .place-all in
     let start = c .before .before .before .before .before .before .before .before .before .before in
-    not-even (start .args .n) (start .args .list .now) (start .args .work .now) (start .pre .2) (start .pre .4) _ _ (place-all .ensures)
+    not-even (start .args .n) (start .args .list .now) (start .args .work .now) (start .pre .sized .long) (start .pre .blank) _ _ (place-all .ensures)
     (not-false _ (c .before .before .before .if1 .left)) (fails (c .before .all-even .ensures) (c .if2 .taken))
 
 said-inside-requires : tie.Need-said-inside-requires
@@ -51,12 +56,15 @@ said-inside-requires c κs =
     let place-all = c .before .before .before .before .before .before .before .place-all in
     let start = c .before .before .before .before .before .before .before .before .before .before .before in
     let n = start .args .n in
-    let w = start .args .work .now in (
-      start .pre .1,
-      subst (λ (k : ℕ). pointCount n ≤ k) (sym (place-all .kept .1 .1 .0)) (start .pre .2),
-      grid-now n (start .args .list .now) w (start .pre .2) (start .pre .4) _ _ (place-all .ensures) (not-false _ (if1 .left)),
-      holds (c .before .before .all-even .ensures) (c .before .if2 .left),
-    )
+    let w = start .args .work .now in record {
+      sized = record {
+        small = start .pre .sized .small;
+        long = subst (λ (k : ℕ). pointCount n ≤ k) (sym (place-all .kept .1 .1 .0))
+            (start .pre .sized .long);
+      };
+      is-grid = grid-now n (start .args .list .now) w (start .pre .sized .long) (start .pre .blank) _ _ (place-all .ensures) (not-false _ (if1 .left));
+      even = holds (c .before .before .all-even .ensures) (c .before .if2 .left);
+    }
 
 same-length-3 : tie.Need-same-length-3
 same-length-3 c = search needs
@@ -66,7 +74,7 @@ returns-3 c =
     let if1 = c .before .before .before .before .before .if1 in
     let place-all = c .before .before .before .before .before .before .before .before .place-all in
     let start = c .before .before .before .before .before .before .before .before .before .before .before .before in
-    all-said (start .args .n) (start .args .list .now) (start .args .work .now) (start .pre .2) (start .pre .4) _ _ (place-all .ensures)
+    all-said (start .args .n) (start .args .list .now) (start .args .work .now) (start .pre .sized .long) (start .pre .blank) _ _ (place-all .ensures)
     (not-false _ (if1 .left)) (holds (c .before .before .before .all-even .ensures) (c .before .before .if2 .left)) _ (c .said-inside .ensures)
 
 pub gather-spec : {M : Type 1} → statement M

@@ -35,7 +35,7 @@ wrong : (n : ℕ) (w : List ℕ) (p : ℕ) (x : Bool) {b : Bool} → x ≡ sign 
 wrong n w p x e f = ap (λ (y : Bool). not (saysInside (getD w p 0)) || y) (sym e) ∙ f
 
 point-count-requires : tie.Need-point-count-requires Inv-loop μ-loop
-point-count-requires c κs = c .before .pre .0
+point-count-requires c κs = c .before .pre .sized .small
 
 loop-holds : tie.Need-loop-holds Inv-loop μ-loop
 loop-holds c =
@@ -45,7 +45,7 @@ loop-holds c =
     (c .point-count .ensures .0, omega arith, sym (first-outside n (marks n w)), said-start n w)
 
 shared-slice-read-b : tie.Need-shared-slice-read-b Inv-loop μ-loop
-shared-slice-read-b c = omega (arith, c .before .before .loop .inv .0, c .before .loop-test .taken, c .before .before .before .before .before .pre .1)
+shared-slice-read-b c = omega (arith, c .before .before .loop .inv .0, c .before .loop-test .taken, c .before .before .before .before .before .pre .sized .long)
 
 says-wrongly-requires : tie.Need-says-wrongly-requires Inv-loop μ-loop
 says-wrongly-requires c κs = tt
@@ -85,7 +85,7 @@ loop-again c =
     let h : l .p < pointCount n = omega (arith, l .inv .0, loop-test .taken) in
     let e : saidAt n w (l .p) ≡ true = wrong n w (l .p) (l .inside) (l .inv .2)
     (not-false _ (sym (c .before .before .says-wrongly .ensures) ∙ c .before .if1 .left)) in
-    let next = sign-next n w (start .pre .1) (start .pre .2) (start .pre .3) (l .p) h in (
+    let next = sign-next n w (start .pre .sized .long) (start .pre .is-grid) (start .pre .even) (l .p) h in (
       l .inv .0,
       omega arith,
       rw add-one (c .across .ensures ∙ ap (λ (b : Bool). b ⊕ has X (getD w (l .p) 0)) (l .inv .2) ∙ sym next),

@@ -25,10 +25,14 @@ make-job-requires c κs =
     let at-empty-list = c .before .before .before .before .before in
     let at-empty-grid = at-empty-list .before in
     let start = at-empty-grid .before .before .before .before in
-    let n = ap length (at-empty-list .empty-list .ensures ∙ list-lent) ∙ list-long in (
-      (start .pre .0, start .pre .1, at-empty-grid .empty-grid .ensures ∙ bytes-lent),
-      (omega (arith, n), start .pre .2, omega (arith, n, start .pre .3)),
-    )
+    let n = ap length (at-empty-list .empty-list .ensures ∙ list-lent) ∙ list-long in record {
+      level-is = start .pre .level-is;
+      ready = start .pre .ready;
+      work-lent = at-empty-grid .empty-grid .ensures ∙ bytes-lent;
+      list-fits = omega (arith, n);
+      front-room = start .pre .front-room;
+      back-room = omega (arith, n, start .pre .back-room);
+    }
 
 same-length : tie.Need-same-length
 same-length c = search needs

@@ -27,7 +27,12 @@ case-grid-requires c κs =
     let at-mark-model = at-order .before .before .before in
     let start = at-mark-model .before .before .before .before .before .before in
     let m = rw (at-order .order .given .1) at (at-mark-model .mark-model .ensures) in
-    (m .stood .0 .level-is, m .stood .3, start .pre .0, start .pre .1)
+    record {
+      level-is = m .stood .0 .level-is;
+      ready = m .stood .3;
+      front-room = start .pre .0;
+      back-room = start .pre .1;
+    }
 
 placed-requires : tie.Need-placed-requires
 placed-requires c κs = search needs

@@ -11,7 +11,11 @@ corner-rule-requires : tie.Need-corner-rule-requires
 corner-rule-requires c κs = search needs
 
 move-to-requires : tie.Need-move-to-requires
-move-to-requires c κs = (c .before .pre .0, c .before .pre .1, corner-small (c .before .args .a) _ (c .corner-rule .ensures))
+move-to-requires c κs = record {
+  small = c .before .pre .0;
+  on-grid = c .before .pre .1;
+  stepped = corner-small (c .before .args .a) _ (c .corner-rule .ensures);
+}
 
 returns : tie.Need-returns
 returns c =

@@ -20,17 +20,17 @@ use Rattle.corner_marks.proofs.mark_cell.Tie as tie
 number-of-requires : tie.Need-number-of-requires
 number-of-requires c κs =
     let s = c .before in
-    rw (s .pre .1 .0) (cells-most (s .args .l), corner-grid (cellsOf (s .args .l)) (s .args .c) X (s .pre .1 .2) .0)
+    rw (s .pre .cells-are) (cells-most (s .args .l), corner-grid (cellsOf (s .args .l)) (s .args .c) X (s .pre .cell) .0)
 
 numbers-of-requires : tie.Need-numbers-of-requires
 numbers-of-requires c κs =
     let s = c .before .before .before in
-    cell-wide (cellsOf (s .args .l)) (s .args .c) (cells-most (s .args .l)) (s .pre .1 .2)
+    cell-wide (cellsOf (s .args .l)) (s .args .c) (cells-most (s .args .l)) (s .pre .cell)
 
 slice-read-unit-clear : tie.Need-slice-read-unit-clear
 slice-read-unit-clear c =
     let s = c .before .before .before .before .before in
-    lt-of-lt-of-le (rw (s .pre .1 .0) at (c .before .before .before .number-of .ensures .1)) (s .pre .1 .1)
+    lt-of-lt-of-le (rw (s .pre .cells-are) at (c .before .before .before .number-of .ensures .1)) (s .pre .grid-long)
 
 unit-clear-requires : tie.Need-unit-clear-requires
 unit-clear-requires c κs = search needs
@@ -38,11 +38,11 @@ unit-clear-requires c κs = search needs
 left-of-kept-requires : tie.Need-left-of-kept-requires
 left-of-kept-requires c κs =
     let s = c .before .before .before .before .before .before in
-    let fits = kept-fits (s .args .l) (s .args .t) (s .pre .0 .0) in (
-      c .unit-clear .ensures .0,
-      s .pre .0 .1,
-      λ k h. rw (s .pre .0 .2 .axis k h, c .before .before .numbers-of .ensures) (fits k (s .args .c) (s .pre .1 .2)),
-    )
+    let fits = kept-fits (s .args .l) (s .args .t) (s .pre .inside) in record {
+      left-fits = c .unit-clear .ensures .0;
+      built-most = s .pre .built-most;
+      fits-kept = λ k h. rw (s .pre .keeps .axis k h, c .before .before .numbers-of .ensures) (fits k (s .args .c) (s .pre .cell));
+    }
 
 -- what the axes kept leave
 left-is : (c : tie.After-left-of-kept) (a : Axis) →
@@ -61,21 +61,31 @@ returns c =
     let s = c .before .before .before .before .before .before .before .before in
     let l = s .args .l in
     let g = s .args .grid .now in
-    let at = rw (s .pre .1 .0) at (number-of .ensures .0) in
-    let none = left-none l (s .args .t) (s .args .lo) (s .args .c) (s .pre .1 .3) (s .pre .1 .2) (s .args .built) (s .args .kept .now)
-    (s .pre .0 .1) (s .pre .0 .2) (getD g (number-of .result) 0) (c .before .left-of-kept .result) (left-is (c .before)) (c .if1 .taken) in
-    (s .pre .0 .1, s .pre .0 .2, cell-done (cellsOf l) (s .args .c) (met l (s .args .t)) g (rw at at none))
+    let at = rw (s .pre .cells-are) at (number-of .ensures .0) in
+    let none = left-none l (s .args .t) (s .args .lo) (s .args .c) (s .pre .reaches) (s .pre .cell) (s .args .built) (s .args .kept .now)
+    (s .pre .built-most) (s .pre .keeps) (getD g (number-of .result) 0) (c .before .left-of-kept .result) (left-is (c .before)) (c .if1 .taken) in
+    (s .pre .built-most, s .pre .keeps, cell-done (cellsOf l) (s .args .c) (met l (s .args .t)) g (rw at at none))
 
 left-of-rest-requires : tie.Need-left-of-rest-requires
 left-of-rest-requires c κs =
     let s = c .before .before .before .before .before .before .before .before .before in
-    (s .pre .0 .0, c .before .before .left-of-kept .ensures .0, s .pre .0 .1, s .pre .0 .2, s .pre .1 .2)
+    record {
+      inside = s .pre .inside;
+      left-fits = c .before .before .left-of-kept .ensures .0;
+      built-most = s .pre .built-most;
+      keeps = s .pre .keeps;
+      cell = s .pre .cell;
+    }
 
 mark-left-requires : tie.Need-mark-left-requires
 mark-left-requires c κs =
     let number-of = c .before .before .before .before .before .before .before .before .before .number-of in
     let s = c .before .before .before .before .before .before .before .before .before .before .before in
-    rw (s .pre .1 .0) (cells-most (s .args .l), s .pre .1 .1, s .pre .1 .2, rw (s .pre .1 .0) at (number-of .ensures .0))
+    rw (s .pre .cells-are) (record {
+      sized = record { small = cells-most (s .args .l); long = s .pre .grid-long };
+      cell = s .pre .cell;
+      number-is = rw (s .pre .cells-are) at (number-of .ensures .0);
+    })
 
 same-length : tie.Need-same-length
 same-length c = search needs
@@ -88,12 +98,12 @@ returns-2 c =
     let s = kept .before .before .before .before .before .before .before in
     let l = s .args .l in
     let b = getD (s .args .grid .now) (number-of .result) 0 in
-    let at = rw (s .pre .1 .0) at (number-of .ensures .0) in
-    let left = left-met l (s .args .t) (s .args .lo) (s .args .c) (s .pre .1 .3) (s .pre .1 .2) (s .args .built) (s .args .kept .now)
-    (s .pre .0 .1) (s .pre .0 .2) b (kept .left-of-kept .result) (left-is kept) in
+    let at = rw (s .pre .cells-are) at (number-of .ensures .0) in
+    let left = left-met l (s .args .t) (s .args .lo) (s .args .c) (s .pre .reaches) (s .pre .cell) (s .args .built) (s .args .kept .now)
+    (s .pre .built-most) (s .pre .keeps) b (kept .left-of-kept .result) (left-is kept) in
     let all : (a : Axis) → has a b ≡ false → met l (s .args .t) a (s .args .c) ≡ has a (rest .result .left)
     = λ a h. left a h ∙ sym (rest .ensures .2 a) in
-    let added = rw (s .pre .1 .0) at (c .before .before .mark-left .ensures (met l (s .args .t))) in
+    let added = rw (s .pre .cells-are) at (c .before .before .mark-left .ensures (met l (s .args .t))) in
     (rest .ensures .0, rest .ensures .1, added (rw at at all))
 
 pub mark-cell-spec : {M : Type 1} → statement M

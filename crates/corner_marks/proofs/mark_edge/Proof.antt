@@ -12,7 +12,7 @@ use Rattle.corner_marks.proofs.mark_edge.Tie as tie
 
 -- the edge's byte is one of the buffer's
 below : (s : tie.Start) → s .args .at < length (s .args .grid .now)
-below s = rw (s .pre .2) (lt-of-lt-of-le (num-below (s .args .n) (s .args .e .at) (s .pre .1)) (s .pre .0))
+below s = rw (s .pre .number-is) (lt-of-lt-of-le (num-below (s .args .n) (s .args .e .at) (s .pre .on-grid)) (s .pre .long))
 
 slice-read-bit : tie.Need-slice-read-bit
 slice-read-bit c = below (c .before .before)
@@ -23,7 +23,7 @@ bit-requires c κs = search needs
 returns : tie.Need-returns
 returns c =
     let s = c .before .before .before .before in
-    let m = rw (s .pre .2) at (c .before .bit .ensures) in
+    let m = rw (s .pre .number-is) at (c .before .bit .ensures) in
     λ E f. edge-marked (s .args .n) E (s .args .e) (s .args .grid .now) (sym m ∙ c .if1 .taken)
 
 bit-requires-2 : tie.Need-bit-requires-2
@@ -32,7 +32,7 @@ bit-requires-2 c κs = search needs
 returns-2 : tie.Need-returns-2
 returns-2 c =
     let s = c .before .before .before .before .before .before in
-    let m = rw (s .pre .2) at (c .before .before .before .bit .ensures) in
+    let m = rw (s .pre .number-is) at (c .before .before .before .bit .ensures) in
     let clear = sym m ∙ c .before .before .if1 .left in
     λ E f. edge-not-in (s .args .n) E (s .args .e) (s .args .grid .now) (f clear ∙ fails (c .before .bit2 .ensures) (c .if2 .taken))
 
@@ -49,11 +49,11 @@ returns-3 c =
     let if1 = c .before .before .before .before .before .before .if1 in
     let bit = c .before .before .before .before .before .before .before .bit in
     let s = c .before .before .before .before .before .before .before .before .before .before in
-    let m = rw (s .pre .2) at (bit .ensures) in
+    let m = rw (s .pre .number-is) at (bit .ensures) in
     let clear = sym m ∙ if1 .left in
     let is-left = holds (bit2 .ensures) (if2 .left) in
-    rw (c .before .before .turn .ensures, s .pre .2)
-    (λ E f. edge-turned (s .args .n) E (s .args .e) (s .args .grid .now) (s .pre .0) (s .pre .1) clear (f clear ∙ is-left))
+    rw (c .before .before .turn .ensures, s .pre .number-is)
+    (λ E f. edge-turned (s .args .n) E (s .args .e) (s .args .grid .now) (s .pre .long) (s .pre .on-grid) clear (f clear ∙ is-left))
 
 pub mark-edge-spec : {M : Type 1} → statement M
 mark-edge-spec =

@@ -6,36 +6,48 @@ use Rattle.corner_marks.proofs.mark_left.Statement.{statement}
 use Rattle.corner_marks.proofs.mark_left.Tie as tie
 
 corner-edge-requires : tie.Need-corner-edge-requires
-corner-edge-requires c κs = let s = c .before .before in (s .pre .0, corner-grid (s .args .n) (s .args .c) X (s .pre .2) .0)
+corner-edge-requires c κs = let s = c .before .before in (s .pre .sized .small, corner-grid (s .args .n) (s .args .c) X (s .pre .cell) .0)
 
 mark-edge-requires : tie.Need-mark-edge-requires
 mark-edge-requires c κs =
     let s = c .before .before .before in
-    rw (c .corner-edge .ensures) (s .pre .1, corner-grid (s .args .n) (s .args .c) X (s .pre .2) .0, s .pre .3)
+    rw (c .corner-edge .ensures) (record {
+      long = s .pre .sized .long;
+      on-grid = corner-grid (s .args .n) (s .args .c) X (s .pre .cell) .0;
+      number-is = s .pre .number-is;
+    })
 
 corner-edge-requires-2 : tie.Need-corner-edge-requires-2
 corner-edge-requires-2 c κs =
     let s = c .before .before .before .before .before .before .before in
-    (s .pre .0, corner-grid (s .args .n) (s .args .c) Y (s .pre .2) .0)
+    (s .pre .sized .small, corner-grid (s .args .n) (s .args .c) Y (s .pre .cell) .0)
 
 mark-edge-requires-2 : tie.Need-mark-edge-requires-2
 mark-edge-requires-2 c κs =
     let s = c .before .before .before .before .before .before .before .before in
     let long = c .before .before .before .before .mark-edge .kept .1 .0 in
-    rw (c .corner-edge2 .ensures) (rw long (s .pre .1), corner-grid (s .args .n) (s .args .c) Y (s .pre .2) .0, s .pre .3)
+    rw (c .corner-edge2 .ensures) (record {
+      long = rw long (s .pre .sized .long);
+      on-grid = corner-grid (s .args .n) (s .args .c) Y (s .pre .cell) .0;
+      number-is = s .pre .number-is;
+    })
 
 corner-edge-requires-3 : tie.Need-corner-edge-requires-3
 corner-edge-requires-3 c κs =
     let s = c .before .before .before .before .before .before .before .before .before .before .before .before in
-    (s .pre .0, corner-grid (s .args .n) (s .args .c) Z (s .pre .2) .0)
+    (s .pre .sized .small, corner-grid (s .args .n) (s .args .c) Z (s .pre .cell) .0)
 
 mark-edge-requires-3 : tie.Need-mark-edge-requires-3
 mark-edge-requires-3 c κs =
     let mark-edge2 = c .before .before .before .before .mark-edge2 in
     let mark-edge = c .before .before .before .before .before .before .before .before .before .mark-edge in
     let s = c .before .before .before .before .before .before .before .before .before .before .before .before .before in
-    let o = corner-grid (s .args .n) (s .args .c) Z (s .pre .2) .0 in
-    rw (c .corner-edge3 .ensures) (rw (mark-edge2 .kept .1 .0, mark-edge .kept .1 .0) (s .pre .1), o, s .pre .3)
+    let o = corner-grid (s .args .n) (s .args .c) Z (s .pre .cell) .0 in
+    rw (c .corner-edge3 .ensures) (record {
+      long = rw (mark-edge2 .kept .1 .0, mark-edge .kept .1 .0) (s .pre .sized .long);
+      on-grid = o;
+      number-is = s .pre .number-is;
+    })
 
 same-length : tie.Need-same-length
 same-length c = search needs
@@ -48,7 +60,7 @@ returns c =
     let s = first .before .before .before .before in
     let n = s .args .n in
     let d = s .args .c in
-    let o = corner-grid n d X (s .pre .2) .0 in
+    let o = corner-grid n d X (s .pre .cell) .0 in
     let x = rw (first .before .corner-edge .ensures) at (first .mark-edge .ensures) in
     let y = rw (second .before .corner-edge2 .ensures) at (second .mark-edge2 .ensures) in
     let z = rw (third .before .corner-edge3 .ensures) at (third .mark-edge3 .ensures) in

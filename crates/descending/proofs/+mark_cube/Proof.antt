@@ -24,7 +24,7 @@ use Rattle.meeting.specs.Covered.{Covers}
 use Rattle.meeting.specs.Adding.{Added}
 use Rattle.corners.proofs.Planes.{covers-reaches}
 use Rattle.descending.specs.Cubes.{inFirsts}
-use Rattle.descending.specs.Reach.{Ready}
+use Rattle.descending.specs.Reach.{KeepsAll}
 use Rattle.descending.proofs.Cubes.{outside-dropped, missed-dropped, single-cell, single-touches, single}
 use Rattle.descending.proofs.Cubes.{halves, eighth-ok, first-none, first-next, first-all, cube-wider}
 use Rattle.descending.proofs.+mark_cube.{statement}
@@ -42,7 +42,7 @@ mark-cube-below t =
 
 abbrev mark-cube-Inv-loop : mark-cube-lts.InvT-loop
 mark-cube-Inv-loop l n grid₀ kept reach b c k₀ grid k =
-    (k ≤ 8) × (length grid ≡ length grid₀) × ((t : Triangle) → Ready l t kept reach → Covers l t b → Added (cellsOf l) (inFirsts c k (met l t)) grid₀ grid)
+    (k ≤ 8) × (length grid ≡ length grid₀) × ((t : Triangle) → KeepsAll l t kept reach → Covers l t b → Added (cellsOf l) (inFirsts c k (met l t)) grid₀ grid)
 
 abbrev mark-cube-μ-loop : mark-cube-lts.MeasureT-loop
 mark-cube-μ-loop l n grid₀ kept reach b c k₀ grid k = 8 - k
@@ -65,7 +65,7 @@ claims t = (
 mark-cube-touches-requires : (t : ℕ) → mark-cube-lts.Need-touches-requires (claims t) (mark-cube-at t) mark-cube.Post mark-cube-Inv-loop mark-cube-μ-loop
 mark-cube-touches-requires t c κs =
     let s = c .before in
-    cube-wider (cellsOf (s .args .l)) (s .args .c) (cells-most (s .args .l)) (s .pre .1 .2)
+    cube-wider (cellsOf (s .args .l)) (s .args .c) (cells-most (s .args .l)) (s .pre .1 .cube)
 
 mark-cube-returns : (t : ℕ) → mark-cube-lts.Need-returns (claims t) (mark-cube-at t) mark-cube.Post mark-cube-Inv-loop mark-cube-μ-loop
 mark-cube-returns t c =
@@ -77,7 +77,12 @@ mark-cube-mark-single-requires : (t : ℕ) →
     mark-cube-lts.Need-mark-single-requires (claims t) (mark-cube-at t) mark-cube.Post mark-cube-Inv-loop mark-cube-μ-loop
 mark-cube-mark-single-requires t c κs =
     let s = c .before .before .before .before .before .before in
-    (s .pre .1 .0, s .pre .1 .1, single-cell (cellsOf (s .args .l)) (s .args .c) (c .before .if2 .taken) (s .pre .1 .2), s .pre .1 .3)
+    let p = s .pre .1 in record {
+      cells-are = p .cells-are;
+      grid-long = p .grid-long;
+      cell = single-cell (cellsOf (s .args .l)) (s .args .c) (c .before .if2 .taken) (p .cube);
+      loaded = p .loaded;
+    }
 
 mark-cube-same-length : (t : ℕ) → mark-cube-lts.Need-same-length (claims t) (mark-cube-at t) mark-cube.Post mark-cube-Inv-loop mark-cube-μ-loop
 mark-cube-same-length t c = search needs
@@ -93,7 +98,7 @@ mark-cube-returns-2 t c =
     single (cellsOf (s .args .l)) (s .args .c) one (met (s .args .l) u) (c .before .before .mark-single .ensures u y r)
 
 mark-cube-is-missed-requires : (t : ℕ) → mark-cube-lts.Need-is-missed-requires (claims t) (mark-cube-at t) mark-cube.Post mark-cube-Inv-loop mark-cube-μ-loop
-mark-cube-is-missed-requires t c κs = let s = c .before .before .before .before .before in (s .pre .1 .3, s .pre .1 .2)
+mark-cube-is-missed-requires t c κs = let s = c .before .before .before .before .before in (s .pre .1 .loaded, s .pre .1 .cube)
 
 mark-cube-returns-3 : (t : ℕ) → mark-cube-lts.Need-returns-3 (claims t) (mark-cube-at t) mark-cube.Post mark-cube-Inv-loop mark-cube-μ-loop
 mark-cube-returns-3 t c =
@@ -110,14 +115,16 @@ mark-cube-loop-holds t c =
 mark-cube-eighth-requires : (t : ℕ) → mark-cube-lts.Need-eighth-requires (claims t) (mark-cube-at t) mark-cube.Post mark-cube-Inv-loop mark-cube-μ-loop
 mark-cube-eighth-requires t c κs =
     let s = c .before .before .before .before .before .before .before .before .before .before in
-    cube-wider (cellsOf (s .args .l)) (s .args .c) (cells-most (s .args .l)) (s .pre .1 .2)
+    cube-wider (cellsOf (s .args .l)) (s .args .c) (cells-most (s .args .l)) (s .pre .1 .cube)
 
 mark-cube-mark-cube-requires : (t : ℕ) → mark-cube-lts.Need-mark-cube-requires (claims t) (mark-cube-at t) mark-cube.Post mark-cube-Inv-loop mark-cube-μ-loop
 mark-cube-mark-cube-requires t c κs =
     let s = c .before .before .before .before .before .before .before .before .before .before .before in
     let two = c .before .before .before .before .before .before .if2 .left in
-    let e = eighth-ok (cellsOf (s .args .l)) (s .args .c) (s .pre .1 .2) two _ t _ (s .pre .0) (c .eighth .ensures) in
-    (e .0, (s .pre .1 .0, rw (c .before .before .before .loop .inv .1) (s .pre .1 .1), e .1, s .pre .1 .3))
+    let e = eighth-ok (cellsOf (s .args .l)) (s .args .c) (s .pre .1 .cube) two _ t _ (s .pre .0) (c .eighth .ensures) in
+    let p = s .pre .1 in
+    let kept = c .before .before .before .loop .inv .1 in
+    (e .0, record { cells-are = p .cells-are; grid-long = rw kept (p .grid-long); cube = e .1; loaded = p .loaded })
 
 mark-cube-add-k : (t : ℕ) → mark-cube-lts.Need-add-k (claims t) (mark-cube-at t) mark-cube.Post mark-cube-Inv-loop mark-cube-μ-loop
 mark-cube-add-k t c = omega arith
@@ -130,7 +137,7 @@ mark-cube-loop-again t c =
     let s = c .before .before .before .before .before .before .before .before .before .before .before .before .before .before in
     let n = cellsOf (s .args .l) in
     let l = c .before .before .before .before .before .before .loop in
-    let w = halves n (s .args .c) (s .pre .1 .2) (c .before .before .before .before .before .before .before .before .before .if2 .left) in (
+    let w = halves n (s .args .c) (s .pre .1 .cube) (c .before .before .before .before .before .before .before .before .before .if2 .left) in (
       omega arith,
       c .before .before .mark-cube .kept .1 .1 .0 ∙ l .inv .1,
       λ u y v.
@@ -146,7 +153,7 @@ mark-cube-returns-4 t c =
     let s = c .before .before .before .before .before .before .before .before .before in
     let n = cellsOf (s .args .l) in
     let l = c .before .loop in
-    let w = halves n (s .args .c) (s .pre .1 .2) (c .before .before .before .before .if2 .left) in
+    let w = halves n (s .args .c) (s .pre .1 .cube) (c .before .before .before .before .if2 .left) in
     let h : l .k ≡ 8 = omega arith in
     λ u y v. first-all (s .args .c) (w .even) n (met (s .args .l) u) (rw h at (l .inv .2 u y v))
 

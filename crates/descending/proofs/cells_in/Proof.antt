@@ -29,13 +29,13 @@ module _ (x y z : ℕ) (h : x ≤ 32) (k : y ≤ 32) (l : z ≤ 32) where
 mul-result : tie.Need-mul-result
 mul-result c =
     let b = c .before .before .before .args .b in
-    let h = c .before .before .before .pre .0 in
+    let h = c .before .before .before .pre .on-grid in
     square 0 (b .hi .j - b .lo .j) (b .hi .k - b .lo .k) (omega arith) (omega arith) (omega arith)
 
 mul-result-2 : tie.Need-mul-result-2
 mul-result-2 c =
     let b = c .before .before .before .args .b in
-    let h = c .before .before .before .pre .0 in
+    let h = c .before .before .before .pre .on-grid in
     cube (b .hi .i - b .lo .i) (b .hi .j - b .lo .j) (b .hi .k - b .lo .k) (omega arith) (omega arith) (omega arith)
 
 returns : tie.Need-returns

@@ -51,7 +51,7 @@ misses-requires c κs =
     let h = c .before .before .loop-test .taken in
     let u = c .before .before .before .before in
     rw (c .before .kept-at .ensures, c .reach-at .ensures, u .before .numbers-of .ensures, side-is u)
-    (missed-fits (s .args .l) (y .whose) (s .args .kept .now) (s .args .reach .now) (y .ready) (s .args .c) k h (s .pre .1))
+    (missed-fits (s .args .l) (y .whose) (s .args .kept .now) (s .args .reach .now) (y .all-kept) (s .args .c) k h (s .pre .1))
 
 -- the answer of one axis
 missed-told : (c : tie.After-misses Inv-loop μ-loop) →

@@ -13,7 +13,7 @@ use Rattle.triangles.specs.Vectors.{zeroVector}
 use Rattle.triangles.specs.Keeping.{laterAxes, keptOf}
 use Rattle.triangles.proofs.Sizes.{later-size}
 use Rattle.triangles.proofs.Held.{held, plain}
-use Rattle.corners.specs.Corner.{Keeps}
+use Rattle.corners.specs.Corner.{KeepsAxes}
 use Rattle.meeting.proofs.Within.{up-to}
 use Rattle.corners.proofs.Corner.{keeps-more}
 use Rattle.descending.specs.Reach.{reachOf, Spreads}
@@ -23,14 +23,18 @@ use Rattle.descending.proofs.keep_all.Statement.{statement}
 use Rattle.descending.proofs.keep_all.Tie as tie
 
 abbrev Inv-loop : tie.InvT-loop
-Inv-loop l t kept₀ reach₀ k₀ kept reach k = (k ≤ 10) × Keeps l t k kept × Spreads l t k reach
+Inv-loop l t kept₀ reach₀ k₀ kept reach k = (k ≤ 10) × KeepsAxes l t k kept × Spreads l t k reach
 
 abbrev μ-loop : tie.MeasureT-loop
 μ-loop l t kept₀ reach₀ k₀ kept reach k = 10 - k
 
 loop-holds : tie.Need-loop-holds Inv-loop μ-loop
-loop-holds c =
-    (zero-le, record { long = c .pre .1; axis = λ k h. absurd (not-suc-le-zero h) }, record { long = c .pre .2; reach = λ k h. absurd (not-suc-le-zero h) })
+loop-holds c = (
+  zero-le,
+  record { long = c .pre .kept-long; axis = λ k h. absurd (not-suc-le-zero h) },
+  record
+      { long = c .pre .reach-long; reach = λ k h. absurd (not-suc-le-zero h) },
+)
 
 side-requires : tie.Need-side-requires Inv-loop μ-loop
 side-requires c κs = search needs
@@ -43,7 +47,11 @@ side-is : (c : tie.After-signed Inv-loop μ-loop) → held (c .signed .result) �
 side-is c = plain (c .signed .result) (c .signed .ok) ∙ c .signed .ensures ∙ ap pos (c .before .side .ensures)
 
 kept-requires : tie.Need-kept-requires Inv-loop μ-loop
-kept-requires c κs = let s = c .before .before .before .before in (s .pre .0, (omega arith, rw (side-is c) (up-to (side-most (s .args .l)))))
+kept-requires c κs = let s = c .before .before .before .before in record {
+  inside = s .pre .inside;
+  axis = omega arith;
+  side-fits = rw (side-is c) (up-to (side-most (s .args .l)));
+}
 
 -- the axis that is built
 axis-is : (c : tie.After-kept Inv-loop μ-loop) →
@@ -59,7 +67,7 @@ unfolding keptOf
 reach-of-requires c κs =
     let s = c .before .before .before .before .before .before .before .before in
     let k = c .before .before .before .before .before .before .before .loop .k in
-    rw (axis-is (c .before .before .before)) (kept-size (s .args .l) (getD (laterAxes (s .args .t)) k zeroVector) (later-size k (s .pre .0)))
+    rw (axis-is (c .before .before .before)) (kept-size (s .args .l) (getD (laterAxes (s .args .t)) k zeroVector) (later-size k (s .pre .inside)))
 
 keep-reach-requires : tie.Need-keep-reach-requires Inv-loop μ-loop
 keep-reach-requires c κs = omega arith
@@ -92,7 +100,7 @@ returns : tie.Need-returns Inv-loop μ-loop
 returns c =
     let l = c .before .loop in
     let end : l .k ≡ 10 = omega arith in
-    record { inside = c .before .before .pre .0; keeps = rw end at (l .inv .1); spreads = rw end at (l .inv .2) }
+    record { inside = c .before .before .pre .inside; keeps = rw end at (l .inv .1); spreads = rw end at (l .inv .2) }
 
 pub keep-all-spec : {M : Type 1} → statement M
 keep-all-spec =

@@ -14,7 +14,12 @@ mark-cube-requires : tie.Need-mark-cube-requires
 mark-cube-requires c κs =
     let s = c .before .before .before .before .before .before .before .before in
     let e = c .before .before .before .cells .ensures in
-    (e, s .pre .2, whole-cube (s .args .l) _ e, record { whose = s .args .t; ready = c .before .before .before .before .keep-all .ensures })
+    record {
+      cells-are = e;
+      grid-long = s .pre .grid-long;
+      cube = whole-cube (s .args .l) _ e;
+      loaded = record { whose = s .args .t; all-kept = c .before .before .before .before .keep-all .ensures };
+    }
 
 same-length : tie.Need-same-length
 same-length c = search needs
@@ -22,8 +27,9 @@ same-length c = search needs
 returns : tie.Need-returns
 returns c =
     let s = c .before .before .before .before .before .before .before .before .before .before .before in
-    let m = c .before .before .mark-cube .ensures (s .args .t) (c .before .before .before .before .before .before .before .keep-all .ensures) (s .pre .1) in
-    whole-all (s .args .l) (s .args .t) (s .args .b) (s .pre .1) (rw (c .before .before .before .before .before .before .cells .ensures) at m)
+    let m = c .before .before .mark-cube .ensures (s .args .t) (c .before .before .before .before .before .before .before .keep-all .ensures)
+    (s .pre .covers) in
+    whole-all (s .args .l) (s .args .t) (s .args .b) (s .pre .covers) (rw (c .before .before .before .before .before .before .cells .ensures) at m)
 
 pub mark-cubes-spec : {M : Type 1} → statement M
 mark-cubes-spec =

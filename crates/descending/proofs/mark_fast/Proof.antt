@@ -31,7 +31,7 @@ returns c =
     let g = s .args .grid .now in
     let b = c .before .before .box-of in
     let a = bare-none (s .args .l) (s .args .t) (b .result) (b .ensures) (sym (c .before .is-bare .ensures) ∙ c .if1 .taken) g in
-    added-written (cellsOf (s .args .l)) (met (s .args .l) (s .args .t)) g g (s .pre .1 .0) (s .pre .1 .1) (s .pre .1 .2) a
+    added-written (cellsOf (s .args .l)) (met (s .args .l) (s .args .t)) g g (s .pre .1 .long) (s .pre .1 .grid) (s .pre .1 .unsigned) a
 
 cells-in-requires : tie.Need-cells-in-requires
 cells-in-requires c κs =
@@ -40,12 +40,21 @@ cells-in-requires c κs =
     let x = v X in
     let y = v Y in
     let z = v Z in
-    (omega arith, le-of-lt (x .some), le-of-lt (y .some), le-of-lt (z .some))
+    record {
+      on-grid = omega arith;
+      x-ordered = le-of-lt (x .some);
+      y-ordered = le-of-lt (y .some);
+      z-ordered = le-of-lt (z .some);
+    }
 
 mark-box-requires : tie.Need-mark-box-requires
 mark-box-requires c κs =
     let s = c .before .before .before .before .before .before .before in
-    ((within-inside (s .args .l) (s .args .t) (s .pre .0), c .before .before .before .before .before .box-of .ensures), s .pre .1 .0)
+    record {
+      inside = within-inside (s .args .l) (s .args .t) (s .pre .0);
+      covers = c .before .before .before .before .before .box-of .ensures;
+      grid-long = s .pre .1 .long;
+    }
 
 same-length : tie.Need-same-length
 same-length c = c .before .before .mark-box .ensures .long
@@ -55,12 +64,17 @@ unfolding marked
 returns-2 c =
     let s = c .before .before .before .before .before .before .before .before .before .before in
     let m = met (s .args .l) (s .args .t) in
-    added-written (cellsOf (s .args .l)) m (s .args .grid .now) _ (s .pre .1 .0) (s .pre .1 .1) (s .pre .1 .2) (c .before .before .mark-box .ensures)
+    added-written (cellsOf (s .args .l)) m (s .args .grid .now) _ (s .pre .1 .long) (s .pre .1 .grid) (s .pre .1 .unsigned)
+    (c .before .before .mark-box .ensures)
 
 mark-cubes-requires : tie.Need-mark-cubes-requires
 mark-cubes-requires c κs =
     let s = c .before .before .before .before .before .before .before in
-    (within-inside (s .args .l) (s .args .t) (s .pre .0), c .before .before .before .before .before .box-of .ensures, s .pre .1 .0)
+    record {
+      inside = within-inside (s .args .l) (s .args .t) (s .pre .0);
+      covers = c .before .before .before .before .before .box-of .ensures;
+      grid-long = s .pre .1 .long;
+    }
 
 same-length-2 : tie.Need-same-length-2
 same-length-2 c = c .before .before .mark-cubes .ensures .long
@@ -70,7 +84,8 @@ unfolding marked
 returns-3 c =
     let s = c .before .before .before .before .before .before .before .before .before .before in
     let m = met (s .args .l) (s .args .t) in
-    added-written (cellsOf (s .args .l)) m (s .args .grid .now) _ (s .pre .1 .0) (s .pre .1 .1) (s .pre .1 .2) (c .before .before .mark-cubes .ensures)
+    added-written (cellsOf (s .args .l)) m (s .args .grid .now) _ (s .pre .1 .long) (s .pre .1 .grid) (s .pre .1 .unsigned)
+    (c .before .before .mark-cubes .ensures)
 
 pub mark-fast-spec : {M : Type 1} → statement M
 mark-fast-spec =

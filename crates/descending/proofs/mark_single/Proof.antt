@@ -20,15 +20,15 @@ use Rattle.descending.proofs.mark_single.Tie as tie
 number-of-requires : tie.Need-number-of-requires
 number-of-requires c κs =
     let s = c .before in
-    rw (s .pre .0) (cells-most (s .args .l), corner-grid (cellsOf (s .args .l)) (s .args .c) X (s .pre .2) .0)
+    rw (s .pre .cells-are) (cells-most (s .args .l), corner-grid (cellsOf (s .args .l)) (s .args .c) X (s .pre .cell) .0)
 
 numbers-of-requires : tie.Need-numbers-of-requires
-numbers-of-requires c κs = let s = c .before .before in cell-wide (cellsOf (s .args .l)) (s .args .c) (cells-most (s .args .l)) (s .pre .2)
+numbers-of-requires c κs = let s = c .before .before in cell-wide (cellsOf (s .args .l)) (s .args .c) (cells-most (s .args .l)) (s .pre .cell)
 
 slice-read-unit-clear : tie.Need-slice-read-unit-clear
 slice-read-unit-clear c =
     let s = c .before .before .before .before in
-    lt-of-lt-of-le (rw (s .pre .0) at (c .before .before .number-of .ensures .1)) (s .pre .1)
+    lt-of-lt-of-le (rw (s .pre .cells-are) at (c .before .before .number-of .ensures .1)) (s .pre .grid-long)
 
 unit-clear-requires : tie.Need-unit-clear-requires
 unit-clear-requires c κs = search needs
@@ -36,12 +36,12 @@ unit-clear-requires c κs = search needs
 left-of-kept-requires : tie.Need-left-of-kept-requires
 left-of-kept-requires c κs =
     let s = c .before .before .before .before .before in
-    let y = s .pre .3 in (
-      c .unit-clear .ensures .0,
-      le-refl 10,
-      λ k h. rw (y .ready .keeps .axis k h, c .before .before .numbers-of .ensures)
-          (kept-fits (s .args .l) (y .whose) (y .ready .inside) k (s .args .c) (s .pre .2)),
-    )
+    let y = s .pre .loaded in record {
+      left-fits = c .unit-clear .ensures .0;
+      built-most = le-refl 10;
+      fits-kept = λ k h. rw (y .all-kept .keeps .axis k h, c .before .before .numbers-of .ensures)
+          (kept-fits (s .args .l) (y .whose) (y .all-kept .inside) k (s .args .c) (s .pre .cell));
+    }
 
 -- what the ten axes leave
 left-is : (c : tie.After-left-of-kept) (a : Axis) →
@@ -61,17 +61,21 @@ returns c =
     let p = s .args .c in
     let w = s .args .kept .now in
     let n = c .before .before .before .before .before .number-of in
-    let at = rw (s .pre .0) at (n .ensures .0) in
+    let at = rw (s .pre .cells-are) at (n .ensures .0) in
     let byte = getD (s .args .grid .now) (n .result) 0 in
     let left = c .before in
     λ t y r.
-    let none = left-none l t (s .args .lo) p r (s .pre .2) 10 w (le-refl 10) (y .keeps) byte (left .left-of-kept .result) (left-is left) (c .if1 .taken) in
+    let none = left-none l t (s .args .lo) p r (s .pre .cell) 10 w (le-refl 10) (y .keeps) byte (left .left-of-kept .result) (left-is left) (c .if1 .taken) in
     cell-done (cellsOf l) p (met l t) (s .args .grid .now) (rw at at none)
 
 mark-left-requires : tie.Need-mark-left-requires
 mark-left-requires c κs =
     let s = c .before .before .before .before .before .before .before .before in
-    rw (s .pre .0) (cells-most (s .args .l), s .pre .1, s .pre .2, rw (s .pre .0) at (c .before .before .before .before .before .before .number-of .ensures .0))
+    rw (s .pre .cells-are) (record {
+      sized = record { small = cells-most (s .args .l); long = s .pre .grid-long };
+      cell = s .pre .cell;
+      number-is = rw (s .pre .cells-are) at (c .before .before .before .before .before .before .number-of .ensures .0);
+    })
 
 same-length : tie.Need-same-length
 same-length c = search needs
@@ -83,14 +87,14 @@ returns-2 c =
     let p = s .args .c in
     let w = s .args .kept .now in
     let n = c .before .before .before .before .before .before .before .before .before .number-of in
-    let at = rw (s .pre .0) at (n .ensures .0) in
+    let at = rw (s .pre .cells-are) at (n .ensures .0) in
     let byte = getD (s .args .grid .now) (n .result) 0 in
     let f = c .before .before .before .before .before in
     let left = f .left-of-kept .result in
     λ t y r.
-    let met-is = left-met l t (s .args .lo) p r (s .pre .2) 10 w (le-refl 10) (y .keeps) byte left (left-is f) in
+    let met-is = left-met l t (s .args .lo) p r (s .pre .cell) 10 w (le-refl 10) (y .keeps) byte left (left-is f) in
     let all : (a : Axis) → has a byte ≡ false → met l t a p ≡ has a left = λ a h. met-is a h ∙ rest-end l t p a (has a left) in
-    rw (s .pre .0) at (c .before .before .mark-left .ensures (met l t)) (rw at at all)
+    rw (s .pre .cells-are) at (c .before .before .mark-left .ensures (met l t)) (rw at at all)
 
 pub mark-single-spec : {M : Type 1} → statement M
 mark-single-spec =

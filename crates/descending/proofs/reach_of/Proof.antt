@@ -45,7 +45,7 @@ sum-requires c κs =
     let x = subst (Size termMost) (sym (low-x c)) (below-size (h .on-x)) in
     let y = subst (Size termMost) (sym (low-y c)) (below-size (h .on-y)) in
     let z = subst (Size termMost) (sym (low-z c)) (below-size (h .on-z)) in
-    (x, y, z)
+    record { x-size = x; y-size = y; z-size = z }
 
 above-requires : tie.Need-above-requires
 above-requires c κs = search needs
@@ -82,7 +82,7 @@ sum-requires-2 c κs =
     let x = subst (Size termMost) (sym (high-x c)) (above-size (h .on-x)) in
     let y = subst (Size termMost) (sym (high-y c)) (above-size (h .on-y)) in
     let z = subst (Size termMost) (sym (high-z c)) (above-size (h .on-z)) in
-    (x, y, z)
+    record { x-size = x; y-size = y; z-size = z }
 
 returns : tie.Need-returns
 unfolding reachOf

@@ -8,10 +8,10 @@ use Rattle.descending.proofs.sum.Tie as tie
 
 module _ (c : tie.Start) where
   two : Near (termMost + termMost) (held (c .args .x) +ℤ held (c .args .y)) (c .args .x +ℤ c .args .y)
-  two = near-sum (local (c .pre .0) tt) (local (c .pre .1) tt)
+  two = near-sum (local (c .pre .x-size) tt) (local (c .pre .y-size) tt)
 
   three : Near (termMost + termMost + termMost) (held (held (c .args .x) +ℤ held (c .args .y)) +ℤ held (c .args .z)) (c .args .x +ℤ c .args .y +ℤ c .args .z)
-  three = near-sum (stored two tt) (local (c .pre .2) tt)
+  three = near-sum (stored two tt) (local (c .pre .z-size) tt)
 
 add-result : tie.Need-add-result
 add-result c = fits (two c) tt

@@ -6,8 +6,9 @@ use Prim.Native.Nat.{ℕ, _+_, _-_, _/_, _%_, _≤_, _<_}
 use native.Mathlib.Omega.{arith}
 use lib.ListN.{length, drop, drop-of-length-le}
 use Rattle.lattice.specs.Levels.{numberOf}
+use Rattle.lattice.specs.Buffers.{Ready}
 use Rattle.feeding.specs.Taken.{refusedBy, taken}
-use Rattle.feeding.specs.Feed.{Ready, Uncut}
+use Rattle.feeding.specs.Feed.{Uncut}
 use Rattle.feeding.proofs.Taken.{block-full, block-short, block-refused, block-next}
 use Rattle.feeding.proofs.feed.Statement.{statement}
 use Rattle.feeding.proofs.feed.Tie as tie

@@ -1,5 +1,5 @@
 -- `mark_numbers` meets its contract: the first number that is out of range decides; where none is, the triangle is marked. Assumes nothing.
-use mathlib.Core.Path.{_≡_, refl, sym, ap, _∙_}
+use mathlib.Core.Path.{_≡_, sym, ap, _∙_}
 use mathlib.Core.Bool.{true, false}
 use mathlib.Core.List.{List, []}
 use Prim.Native.Nat.{ℕ, _≤_, _<_}
@@ -79,7 +79,7 @@ mark-fast-requires c κs =
     let found = tested .before in
     let s = found .before .before in
     let p = passed (s .args .l) (s .args .c .now) _ (s .pre .0) (found .first-out .ensures) _ (tested .if1 .left) (c .triangle-of .ensures) in
-    (p .lies, (s .pre .1 .long, s .pre .1 .grid, s .pre .1 .unsigned))
+    (p .lies, s .pre .1)
 
 same-length : tie.Need-same-length
 same-length c = search needs

@@ -8,7 +8,7 @@ use Rattle.filing.proofs.write_surface.Statement.{statement}
 use Rattle.filing.proofs.write_surface.Tie as tie
 
 close-grid-requires : tie.Need-close-grid-requires
-close-grid-requires c κs = let s = c .before .before .before .before .before in (s .pre .1, rw (s .pre .2) (bytes-long (s .args .l)))
+close-grid-requires c κs = let s = c .before .before .before .before .before in (s .pre .ready, rw (s .pre .work-lent) (bytes-long (s .args .l)))
 
 write-stl-requires : tie.Need-write-stl-requires
 write-stl-requires c κs = search needs
@@ -27,7 +27,7 @@ put-refusal-requires c κs =
     let c6 = c .before .before .before .before .before .before in
     let c12 = c6 .before .before .before .before .before .before in
     let c18 = c12 .before .before .before .before .before .before in
-    let s = c18 .before .before in let n = c6 .before .write-stl .kept .1 .1 .1 .0 in rw (n, s .pre .3, file-long) (omega arith)
+    let s = c18 .before .before in let n = c6 .before .write-stl .kept .1 .1 .1 .0 in rw (n, s .pre .out-lent, file-long) (omega arith)
 
 same-length : tie.Need-same-length
 same-length c = search needs
@@ -40,10 +40,11 @@ same-length-3 c = search needs
 
 returns : tie.Need-returns
 returns c =
-    let s = c .before .before .before .before .before .before .before .before .before .before .before .before .before .before .before .before .before .before in
-    let k = rw (s .pre .2) at (c .before .before .before .before .before .before .before .before .before .before .before .before .close-grid .ensures) in
-    let e = rw (c .before .bytes .given .1, s .pre .0, s .pre .3) at (c .before .before .before .before .before .write-stl .ensures) in
-    (rw (s .pre .0) (filed-done (s .args .l) _ k _ (c .before .bytes .given .0 .0) e), written-within _ _ _ _ (c .before .bytes .given .0 .0) e)
+    let closed = c .before .before .before .before .before .before .before .before .before .before .before .before in
+    let s = closed .before .before .before .before .before .before in
+    let k = rw (s .pre .work-lent) at (closed .close-grid .ensures) in
+    let e = rw (c .before .bytes .given .1, s .pre .level-is, s .pre .out-lent) at (c .before .before .before .before .before .write-stl .ensures) in
+    (rw (s .pre .level-is) (filed-done (s .args .l) _ k _ (c .before .bytes .given .0 .0) e), written-within _ _ _ _ (c .before .bytes .given .0 .0) e)
 
 same-length-4 : tie.Need-same-length-4
 same-length-4 c = search needs
@@ -60,11 +61,11 @@ returns-2 c =
     let c12 = c6 .before .before .before .before .before .before in
     let c18 = c12 .before .before .before .before .before .before in
     let s = c18 .before .before .before .before .before in
-    let k = rw (s .pre .2) at (c12 .before .before .before .before .before .close-grid .ensures) in
-    let e = rw (c .before .before .before .before .before .before .why .given .1, s .pre .0, s .pre .3) at
+    let k = rw (s .pre .work-lent) at (c12 .before .before .before .before .before .close-grid .ensures) in
+    let e = rw (c .before .before .before .before .before .before .why .given .1, s .pre .level-is, s .pre .out-lent) at
     (c6 .before .before .before .before .write-stl .ensures) in
     let p = c .before .before .put-refusal .ensures in (
-      p .0 .holds ∙ rw (s .pre .0, c .before .before .before .number .ensures) (filed-refused (s .args .l) _ k _
+      p .0 .holds ∙ rw (s .pre .level-is, c .before .before .before .number .ensures) (filed-refused (s .args .l) _ k _
           (c .before .before .before .before .before .before .why .given .0 .0) e),
       p .1,
     )

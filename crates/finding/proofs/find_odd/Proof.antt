@@ -9,6 +9,7 @@ use Rattle.rules.specs.Lattice.{pointCount}
 use Rattle.rules.specs.Grid.{marks}
 use Rattle.rules.proofs.Numbers.{marks-inner}
 use Rattle.lattice.specs.Byte.{oddPutBy}
+use Rattle.lattice.proofs.Buffers.{grid-sized}
 use Rattle.patching.proofs.PaintLaws.{cleared-paint}
 use Rattle.finding.proofs.Found.{layers-most, in-layer, Passed, passed-none, point-below, passed-on, all-ones, all-threes, odd-found}
 use Rattle.finding.proofs.find_odd.Statement.{statement}
@@ -21,26 +22,26 @@ abbrev μ-loop : tie.MeasureT-loop
 μ-loop n grid work₀ below ones₀ threes₀ p₀ work ones threes p = below - p
 
 point-count-requires : tie.Need-point-count-requires Inv-loop μ-loop
-point-count-requires c κs = c .before .before .pre .0
+point-count-requires c κs = c .before .before .pre .0 .small
 
 clear-requires : tie.Need-clear-requires Inv-loop μ-loop
-clear-requires c κs = omega (arith, c .before .point-count .ensures .0, c .before .before .before .before .pre .2)
+clear-requires c κs = omega (arith, c .before .point-count .ensures .0, c .before .before .before .before .pre .0 .work-long)
 
 add-below : tie.Need-add-below Inv-loop μ-loop
-add-below c = let h = c .before .before .before .before .before .before .before .pre .0 in omega arith
+add-below c = let h = c .before .before .before .before .before .before .before .pre .0 .small in omega arith
 
 mul-below : tie.Need-mul-below Inv-loop μ-loop
 mul-below c =
     let start = c .before .before .before .before .before .before .before in
-    let h = layers-most (start .args .n) (start .pre .0) in omega arith
+    let h = layers-most (start .args .n) (start .pre .0 .small) in omega arith
 
 add-below-2 : tie.Need-add-below-2 Inv-loop μ-loop
-add-below-2 c = let h = c .before .before .before .before .before .before .before .pre .0 in omega arith
+add-below-2 c = let h = c .before .before .before .before .before .before .before .pre .0 .small in omega arith
 
 mul-below-2 : tie.Need-mul-below-2 Inv-loop μ-loop
 mul-below-2 c =
     let start = c .before .before .before .before .before .before .before in
-    let h = layers-most (start .args .n) (start .pre .0) in omega arith
+    let h = layers-most (start .args .n) (start .pre .0 .small) in omega arith
 
 loop-holds : tie.Need-loop-holds Inv-loop μ-loop
 loop-holds c =
@@ -53,21 +54,33 @@ loop-holds c =
 lower-marks-requires : tie.Need-lower-marks-requires Inv-loop μ-loop
 lower-marks-requires c κs =
     let start = c .before .before .before .before .before .before .before .before .before in
-    (start .pre .0, start .pre .1, start .pre .3, in-layer (start .args .n) (c .before .loop .p) (omega (arith, c .before .loop .inv .0, c .loop-test .taken)))
+    record {
+      sized = grid-sized (start .pre .0);
+      is-grid = start .pre .1;
+      layer = in-layer (start .args .n) (c .before .loop .p) (omega (arith, c .before .loop .inv .0, c .loop-test .taken));
+    }
 
 lower-marks-requires-2 : tie.Need-lower-marks-requires-2 Inv-loop μ-loop
 lower-marks-requires-2 c κs =
     let turn = c .before .before .loop in
     let test = c .before .loop-test in
     let start = c .before .before .before .before .before .before .before .before .before .before in
-    (start .pre .0, start .pre .1, start .pre .3, in-layer (start .args .n) (turn .p) (omega (arith, turn .inv .0, test .taken)))
+    record {
+      sized = grid-sized (start .pre .0);
+      is-grid = start .pre .1;
+      layer = in-layer (start .args .n) (turn .p) (omega (arith, turn .inv .0, test .taken));
+    }
 
 lower-marks-requires-3 : tie.Need-lower-marks-requires-3 Inv-loop μ-loop
 lower-marks-requires-3 c κs =
     let turn = c .before .before .before .loop in
     let test = c .before .before .loop-test in
     let start = c .before .before .before .before .before .before .before .before .before .before .before in
-    (start .pre .0, start .pre .1, start .pre .3, in-layer (start .args .n) (turn .p) (omega (arith, turn .inv .0, test .taken)))
+    record {
+      sized = grid-sized (start .pre .0);
+      is-grid = start .pre .1;
+      layer = in-layer (start .args .n) (turn .p) (omega (arith, turn .inv .0, test .taken));
+    }
 
 is-odd-requires : tie.Need-is-odd-requires Inv-loop μ-loop
 is-odd-requires c κs = tt
@@ -88,7 +101,7 @@ slice-write-work c =
     let test = c .before .before .before .before .before .before .before .loop-test in
     let start = c .before .before .before .before .before .before .before .before .before .before .before .before .before .before .before .before in
     let b = point-below (start .args .n) (turn .p) (omega (arith, turn .inv .0, test .taken)) in
-    omega (arith, b, turn .inv .1 .long, clear .kept .1 .0, start .pre .2)
+    omega (arith, b, turn .inv .1 .long, clear .kept .1 .0, start .pre .0 .work-long)
 
 with-marks-requires : tie.Need-with-marks-requires Inv-loop μ-loop
 with-marks-requires c κs = tt
@@ -98,7 +111,7 @@ add-ones c =
     let start = c .before .before .before .before .before .before .before .before .before .before .before .before .before .before .before .before .before in
     let turn = c .before .before .before .before .before .before .before .before .before .loop in
     let test = c .before .before .before .before .before .before .before .before .loop-test in
-    let m = layers-most (start .args .n) (start .pre .0) in
+    let m = layers-most (start .args .n) (start .pre .0 .small) in
     omega (arith, turn .inv .1 .few-ones, test .taken, c .with-marks .ensures .1, m)
 
 with-marks-requires-2 : tie.Need-with-marks-requires-2 Inv-loop μ-loop
@@ -110,7 +123,7 @@ add-threes c =
     let start = entry .before .before .before .before .before .before .before .before in
     let turn = c .before .before .before .before .before .before .before .before .before .before .loop in
     let test = c .before .before .before .before .before .before .before .before .before .loop-test in
-    let m = layers-most (start .args .n) (start .pre .0) in
+    let m = layers-most (start .args .n) (start .pre .0 .small) in
     omega (arith, turn .inv .1 .few-threes, test .taken, c .with-marks2 .ensures .1, m)
 
 add-p : tie.Need-add-p Inv-loop μ-loop
@@ -118,7 +131,7 @@ add-p c =
     let entry = c .before .before .before .before .before .before .before .before .before .before in
     let start = entry .before .before .before .before .before .before .before .before in
     let test = c .before .before .before .before .before .before .before .before .before .loop-test in
-    let m = layers-most (start .args .n) (start .pre .0) in omega (arith, test .taken, m)
+    let m = layers-most (start .args .n) (start .pre .0 .small) in omega (arith, test .taken, m)
 
 loop-less : tie.Need-loop-less Inv-loop μ-loop
 loop-less c = omega (arith, c .before .before .before .before .before .before .before .before .before .loop-test .taken)
@@ -140,7 +153,7 @@ loop-again c =
     let start = entry .before .before .before .before .before .before .before .before in (
       turn .inv .0,
       passed-on (start .args .n) (marks (start .args .n) (start .args .grid .now)) _ (turn .p) _ _ _ (turn .inv .1) (omega (arith, turn .inv .0, test .taken))
-          (omega (arith, clear .kept .1 .0, start .pre .2))
+          (omega (arith, clear .kept .1 .0, start .pre .0 .work-long))
           _ _ _ (lower-marks .ensures) (lower-marks2 .ensures) (lower-marks3 .ensures) _ _ _
           (odd-put-by .ensures ∙ (λ i. oddPutBy (is-odd .ensures i) (is-odd2 .ensures i) (is-odd3 .ensures i))) (with-marks .ensures) (c .with-marks2 .ensures),
     )
@@ -158,10 +171,10 @@ returns c =
     let g = start .args .grid .now in
     let h : n * suc n * suc n ≤ turn .p = omega (arith, turn .inv .0, c .loop-test .left) in
     let e = clear .ensures ∙ ap (λ (k : ℕ). replicate k 0 ++ drop k (start .args .work .now)) (point-count .ensures .0)
-    ∙ cleared-paint (pointCount n) (start .args .work .now) (start .pre .2) in (
+    ∙ cleared-paint (pointCount n) (start .args .work .now) (start .pre .0 .work-long) in (
       all-ones n (marks n g) (marks-inner n g) _ _ _ _ _ (turn .inv .1) h,
       all-threes n (marks n g) (marks-inner n g) _ _ _ _ _ (turn .inv .1) h,
-      odd-found n (marks n g) (marks-inner n g) _ _ _ _ _ (turn .inv .1) h (start .args .work .now) (start .pre .2) e,
+      odd-found n (marks n g) (marks-inner n g) _ _ _ _ _ (turn .inv .1) h (start .args .work .now) (start .pre .0 .work-long) e,
     )
 
 pub find-odd-spec : {M : Type 1} → statement M

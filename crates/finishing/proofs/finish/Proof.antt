@@ -24,7 +24,7 @@ slice-read-changes c =
     let start = c .before .before .before .before .before in
     let turn = c .before .before .loop in
     let test = c .before .loop-test in
-    paint-room low _ _ _ _ (turn .inv .1) (test .taken) (start .pre .1)
+    paint-room low _ _ _ _ (turn .inv .1) (test .taken) (start .pre .grid-long)
 
 changes-requires : tie.Need-changes-requires Inv-loop μ-loop
 changes-requires c κs = tt
@@ -34,7 +34,7 @@ add-flips c =
     let a = changes-most (c .before .before .before .loop .p) (c .before .before .before .before .before .before .args .grid .now) in
     let b = c .before .before .before .loop .inv .3 in
     let d = c .changes .ensures .1 in
-    let f = c .before .before .before .before .before .before .pre .0 in
+    let f = c .before .before .before .before .before .before .pre .count-most in
     omega (arith, c .before .before .loop-test .taken)
 
 slice-read-low : tie.Need-slice-read-low Inv-loop μ-loop
@@ -42,7 +42,7 @@ slice-read-low c =
     let start = c .before .before .before .before .before .before .before in
     let turn = c .before .before .before .before .loop in
     let test = c .before .before .before .loop-test in
-    paint-room low _ _ _ _ (turn .inv .1) (test .taken) (start .pre .1)
+    paint-room low _ _ _ _ (turn .inv .1) (test .taken) (start .pre .grid-long)
 
 low-requires : tie.Need-low-requires Inv-loop μ-loop
 low-requires c κs = tt
@@ -52,20 +52,20 @@ slice-write-grid c =
     let start = c .before .before .before .before .before .before .before .before in
     let turn = c .before .before .before .before .before .loop in
     let test = c .before .before .before .before .loop-test in
-    paint-room low _ _ _ _ (turn .inv .1) (test .taken) (start .pre .1)
+    paint-room low _ _ _ _ (turn .inv .1) (test .taken) (start .pre .grid-long)
 
 slice-write-work : tie.Need-slice-write-work Inv-loop μ-loop
 slice-write-work c =
     let start = c .before .before .before .before .before .before .before .before in
     let turn = c .before .before .before .before .before .loop in
     let test = c .before .before .before .before .loop-test in
-    paint-room zeroByte _ _ _ _ (turn .inv .2) (test .taken) (start .pre .2)
+    paint-room zeroByte _ _ _ _ (turn .inv .2) (test .taken) (start .pre .work-long)
 
 add-p : tie.Need-add-p Inv-loop μ-loop
 add-p c =
     let start = c .before .before .before .before .before .before .before .before in
     let test = c .before .before .before .before .loop-test in
-    let f = start .pre .0 in omega (arith, test .taken)
+    let f = start .pre .count-most in omega (arith, test .taken)
 
 loop-less : tie.Need-loop-less Inv-loop μ-loop
 loop-less c = omega (arith, c .before .before .before .before .loop-test .taken)

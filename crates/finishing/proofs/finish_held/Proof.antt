@@ -1,7 +1,7 @@
 -- `finish_held` does what `finish` does, and what is held comes to the totals of the grid that it leaves. Assumes nothing.
 use mathlib.Core.Path.{_≡_, refl, sym, ap, _∙_}
 use mathlib.Core.List.{List}
-use Prim.Native.Nat.{ℕ, suc, _-_, _+_, _≤_, _<_}
+use Prim.Native.Nat.{ℕ, _-_, _+_, _≤_, _<_}
 use native.Mathlib.Nat.{le-antisymm}
 use native.Mathlib.Numerals.{add-one}
 use native.Mathlib.Omega.{arith}
@@ -11,7 +11,7 @@ use Rattle.rules.specs.Lattice.{pointCount}
 use Rattle.rules.specs.Grid.{byteMarks}
 use Rattle.lattice.specs.Byte.{low}
 use Rattle.grids.proofs.Points.{pointsFrom, At, at-start, at-grid, at-next}
-use Rattle.totals.specs.Totals.{marksAt, blockCount, trued}
+use Rattle.totals.specs.Totals.{marksAt, trued}
 use Rattle.totals.specs.Counting.{Held}
 use Rattle.totals.proofs.Held.{at-most, scan-start, scan-trued, scan-room, scan-on, scan-end}
 use Rattle.patching.specs.Paint.{paint, allChanges, zeroByte}
@@ -39,10 +39,10 @@ marks-are n p v s t q a e h l w =
     ∙ ap (λ (i : ℕ). getD (left n s) i 0) (sym (a .is)))
 
 clear-totals-requires : tie.Need-clear-totals-requires Inv-loop μ-loop
-clear-totals-requires c κs = (c .before .before .before .before .pre .0, c .before .before .before .before .pre .3)
+clear-totals-requires c κs = (c .before .before .before .before .pre .0 .small, c .before .before .before .before .pre .1)
 
 point-count-requires : tie.Need-point-count-requires Inv-loop μ-loop
-point-count-requires c κs = c .before .before .before .before .before .before .before .pre .0
+point-count-requires c κs = c .before .before .before .before .before .before .before .pre .0 .small
 
 loop-holds : tie.Need-loop-holds Inv-loop μ-loop
 loop-holds c =
@@ -53,7 +53,7 @@ loop-holds c =
       paint-none _ _,
       changes-none _,
       at-start _,
-      rw (c .before .before .before .clear-totals .ensures) (scan-start (s .args .n) (s .args .totals .now) (s .pre .3) _),
+      rw (c .before .before .before .clear-totals .ensures) (scan-start (s .args .n) (s .args .totals .now) (s .pre .1) _),
     )
 
 slice-read-changes : tie.Need-slice-read-changes Inv-loop μ-loop
@@ -61,7 +61,7 @@ slice-read-changes c =
     let c2 = c .before .before in
     let c11 = c2 .before .before .before .before .before .before .before .before .before in
     let l = c2 .loop in
-    paint-room low (pointCount (c11 .args .n)) (l .p) _ _ (l .inv .2) (omega (arith, l .inv .0, c .before .loop-test .taken)) (c11 .pre .1)
+    paint-room low (pointCount (c11 .args .n)) (l .p) _ _ (l .inv .2) (omega (arith, l .inv .0, c .before .loop-test .taken)) (c11 .pre .0 .grid-long)
 
 changes-requires : tie.Need-changes-requires Inv-loop μ-loop
 changes-requires c κs = tt
@@ -82,7 +82,7 @@ slice-read-low c =
     let c4 = c3 .before in
     let c13 = c4 .before .before .before .before .before .before .before .before .before in
     let l = c4 .loop in
-    paint-room low (pointCount (c13 .args .n)) (l .p) _ _ (l .inv .2) (omega (arith, l .inv .0, c3 .loop-test .taken)) (c13 .pre .1)
+    paint-room low (pointCount (c13 .args .n)) (l .p) _ _ (l .inv .2) (omega (arith, l .inv .0, c3 .loop-test .taken)) (c13 .pre .0 .grid-long)
 
 low-requires : tie.Need-low-requires Inv-loop μ-loop
 low-requires c κs = tt
@@ -93,7 +93,7 @@ slice-write-grid c =
     let c5 = c4 .before in
     let c14 = c5 .before .before .before .before .before .before .before .before .before in
     let l = c5 .loop in
-    paint-room low (pointCount (c14 .args .n)) (l .p) _ _ (l .inv .2) (omega (arith, l .inv .0, c4 .loop-test .taken)) (c14 .pre .1)
+    paint-room low (pointCount (c14 .args .n)) (l .p) _ _ (l .inv .2) (omega (arith, l .inv .0, c4 .loop-test .taken)) (c14 .pre .0 .grid-long)
 
 slice-write-work : tie.Need-slice-write-work Inv-loop μ-loop
 slice-write-work c =
@@ -101,7 +101,7 @@ slice-write-work c =
     let c5 = c4 .before in
     let c14 = c5 .before .before .before .before .before .before .before .before .before in
     let l = c5 .loop in
-    paint-room zeroByte (pointCount (c14 .args .n)) (l .p) _ _ (l .inv .3) (omega (arith, l .inv .0, c4 .loop-test .taken)) (c14 .pre .2)
+    paint-room zeroByte (pointCount (c14 .args .n)) (l .p) _ _ (l .inv .3) (omega (arith, l .inv .0, c4 .loop-test .taken)) (c14 .pre .0 .work-long)
 
 hold-requires : tie.Need-hold-requires Inv-loop μ-loop
 hold-requires c κs =
@@ -109,14 +109,15 @@ hold-requires c κs =
     let l = c .before .before .before .before .before .before .loop in
     let n = s .args .n in
     let h : l .p < pointCount n = omega (arith, l .inv .0, c .before .before .before .before .before .loop-test .taken) in
-    let e = marks-are n (l .p) _ (s .args .grid .now) (l .grid) (l .q) (l .inv .5) (l .inv .2) h (s .pre .1) (c .before .low .ensures .0) in
+    let e = marks-are n (l .p) _ (s .args .grid .now) (l .grid) (l .q) (l .inv .5) (l .inv .2) h (s .pre .0 .grid-long) (c .before .low .ensures .0) in
     let k = c .before .before .before .before .before .before .before .before .before .before .clear-totals .kept .1 .0 in
-    let f = at-most n (left n (s .args .grid .now)) in (
-      s .pre .0,
-      at-grid n (l .p) (l .q) (l .inv .5) h,
-      omega (arith, l .inv .6 .long, k, s .pre .3),
-      scan-room n (marksAt n (left n (s .args .grid .now))) _ (l .totals) (l .p) (l .inv .6) (omega (arith, k, s .pre .3)) (l .q) (l .inv .5) h _ e f,
-    )
+    let f = at-most n (left n (s .args .grid .now)) in record {
+      small = s .pre .0 .small;
+      on-grid = at-grid n (l .p) (l .q) (l .inv .5) h;
+      table-long = omega (arith, l .inv .6 .long, k, s .pre .1);
+      total-room = scan-room n (marksAt n (left n (s .args .grid .now))) _ (l .totals) (l .p) (l .inv .6) (omega (arith, k, s .pre .1)) (l .q)
+          (l .inv .5) h _ e f;
+    }
 
 next-point-requires : tie.Need-next-point-requires Inv-loop μ-loop
 next-point-requires c κs =
@@ -126,7 +127,7 @@ next-point-requires c κs =
     let s = c18 in
     let l = c9 .loop in
     let h : l .p < pointCount (s .args .n) = omega (arith, l .inv .0, c8 .loop-test .taken) in
-    (s .pre .0, at-grid _ (l .p) (l .q) (l .inv .5) h)
+    (s .pre .0 .small, at-grid _ (l .p) (l .q) (l .inv .5) h)
 
 add-p : tie.Need-add-p Inv-loop μ-loop
 add-p c =
@@ -151,9 +152,9 @@ loop-again c =
     let n = s .args .n in
     let g = s .args .grid .now in
     let h : l .p < pointCount n = omega (arith, l .inv .0, c9 .loop-test .taken) in
-    let e = marks-are n (l .p) _ g (l .grid) (l .q) (l .inv .5) (l .inv .2) h (s .pre .1) (c5 .low .ensures .0) in
+    let e = marks-are n (l .p) _ g (l .grid) (l .q) (l .inv .5) (l .inv .2) h (s .pre .0 .grid-long) (c5 .low .ensures .0) in
     let k = c14 .clear-totals .kept .1 .0 in
-    let v = scan-on n (marksAt n (left n g)) _ (l .totals) (l .p) (l .inv .6) (omega (arith, k, s .pre .3)) (l .q) (l .inv .5) h _ e in
+    let v = scan-on n (marksAt n (left n g)) _ (l .totals) (l .p) (l .inv .6) (omega (arith, k, s .pre .1)) (l .q) (l .inv .5) h _ e in
     let d = ap (λ (x : ℕ). l .flips + x) (c7 .changes .ensures .0) in (
       l .inv .0,
       omega (arith, c9 .loop-test .taken),
@@ -184,8 +185,8 @@ returns c =
     let e : l .p ≡ pointCount n = le-antisymm (l .inv .1) (c .loop-test .left) ∙ l .inv .0 in
     let k = c5 .clear-totals .kept .1 .0 in
     let a = l .inv .2 ∙ ap (λ (i : ℕ). paint low i g) e in
-    let t = scan-end n (left n g) _ (l .totals) (l .p) (omega (arith, k, s .pre .3)) (omega (arith, e)) (l .inv .6)
-    ∙ ap (trued n (left n g)) (c5 .clear-totals .ensures) ∙ scan-trued n (s .args .totals .now) (s .pre .3) (left n g) in
+    let t = scan-end n (left n g) _ (l .totals) (l .p) (omega (arith, k, s .pre .1)) (omega (arith, e)) (l .inv .6)
+    ∙ ap (trued n (left n g)) (c5 .clear-totals .ensures) ∙ scan-trued n (s .args .totals .now) (s .pre .1) (left n g) in
     ((l .inv .4 ∙ ap (λ (i : ℕ). allChanges i g) e, a), (l .inv .3 ∙ ap (λ (i : ℕ). paint zeroByte i (s .args .work .now)) e, rw a t))
 
 pub finish-held-spec : {M : Type 1} → statement M

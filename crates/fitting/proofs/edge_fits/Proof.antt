@@ -26,18 +26,18 @@ exists : (c : tie.Else1) →
 exists c = rw (sym (c .before .coordinate .ensures)) (omega arith)
 
 step-requires : tie.Need-step-requires
-step-requires c κs = let e = exists c in (omega arith, c .before .before .before .pre .0)
+step-requires c κs = let e = exists c in (omega arith, c .before .before .before .pre .sized .small)
 
 add-r : tie.Need-add-r
 add-r c =
     let start = c .before .before .before .before in
-    let b = up-below (start .args .n) (start .args .a) (start .args .q) (start .pre .3) (exists (c .before)) in
+    let b = up-below (start .args .n) (start .args .a) (start .args .q) (start .pre .on-grid) (exists (c .before)) in
     omega (arith, c .step .ensures)
 
 shared-slice-read-is-inside : tie.Need-shared-slice-read-is-inside
 shared-slice-read-is-inside c =
     let start = c .before .before .before .before .before in
-    omega (arith, num-below (start .args .n) (start .args .q) (start .pre .3))
+    omega (arith, num-below (start .args .n) (start .args .q) (start .pre .on-grid))
 
 is-inside-requires : tie.Need-is-inside-requires
 is-inside-requires c κs = search needs
@@ -45,7 +45,7 @@ is-inside-requires c κs = search needs
 shared-slice-read-is-inside-2 : tie.Need-shared-slice-read-is-inside-2
 shared-slice-read-is-inside-2 c =
     let start = c .before .before .before .before .before .before .before in
-    let b = up-below (start .args .n) (start .args .a) (start .args .q) (start .pre .3) (exists (c .before .before .before .before)) in
+    let b = up-below (start .args .n) (start .args .a) (start .args .q) (start .pre .on-grid) (exists (c .before .before .before .before)) in
     omega (arith, c .before .before .before .step .ensures)
 
 is-inside-requires-2 : tie.Need-is-inside-requires-2
@@ -54,7 +54,7 @@ is-inside-requires-2 c κs = search needs
 shared-slice-read-bit : tie.Need-shared-slice-read-bit
 shared-slice-read-bit c =
     let start = c .before .before .before .before .before .before .before .before .before in
-    omega (arith, num-below (start .args .n) (start .args .q) (start .pre .3))
+    omega (arith, num-below (start .args .n) (start .args .q) (start .pre .on-grid))
 
 bit-requires : tie.Need-bit-requires
 bit-requires c κs = search needs
@@ -66,8 +66,8 @@ returns-2 c =
     let step = c .before .before .before .before .before .before .step in
     let e = exists (c .before .before .before .before .before .before .before) in
     let start = c .before .before .before .before .before .before .before .before .before .before in
-    edge-is (start .args .n) (start .args .grid .now) (start .args .a) (start .args .q) (start .args .p) _ _ _ _ (start .pre .1)
-    (start .pre .2) (start .pre .3) e (start .pre .4) (step .ensures) (here .ensures) (there .ensures) (c .bit .ensures)
+    edge-is (start .args .n) (start .args .grid .now) (start .args .a) (start .args .q) (start .args .p) _ _ _ _ (start .pre .sized .long)
+    (start .pre .is-grid) (start .pre .on-grid) e (start .pre .number-is) (step .ensures) (here .ensures) (there .ensures) (c .bit .ensures)
 
 pub edge-fits-spec : {M : Type 1} → statement M
 edge-fits-spec =

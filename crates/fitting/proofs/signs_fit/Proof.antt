@@ -27,7 +27,7 @@ abbrev μ-loop : tie.MeasureT-loop
 μ-loop n grid count q₀ p₀ q p = count - p
 
 shared-slice-read-is-inside : tie.Need-shared-slice-read-is-inside Inv-loop μ-loop
-shared-slice-read-is-inside c = let start = c .before .before in omega (arith, count-some (start .args .n), start .pre .1)
+shared-slice-read-is-inside c = let start = c .before .before in omega (arith, count-some (start .args .n), start .pre .0 .long)
 
 is-inside-requires : tie.Need-is-inside-requires Inv-loop μ-loop
 is-inside-requires c κs = tt
@@ -36,7 +36,7 @@ returns : tie.Need-returns Inv-loop μ-loop
 returns c = origin-inside _ _ (c .before .before .before .before .args .grid .now) (sym (c .before .is-inside .ensures) ∙ c .if1 .taken)
 
 point-count-requires : tie.Need-point-count-requires Inv-loop μ-loop
-point-count-requires c κs = c .before .before .before .before .pre .0
+point-count-requires c κs = c .before .before .before .before .pre .0 .small
 
 loop-holds : tie.Need-loop-holds Inv-loop μ-loop
 loop-holds c =
@@ -49,7 +49,12 @@ point-fits-requires c κs =
     let start = c .before .before .before .before .before .before .before in
     let l = c .before .loop in
     let h : l .p < pointCount (start .args .n) = omega arith in
-    (start .pre .0, start .pre .1, start .pre .2, at-grid _ (l .p) (l .q) (l .inv .2) h, sym (l .inv .2 .is))
+    record {
+      sized = start .pre .0;
+      is-grid = start .pre .1;
+      on-grid = at-grid _ (l .p) (l .q) (l .inv .2) h;
+      number-is = sym (l .inv .2 .is);
+    }
 
 returns-2 : tie.Need-returns-2 Inv-loop μ-loop
 returns-2 c =
@@ -65,7 +70,7 @@ next-point-requires c κs =
     let start = c .before .before .before .before .before .before .before .before .before in
     let l = c .before .before .before .loop in
     let h : l .p < pointCount (start .args .n) = omega arith in
-    (start .pre .0, at-grid _ (l .p) (l .q) (l .inv .2) h)
+    (start .pre .0 .small, at-grid _ (l .p) (l .q) (l .inv .2) h)
 
 add-p : tie.Need-add-p Inv-loop μ-loop
 add-p c = omega (arith, c .before .before .before .loop-test .taken, c .before .before .before .before .before .point-count .ensures .1)

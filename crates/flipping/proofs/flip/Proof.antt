@@ -1,6 +1,7 @@
 -- `flip` turns the edge's mark and its four faces. Assumes nothing.
 use Rattle.halving.proofs.Turns.{flip-edged, flip-turn, flip-face-turns}
 use borrow.Author.Needs.{needs}
+use Rattle.lattice.proofs.Buffers.{work-sized}
 use Rattle.flipping.proofs.flip.Statement.{statement}
 use Rattle.flipping.proofs.flip.Tie as tie
 
@@ -14,7 +15,11 @@ turn-faces-requires : tie.Need-turn-faces-requires
 turn-faces-requires c κs =
     let s = c .before .before .before .before .before .before .before .before in
     let e = c .before .before .before .before .before .number-of .ensures in
-    (s .pre .0 .0, s .pre .0 .2, e .1, flip-edged _ _ (s .pre .1) _ (e .0))
+    record {
+      sized = work-sized (s .pre .0);
+      below = e .1;
+      edged = flip-edged _ _ (s .pre .1) _ (e .0);
+    }
 
 same-length : tie.Need-same-length
 same-length c = search needs

@@ -4,6 +4,7 @@ use Rattle.flipping.proofs.flip_run.Tie as tie
 use Rattle.flipping.proofs.flip_run.Statement.{statement}
 use mathlib.Core.Path.{_≡_, refl}
 use native.Mathlib.Omega.{arith}
+use Rattle.lattice.proofs.Buffers.{both-kept}
 use Rattle.halving.proofs.Runs.{Running, running-on, run-edge, run-low}
 
 abbrev Inv-loop : tie.InvT-loop
@@ -19,7 +20,7 @@ flip-requires : tie.Need-flip-requires Inv-loop μ-loop
 flip-requires c κs =
     let loop-told = c .before .before .before .loop in
     let start = c .before .before .before .before .before .before in (
-      rw (loop-told .inv .g-long, loop-told .inv .w-long) (start .pre .0),
+      both-kept (loop-told .inv .g-long) (loop-told .inv .w-long) (start .pre .0),
       run-edge _ _ _ _ (loop-told .inv .run) (c .before .before .loop-test .taken),
     )
 
@@ -28,7 +29,7 @@ next-edge-requires c κs =
     let loop-test = c .before .before .before .before .before .before .before .loop-test in
     let loop-told = c .before .before .before .before .before .before .before .before .loop in
     let start = c .before .before .before .before .before .before .before .before .before .before .before in
-    (start .pre .0 .0, run-low _ _ _ _ (loop-told .inv .run) (loop-test .taken))
+    (start .pre .0 .small, run-low _ _ _ _ (loop-told .inv .run) (loop-test .taken))
 
 sub-k : tie.Need-sub-k Inv-loop μ-loop
 sub-k c = c .before .before .before .before .before .before .before .before .loop-test .taken

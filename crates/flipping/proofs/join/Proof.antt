@@ -2,6 +2,7 @@
 use Rattle.flipping.proofs.join.Tie as tie
 use borrow.Author.Needs.{needs}
 use Rattle.flipping.proofs.join.Statement.{statement}
+use Rattle.lattice.proofs.Buffers.{both-kept}
 use Rattle.halving.proofs.Runs.{join-run, join-run₂, join-turns, join-face-turns}
 
 earlier-requires : tie.Need-earlier-requires
@@ -31,10 +32,10 @@ flip-run-requires c κs =
     let later = c .before .before .before .before .before .later in
     let earlier = c .before .before .before .before .before .before .earlier in
     let start = c .before .before .before .before .before .before .before .before .before in (
-      start .pre .0,
-      join-run (start .args .n) (start .args .a) (start .args .m) (start .args .p) (start .args .q) _ _
-          (earlier .ensures) (later .ensures) _ _ (earlier .ensures) (later .ensures) (start .pre .1) (start .pre .2) (start .pre .3) (start .pre .4) _
-          _ _ (least .ensures) (c .before .before .before .most .ensures) (c .before .before .point-at .ensures),
+      start .pre .sized,
+      join-run (start .args .n) (start .args .a) (start .args .m) (start .args .p) (start .args .q) _ _ (earlier .ensures) (later .ensures) _ _
+          (earlier .ensures) (later .ensures) (start .pre .plane-some) (start .pre .plane-most) (start .pre .p-placed) (start .pre .q-placed) _ _ _
+          (least .ensures) (c .before .before .before .most .ensures) (c .before .before .point-at .ensures),
     )
 
 least-requires-2 : tie.Need-least-requires-2
@@ -58,9 +59,9 @@ flip-run-requires-2 c κs =
     let later = first .before .before .before .before .before .before .later in
     let earlier = first .before .before .before .before .before .before .before .earlier in
     let start = first .before .before .before .before .before .before .before .before .before .before in (
-      rw (first .flip-run .kept .1 .0, first .flip-run .kept .1 .1 .0) (start .pre .0),
+      both-kept (first .flip-run .kept .1 .0) (first .flip-run .kept .1 .1 .0) (start .pre .sized),
       join-run₂ (start .args .n) (start .args .a) (start .args .m) (start .args .p) (start .args .q) _ _ (earlier .ensures) (later .ensures) _ _
-          (earlier .ensures) (later .ensures) (start .pre .1) (start .pre .2) (start .pre .3) (start .pre .4) _ _ _
+          (earlier .ensures) (later .ensures) (start .pre .plane-some) (start .pre .plane-most) (start .pre .p-placed) (start .pre .q-placed) _ _ _
           (c .before .before .before .before .least2 .ensures) (c .before .before .before .most2 .ensures) (c .before .before .point-at2 .ensures),
     )
 

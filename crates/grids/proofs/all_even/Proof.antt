@@ -38,7 +38,7 @@ point-count-requires c κs = omega arith
 loop-holds : tie.Need-loop-holds Inv-loop μ-loop
 loop-holds c =
     let start = c .before .before in
-    let e : start .args .n ≡ suc (start .args .n - 1) = omega (arith, start .pre .0) in (
+    let e : start .args .n ≡ suc (start .args .n - 1) = omega (arith, start .pre .some) in (
       e,
       c .point-count .ensures .0,
       omega arith,
@@ -50,12 +50,11 @@ loop-holds c =
 lower-even-requires : tie.Need-lower-even-requires Inv-loop μ-loop
 lower-even-requires c κs =
     let l = c .before .loop in
-    let s = c .before .before .before .before in (
-      s .pre .1,
-      s .pre .2,
-      s .pre .3,
-      cell-at _ _ (l .k) (l .c) (l .inv .0) (l .inv .3) (omega (arith, l .inv .1, c .loop-test .taken)),
-    )
+    let s = c .before .before .before .before in record {
+      sized = s .pre .sized;
+      is-grid = s .pre .is-grid;
+      cell = cell-at _ _ (l .k) (l .c) (l .inv .0) (l .inv .3) (omega (arith, l .inv .1, c .loop-test .taken));
+    }
 
 returns : tie.Need-returns Inv-loop μ-loop
 returns c =
@@ -69,7 +68,8 @@ returns c =
 next-point-requires : tie.Need-next-point-requires Inv-loop μ-loop
 next-point-requires c κs =
     let l = c .before .before .before .loop in
-    let h : c .before .before .before .before .before .before .args .n - 1 ≤ 32 = omega (arith, c .before .before .before .before .before .before .pre .1) in
+    let h : c .before .before .before .before .before .before .args .n - 1 ≤ 32 = omega
+    (arith, c .before .before .before .before .before .before .pre .sized .small) in
     (h, at-grid _ (l .k) (l .c) (l .inv .3) (omega (arith, l .inv .1, c .before .before .loop-test .taken)))
 
 add-k : tie.Need-add-k Inv-loop μ-loop

@@ -10,11 +10,11 @@ returns c =
     let s = c .before .before in
     let n = s .args .n in
     let g = s .args .grid .now in
-    let none = none-inside n g (read-inside n g _ (s .pre .2) ∙ c .if1 .taken) in
-    unsigned-same n g (s .pre .1) (read-some n g _ (s .pre .2)) none
+    let none = none-inside n g (read-inside n g _ (s .pre .1) ∙ c .if1 .taken) in
+    unsigned-same n g (s .pre .0 .long) (read-some n g _ (s .pre .1)) none
 
 keep-marks-requires : tie.Need-keep-marks-requires
-keep-marks-requires c κs = let s = c .before .before .before in (s .pre .0, s .pre .1, read-some (s .args .n) (s .args .grid .now) _ (s .pre .2))
+keep-marks-requires c κs = let s = c .before .before .before in (s .pre .0, read-some (s .args .n) (s .args .grid .now) _ (s .pre .1))
 
 same-length : tie.Need-same-length
 same-length c = search needs

@@ -56,7 +56,8 @@ loop-again c =
     let n = s .args .n in
     let g = s .args .grid .now in
     let h : q .p < pointCount n = omega arith in
-    let e = c .with-sign .ensures ∙ add-zero _ ∙ ap (λ (k : ℕ). k % 8) (q .inv .3 (q .p) (omega arith)) ∙ low-byte n g (s .pre .1) (s .pre .2) (q .p) h in (
+    let e = c .with-sign .ensures ∙ add-zero _ ∙ ap (λ (k : ℕ). k % 8) (q .inv .3 (q .p) (omega arith)) ∙ low-byte n g (s .pre .0 .long) (s .pre .1)
+    (q .p) h in (
       q .inv .0,
       omega arith,
       length-set (q .grid) (q .p) _ ∙ q .inv .2,
@@ -78,7 +79,7 @@ returns c =
     ∙ q .inv .4
     ∙ ap (λ (k : ℕ). sets (s .args .grid .now) 0 (map (byteOf n E) (upto 0 k))) (let e : pointCount n - 0 ≡ pointCount n = omega arith in e)
     ∙ ap (λ (l : List ℕ). sets (s .args .grid .now) 0 l) (sym (bytes-by-number n E))
-    ∙ written (s .args .grid .now) (bytes n E) (pointCount n) (bytes-length n E) (s .pre .1)
+    ∙ written (s .args .grid .now) (bytes n E) (pointCount n) (bytes-length n E) (s .pre .0 .long)
 
 pub keep-marks-spec : {M : Type 1} → statement M
 keep-marks-spec =

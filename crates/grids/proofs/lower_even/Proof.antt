@@ -15,7 +15,11 @@ number-of-requires c κs = search needs
 lower-marks-requires : tie.Need-lower-marks-requires
 lower-marks-requires c κs =
     let s = c .before .before in
-    (s .pre .0, s .pre .1, s .pre .2, cell-layer (s .args .n) _ (s .args .c) (s .pre .3) (c .number-of .ensures .0))
+    record {
+      sized = s .pre .sized;
+      is-grid = s .pre .is-grid;
+      layer = cell-layer (s .args .n) _ (s .args .c) (s .pre .cell) (c .number-of .ensures .0);
+    }
 
 is-odd-requires : tie.Need-is-odd-requires
 is-odd-requires c κs = search needs
@@ -25,12 +29,16 @@ returns c =
     let s = c .before .before .before .before .before in
     let E = marks (s .args .n) (s .args .grid .now) in
     let e = c .before .before .before .number-of .ensures .0 in
-    rw (odd-told (s .args .n) E X _ (s .args .c) (s .pre .3) e (c .before .before .lower-marks .ensures) (c .before .is-odd .ensures) ∙ c .if1 .taken)
+    rw (odd-told (s .args .n) E X _ (s .args .c) (s .pre .cell) e (c .before .before .lower-marks .ensures) (c .before .is-odd .ensures) ∙ c .if1 .taken)
 
 lower-marks-requires-2 : tie.Need-lower-marks-requires-2
 lower-marks-requires-2 c κs =
     let s = c .before .before .before .before .before in
-    (s .pre .0, s .pre .1, s .pre .2, cell-layer (s .args .n) _ (s .args .c) (s .pre .3) (c .before .before .before .number-of .ensures .0))
+    record {
+      sized = s .pre .sized;
+      is-grid = s .pre .is-grid;
+      layer = cell-layer (s .args .n) _ (s .args .c) (s .pre .cell) (c .before .before .before .number-of .ensures .0);
+    }
 
 is-odd-requires-2 : tie.Need-is-odd-requires-2
 is-odd-requires-2 c κs = search needs
@@ -44,15 +52,19 @@ returns-2 c =
     let E = marks (s .args .n) (s .args .grid .now) in
     let e = number-of .ensures .0 in
     rw (
-      odd-told (s .args .n) E X _ (s .args .c) (s .pre .3) e (lower-marks .ensures) (is-odd .ensures) ∙ c .before .before .before .if1 .left,
-      odd-told (s .args .n) E Y _ (s .args .c) (s .pre .3) e (c .before .before .lower-marks2 .ensures) (c .before .is-odd2 .ensures) ∙ c .if2 .taken,
+      odd-told (s .args .n) E X _ (s .args .c) (s .pre .cell) e (lower-marks .ensures) (is-odd .ensures) ∙ c .before .before .before .if1 .left,
+      odd-told (s .args .n) E Y _ (s .args .c) (s .pre .cell) e (c .before .before .lower-marks2 .ensures) (c .before .is-odd2 .ensures) ∙ c .if2 .taken,
     )
 
 lower-marks-requires-3 : tie.Need-lower-marks-requires-3
 lower-marks-requires-3 c κs =
     let number-of = c .before .before .before .before .before .before .number-of in
     let s = c .before .before .before .before .before .before .before .before in
-    (s .pre .0, s .pre .1, s .pre .2, cell-layer (s .args .n) _ (s .args .c) (s .pre .3) (number-of .ensures .0))
+    record {
+      sized = s .pre .sized;
+      is-grid = s .pre .is-grid;
+      layer = cell-layer (s .args .n) _ (s .args .c) (s .pre .cell) (number-of .ensures .0);
+    }
 
 is-odd-requires-3 : tie.Need-is-odd-requires-3
 is-odd-requires-3 c κs = search needs
@@ -68,12 +80,12 @@ returns-3 c =
     let E = marks (s .args .n) (s .args .grid .now) in
     let e = number-of .ensures .0 in
     rw (
-      odd-told (s .args .n) E X _ (s .args .c) (s .pre .3) e (lower-marks .ensures) (is-odd .ensures) ∙ if1 .left,
-      odd-told (s .args .n) E Y _ (s .args .c) (s .pre .3) e (lower-marks2 .ensures) (c .before .before .before .is-odd2 .ensures) ∙
+      odd-told (s .args .n) E X _ (s .args .c) (s .pre .cell) e (lower-marks .ensures) (is-odd .ensures) ∙ if1 .left,
+      odd-told (s .args .n) E Y _ (s .args .c) (s .pre .cell) e (lower-marks2 .ensures) (c .before .before .before .is-odd2 .ensures) ∙
           c .before .before .if2 .left,
       &&-true,
     )
-    (ap not (sym (odd-told (s .args .n) E Z _ (s .args .c) (s .pre .3) e (c .before .lower-marks3 .ensures) (c .is-odd3 .ensures))))
+    (ap not (sym (odd-told (s .args .n) E Z _ (s .args .c) (s .pre .cell) e (c .before .lower-marks3 .ensures) (c .is-odd3 .ensures))))
 
 pub lower-even-spec : {M : Type 1} → statement M
 lower-even-spec =

@@ -83,7 +83,7 @@ next-point-requires c κs =
     let start = c .before .before .before .before .before .before .before .before .before in
     let l = c .before .before .before .before .before .before .loop in
     let h : l .p < pointCount (start .args .n) = omega (arith, l .inv .0, loop-test .taken) in
-    (start .pre .0, at-grid _ (l .p) (l .q) (l .inv .2) h)
+    (start .pre .small, at-grid _ (l .p) (l .q) (l .inv .2) h)
 
 add-p : tie.Need-add-p Inv-loop μ-loop
 add-p c =

@@ -13,7 +13,7 @@ use Rattle.job_making.proofs.make_job.Tie as tie
 close-grid-requires : tie.Need-close-grid-requires
 close-grid-requires c κs =
     let start = c .before .before .before .before .before .before .before in
-    (start .pre .0 .1, rw (start .pre .0 .2) (bytes-long (start .args .l)))
+    (start .pre .ready, rw (start .pre .work-lent) (bytes-long (start .args .l)))
 
 cells-requires : tie.Need-cells-requires
 cells-requires c κs = search needs
@@ -23,7 +23,10 @@ list-quads-requires c κs =
     let at-cells = c .before .before in
     let at-close-grid = at-cells .before .before .before .before .before in
     let start = at-close-grid .before .before .before .before .before .before .before .before in
-    rw (at-cells .cells .ensures) (cells-most (start .args .l), at-close-grid .close-grid .ensures .long, at-close-grid .close-grid .ensures .grid)
+    rw (at-cells .cells .ensures) (
+      record { small = cells-most (start .args .l); long = at-close-grid .close-grid .ensures .long },
+      at-close-grid .close-grid .ensures .grid,
+    )
 
 enum-known-quads : tie.Need-enum-known-quads
 enum-known-quads c = search needs
@@ -36,10 +39,15 @@ put-parts-requires c κs =
     let start = at-close-grid .before .before .before .before .before .before .before .before in
     let closed = at-close-grid .close-grid .ensures in
     let r = listed-room _ _ _ _ _ _ (rw (at-quads .quads .given .1) at (at-list-quads .list-quads .ensures)) in
-    let kept = at-list-quads .list-quads .kept .1 .1 .0 in (
-      (start .pre .0 .0, closed .long, closed .grid, omega (arith, r, kept)),
-      (omega (arith, kept, start .pre .1 .0), start .pre .1 .1, omega (arith, kept, start .pre .1 .2)),
-    )
+    let kept = at-list-quads .list-quads .kept .1 .1 .0 in record {
+      level-is = start .pre .level-is;
+      grid-long = closed .long;
+      is-grid = closed .grid;
+      list-room = omega (arith, r, kept);
+      list-fits = omega (arith, kept, start .pre .list-fits);
+      front-room = start .pre .front-room;
+      back-room = omega (arith, kept, start .pre .back-room);
+    }
 
 enum-known-why : tie.Need-enum-known-why
 enum-known-why c = search needs
@@ -77,7 +85,7 @@ returns c =
     let at-close-grid = at-cells .before .before .before .before .before in
     let start = at-close-grid .before .before .before .before .before .before .before .before in
     let listed = rw (at-quads .quads .given .1, at-cells .cells .ensures) at (at-list-quads .list-quads .ensures) in
-    makes-done (start .args .l) _ (rw (start .pre .0 .2) at (at-close-grid .close-grid .ensures)) (start .args .list .now) _ _ (start .args .triangles) _ _
+    makes-done (start .args .l) _ (rw (start .pre .work-lent) at (at-close-grid .close-grid .ensures)) (start .args .list .now) _ _ (start .args .triangles) _ _
     listed (at-list-quads .list-quads .kept .1 .1 .0) _ (at-put-parts .put-parts .ensures)
 
 same-length-6 : tie.Need-same-length-6
@@ -104,7 +112,7 @@ returns-2 c =
     let listed = rw (at-why .why .given .1, at-cells .cells .ensures) at (at-list-quads .list-quads .ensures) in
     let p = at-put-refusal .put-refusal .ensures in
     rw (c .nothing-behind .ensures)
-    (makes-refused (start .args .l) _ (rw (start .pre .0 .2) at (at-close-grid .close-grid .ensures)) (start .args .list .now) _ (at-why .why .given .0 .0)
+    (makes-refused (start .args .l) _ (rw (start .pre .work-lent) at (at-close-grid .close-grid .ensures)) (start .args .list .now) _ (at-why .why .given .0 .0)
     (start .args .triangles) _ _ listed _ (p .1) (p .0 .holds ∙ ap refusedLine (at-number .number .ensures)))
 
 pub make-job-spec : {M : Type 1} → statement M

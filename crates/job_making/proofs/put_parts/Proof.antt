@@ -35,19 +35,19 @@ returns c =
     let far = ltb-false _ _ (sym (test .before .offset-fits .ensures) ∙ not-true _ (test .if1 .taken)) in
     let p = c .before .before .before .put-refusal .ensures in
     rw (c .nothing-behind .ensures)
-    (parts-far (start .args .l) (start .args .grid .now) (start .args .list .now) (start .args .triangles) (start .args .quads) (start .pre .0 .1)
-    (start .pre .0 .2) (start .pre .0 .3) _ (start .args .back .now) _ (pointed .points .ensures) far _ (p .1) (p .0 .holds))
+    (parts-far (start .args .l) (start .args .grid .now) (start .args .list .now) (start .args .triangles) (start .args .quads) (start .pre .grid-long)
+    (start .pre .is-grid) (start .pre .list-room) _ (start .args .back .now) _ (pointed .points .ensures) far _ (p .1) (p .0 .holds))
 
 cast-put-front : tie.Need-cast-put-front
 cast-put-front c =
     let start = c .before .before .before .before .before .before .before .before in
-    let k = number-small (start .args .l) in omega (arith, k, start .pre .0 .0)
+    let k = number-small (start .args .l) in omega (arith, k, start .pre .level-is)
 
 slice-aggregate-put-front : tie.Need-slice-aggregate-put-front
 slice-aggregate-put-front c =
     let pointed = c .before .before .before .before in
     let start = pointed .before .before .before .before .before in
-    sym (length-take-le _ _ (rw (pointed .points .ensures) (start .pre .0 .1)))
+    sym (length-take-le _ _ (rw (pointed .points .ensures) (start .pre .grid-long)))
 
 put-front-requires : tie.Need-put-front-requires
 put-front-requires c κs =
@@ -55,11 +55,15 @@ put-front-requires c κs =
     let pointed = test .before .before in
     let start = pointed .before .before .before .before .before in
     let points = pointed .points in
-    let n = length-take-le (points .result) (start .args .grid .now) (rw (points .ensures) (start .pre .0 .1)) in
+    let n = length-take-le (points .result) (start .args .grid .now) (rw (points .ensures) (start .pre .grid-long)) in
     let near : 29 + points .result + 36 * start .args .triangles < 4294967296
     = ltb-true _ _ (sym (test .before .offset-fits .ensures) ∙ not-false _ (test .if1 .left)) in
     let most = points-most (start .args .l) in
-    (omega (arith, n, near), omega (arith, start .pre .0 .3, start .pre .1 .0), omega (arith, n, points .ensures, most, start .pre .1 .1))
+    record {
+      offset-fits = omega (arith, n, near);
+      length-fits = omega (arith, start .pre .list-room, start .pre .list-fits);
+      out-room = omega (arith, n, points .ensures, most, start .pre .front-room);
+    }
 
 mul-count : tie.Need-mul-count
 mul-count c = search needs
@@ -85,9 +89,10 @@ returns-2 c =
     let at-points = at-offset-fits .before in
     let start = at-points .before .before .before .before .before in
     let near = ltb-true _ _ (sym (at-offset-fits .offset-fits .ensures) ∙ not-false _ (at-if1 .if1 .left)) in
-    parts-put (start .args .l) (start .args .grid .now) (start .args .list .now) (start .args .triangles) (start .args .quads) (start .pre .0 .1)
-    (start .pre .0 .2) (start .pre .0 .3) (start .args .back .now) _ _ (start .args .level) _ _ (start .pre .0 .0) (at-points .points .ensures) near
-    (start .pre .1 .0) (at-put-front .put-front .ensures .0) (at-put-front .put-front .ensures .1) (start .pre .1 .2) (at-put-halves .put-halves .ensures)
+    parts-put (start .args .l) (start .args .grid .now) (start .args .list .now) (start .args .triangles) (start .args .quads) (start .pre .grid-long)
+    (start .pre .is-grid) (start .pre .list-room) (start .args .back .now) _ _ (start .args .level) _ _ (start .pre .level-is) (at-points .points .ensures) near
+    (start .pre .list-fits) (at-put-front .put-front .ensures .0) (at-put-front .put-front .ensures .1) (start .pre .back-room)
+    (at-put-halves .put-halves .ensures)
 
 pub put-parts-spec : {M : Type 1} → statement M
 put-parts-spec =

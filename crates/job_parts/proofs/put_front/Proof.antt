@@ -78,8 +78,8 @@ returns c =
     let c10 = c6 .before .before .before .before in
     let c14 = c10 .before .before .before .before in
     let c18 = c14 .before .before .before .before in (
-      rw (c2 .put-bytes .kept .0, c6 .put-line3 .kept .0, c10 .put-line2 .kept .0, c14 .put-line .kept .0) (simp length-set (c18 .pre .2)),
-      front-before (c18 .args .level) (c18 .args .grid .now) (c18 .args .triangles) (c18 .args .quads) (c18 .args .out .now) _ _ _ _ (c18 .pre .2)
+      rw (c2 .put-bytes .kept .0, c6 .put-line3 .kept .0, c10 .put-line2 .kept .0, c14 .put-line .kept .0) (simp length-set (c18 .pre .out-room)),
+      front-before (c18 .args .level) (c18 .args .grid .now) (c18 .args .triangles) (c18 .args .quads) (c18 .args .out .now) _ _ _ _ (c18 .pre .out-room)
           (c14 .put-line .ensures) (c10 .put-line2 .ensures) (c6 .put-line3 .ensures) (c2 .put-bytes .ensures),
     )
 

@@ -17,7 +17,7 @@ find-requires-2 c κs = search needs
 
 returns : tie.Need-returns
 returns c =
-    let grid = c .before .before .before .before .before .pre .2 in
+    let grid = c .before .before .before .before .before .pre .grid-found in
     λ i. record {
       level = c .before .before .wide .ensures .0 i;
       grid = grid i;

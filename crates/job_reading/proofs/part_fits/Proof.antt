@@ -58,7 +58,7 @@ is-grid-requires c κs =
     let size = part .given .0 .1 .0 in
     let h = present (start .args .n) s (start .args .part) at size (part .given .1) (start .pre .1) in
     let n : length (take (at + size - at) (drop at s)) ≡ at + size - at = mid-len at (at + size) s (h .1) in
-    (start .pre .0, omega (arith, n, h .0))
+    record { small = start .pre .0; long = omega (arith, n, h .0) }
 
 returns : tie.Need-returns
 returns c = search needs

@@ -45,12 +45,11 @@ read-sized-requires : tie.Need-read-sized-requires
 read-sized-requires c κs =
     let c2 = c .before .before in
     let c7 = c2 .before .before .before .before .before in
-    let c9 = c7 .before .before in (
-      rw (c .cells .ensures) (cells-most (c2 .l .given .0 .0)),
-      looked-at (c9 .args .front .now) (c9 .args .size) (c9 .pre) 1 (lit≤ tt)
-          (omega (arith, c7 .if1 .left)),
-      c9 .pre,
-    )
+    let c9 = c7 .before .before in record {
+      small = rw (c .cells .ensures) (cells-most (c2 .l .given .0 .0));
+      front-some = looked-at (c9 .args .front .now) (c9 .args .size) (c9 .pre) 1 (lit≤ tt) (omega (arith, c7 .if1 .left));
+      front-of = c9 .pre;
+    }
 
 enum-told : tie.Need-enum-told
 enum-told c = search needs

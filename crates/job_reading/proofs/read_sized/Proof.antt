@@ -22,12 +22,12 @@ returns : tie.Need-returns
 returns c =
     let c2 = c .before .before in
     λ rest e.
-    front-short (c2 .args .n) (c2 .args .size) (c2 .args .front .now) rest (c2 .pre .0) (c2 .pre .2) e (c .if1 .taken)
+    front-short (c2 .args .n) (c2 .args .size) (c2 .args .front .now) rest (c2 .pre .small) (c2 .pre .front-of) e (c .if1 .taken)
 
 shared-slice-read-count : tie.Need-shared-slice-read-count
 shared-slice-read-count c =
     let c3 = c .before .before .before in
-    looked-at (c3 .args .front .now) (c3 .args .size) (c3 .pre .2) 2 (lit≤ tt) (c .before .if1 .left)
+    looked-at (c3 .args .front .now) (c3 .args .size) (c3 .pre .front-of) 2 (lit≤ tt) (c .before .if1 .left)
 
 cast-count : tie.Need-cast-count
 cast-count c = omega (arith, c .shared-slice-known2 .given 1)
@@ -37,7 +37,7 @@ returns-2 c =
     let c2 = c .before .before in
     let c4 = c2 .before .before in
     λ rest e.
-    front-many (c4 .args .n) (c4 .args .size) (c4 .args .front .now) rest (c4 .pre .0) (c4 .pre .2) e (c2 .if1 .left) (c .if2 .taken)
+    front-many (c4 .args .n) (c4 .args .size) (c4 .args .front .now) rest (c4 .pre .small) (c4 .pre .front-of) e (c2 .if1 .left) (c .if2 .taken)
 
 mul-if3 : tie.Need-mul-if3
 mul-if3 c = search needs
@@ -50,13 +50,16 @@ returns-3 c =
     let c3 = c .before .before .before in
     let c5 = c3 .before .before in
     λ rest e.
-    front-cut (c5 .args .n) (c5 .args .size) (c5 .args .front .now) rest (c5 .pre .0) (c5 .pre .2) e (c3 .if1 .left) (c .before .if2 .left)
+    front-cut (c5 .args .n) (c5 .args .size) (c5 .args .front .now) rest (c5 .pre .small) (c5 .pre .front-of) e (c3 .if1 .left) (c .before .if2 .left)
     (c .if3 .taken)
 
 kinds-rise-requires : tie.Need-kinds-rise-requires
 kinds-rise-requires c κs =
-    let c5 = c .before .before .before .before .before in
-    (c .before .if2 .left, table-front (c5 .args .n) (c5 .args .size) (c5 .args .front .now) (c5 .pre .0) (c5 .pre .2) (c .before .if2 .left) (c .if3 .left))
+    let c5 = c .before .before .before .before .before in (
+      c .before .if2 .left,
+      table-front (c5 .args .n) (c5 .args .size) (c5 .args .front .now) (c5 .pre .small) (c5 .pre .front-of)
+          (c .before .if2 .left) (c .if3 .left),
+    )
 
 returns-4 : tie.Need-returns-4
 returns-4 c =
@@ -65,7 +68,7 @@ returns-4 c =
     let c5 = c3 .before .before in
     let c7 = c5 .before .before in
     λ rest e.
-    front-kind (c7 .args .n) (c7 .args .size) (c7 .args .front .now) rest (c7 .pre .0) (c7 .pre .2) e (c5 .if1 .left) (c3 .if2 .left) (c2 .if3 .left)
+    front-kind (c7 .args .n) (c7 .args .size) (c7 .args .front .now) rest (c7 .pre .small) (c7 .pre .front-of) e (c5 .if1 .left) (c3 .if2 .left) (c2 .if3 .left)
     (fails (c .before .kinds-rise .ensures) (c .if4 .taken))
 
 point-count-requires : tie.Need-point-count-requires
@@ -76,7 +79,7 @@ are-placed-requires c κs =
     let c3 = c .before .before .before in
     let c4 = c3 .before in
     let c8 = c4 .before .before .before .before in
-    (c4 .if2 .left, table-front (c8 .args .n) (c8 .args .size) (c8 .args .front .now) (c8 .pre .0) (c8 .pre .2) (c4 .if2 .left) (c3 .if3 .left))
+    (c4 .if2 .left, table-front (c8 .args .n) (c8 .args .size) (c8 .args .front .now) (c8 .pre .small) (c8 .pre .front-of) (c4 .if2 .left) (c3 .if3 .left))
 
 -- the test of places, with the number of points
 places : (n points size : ℕ) (r : Bool) (s : List ℕ) → points ≡ pointCount n →
@@ -96,7 +99,7 @@ returns-5 c =
     λ rest e.
     let kinds = holds (c4 .kinds-rise .ensures) (c3 .if4 .left) in
     let fit = places (c10 .args .n) _ (c10 .args .size) _ (c10 .args .front .now) (c2 .point-count .ensures .0) (c .before .are-placed .ensures) in
-    front-place (c10 .args .n) (c10 .args .size) (c10 .args .front .now) rest (c10 .pre .0) (c10 .pre .2) e (c8 .if1 .left) (c6 .if2 .left)
+    front-place (c10 .args .n) (c10 .args .size) (c10 .args .front .now) rest (c10 .pre .small) (c10 .pre .front-of) e (c8 .if1 .left) (c6 .if2 .left)
     (c5 .if3 .left) kinds (fails fit (c .if5 .taken))
 
 find-requires : tie.Need-find-requires
@@ -104,7 +107,7 @@ find-requires c κs =
     let c5 = c .before .before .before .before .before in
     let c6 = c5 .before in
     let c10 = c6 .before .before .before .before in
-    (c6 .if2 .left, table-front (c10 .args .n) (c10 .args .size) (c10 .args .front .now) (c10 .pre .0) (c10 .pre .2) (c6 .if2 .left) (c5 .if3 .left))
+    (c6 .if2 .left, table-front (c10 .args .n) (c10 .args .size) (c10 .args .front .now) (c10 .pre .small) (c10 .pre .front-of) (c6 .if2 .left) (c5 .if3 .left))
 
 part-fits-requires : tie.Need-part-fits-requires
 part-fits-requires c κs =
@@ -119,9 +122,9 @@ part-fits-requires c κs =
     let kinds = holds (c5 .kinds-rise .ensures) (c4 .if4 .left) in
     let fit = places (c11 .args .n) _ (c11 .args .size) _ s (c3 .point-count .ensures .0) (c2 .are-placed .ensures) in
     let f = c .find .ensures in (
-      c11 .pre .0,
+      c11 .pre .small,
       λ t.
-          let w = grid-front (c11 .args .n) (c11 .args .size) s (c11 .pre .0) (c11 .pre .2) (c7 .if2 .left) (c6 .if3 .left) kinds
+          let w = grid-front (c11 .args .n) (c11 .args .size) s (c11 .pre .small) (c11 .pre .front-of) (c7 .if2 .left) (c6 .if3 .left) kinds
           (holds fit (c .before .if5 .left))
           (sym (ap (λ (p : Part). there p) f) ∙ t) in
           (ap (λ (p : Part). sizeOf p) f ∙ w .0, subst (λ (p : Part). placeOf p + sizeOf p ≤ length s) (sym f) (w .1)),
@@ -144,7 +147,7 @@ returns-6 c =
     let kinds = holds (c7 .kinds-rise .ensures) (c6 .if4 .left) in
     let fit = places (c13 .args .n) _ (c13 .args .size) _ s (c5 .point-count .ensures .0) (c4 .are-placed .ensures) in
     let grid = c .before .part-fits .ensures ∙ ap (λ (p : Part). gridFits (c13 .args .n) (there p) (bytesOf s p)) (c2 .find .ensures) in
-    front-grid (c13 .args .n) (c13 .args .size) (c13 .args .front .now) rest (c13 .pre .0) (c13 .pre .2) e (c11 .if1 .left) (c9 .if2 .left)
+    front-grid (c13 .args .n) (c13 .args .size) (c13 .args .front .now) rest (c13 .pre .small) (c13 .pre .front-of) e (c11 .if1 .left) (c9 .if2 .left)
     (c8 .if3 .left) kinds
     (holds fit (c3 .if5 .left)) (fails grid (c .if6 .taken))
 
@@ -153,12 +156,12 @@ contents-of-requires c κs =
     let c2 = c .before .before in
     let c8 = c2 .before .before .before .before .before .before in
     let c9 = c8 .before in
-    let c13 = c9 .before .before .before .before in (
-      c9 .if2 .left,
-      table-front (c13 .args .n) (c13 .args .size) (c13 .args .front .now) (c13 .pre .0) (c13 .pre .2) (c9 .if2 .left)
-          (c8 .if3 .left),
-      c2 .find .ensures,
-    )
+    let c13 = c9 .before .before .before .before in record {
+      count-most = c9 .if2 .left;
+      file-room = table-front (c13 .args .n) (c13 .args .size) (c13 .args .front .now) (c13 .pre .small) (c13 .pre .front-of) (c9 .if2 .left)
+          (c8 .if3 .left);
+      grid-found = c2 .find .ensures;
+    }
 
 returns-7 : tie.Need-returns-7
 returns-7 c =
@@ -179,7 +182,7 @@ returns-7 c =
     let fit = places (c14 .args .n) _ (c14 .args .size) _ s (c6 .point-count .ensures .0) (c5 .are-placed .ensures) in
     let grid = c2 .part-fits .ensures ∙ ap (λ (p : Part). gridFits (c14 .args .n) (there p) (bytesOf s p)) (c3 .find .ensures) in
     ap done (c .contents-of .ensures)
-    ∙ front-whole (c14 .args .n) (c14 .args .size) (c14 .args .front .now) rest (c14 .pre .0) (c14 .pre .2) e (c12 .if1 .left) (c10 .if2 .left)
+    ∙ front-whole (c14 .args .n) (c14 .args .size) (c14 .args .front .now) rest (c14 .pre .small) (c14 .pre .front-of) e (c12 .if1 .left) (c10 .if2 .left)
     (c9 .if3 .left) kinds
     (holds fit (c4 .if5 .left)) (holds grid (c .before .if6 .left))
 

@@ -5,7 +5,7 @@ use Rattle.job_writing.proofs.grid_fits.Tie as tie
 is-grid-requires : tie.Need-is-grid-requires
 is-grid-requires c κs =
     let start = c .before .before in
-    (start .pre .0, start .pre .1 (c .if1 .taken))
+    record { small = start .pre .0; long = start .pre .1 (c .if1 .taken) }
 
 returns : tie.Need-returns
 returns c = simp (c .before .if1 .taken) (c .is-grid .ensures)

@@ -31,7 +31,8 @@ put-lines-requires : tie.Need-put-lines-requires
 put-lines-requires c κs =
     let start = c .before .before .before .before .before in
     let m = end-grows (start .args .start) (chosen (start .args .w) (start .args .grid .now) (start .args .triangles .now) (start .args .quads .now)) in
-    ((omega (arith, start .pre), start .pre .1 .0), simp length-set (omega (arith, m, start .pre)))
+    let p = start .pre in
+    record { start-most = omega (arith, p); sizes = p .sizes; out-room = simp length-set (omega (arith, m, p)) }
 
 put-bodies-requires : tie.Need-put-bodies-requires
 put-bodies-requires c κs =
@@ -40,7 +41,8 @@ put-bodies-requires c κs =
     let level = start .args .level in
     let n = length-set (set out 0 level) 1 (start .args .count) in
     let k = length-set out 0 level in
-    ((omega (arith, start .pre), start .pre .1 .0), omega (arith, n, k, start .pre, c .before .before .before .put-lines .kept))
+    let p = start .pre in
+    record { start-most = omega (arith, p); sizes = p .sizes; out-room = omega (arith, n, k, p, c .before .before .before .put-lines .kept) }
 
 same-length : tie.Need-same-length
 same-length c =
@@ -59,8 +61,8 @@ returns c =
     let put-lines = c .before .before .before .before .before .before .put-lines in
     let l = start .args .out .now in
     let b = (chosen (start .args .w) (start .args .grid .now) (start .args .triangles .now) (start .args .quads .now)) in
-    let e : start .args .count ≡ length b = start .pre .0 .1 in
-    let s : start .args .start ≡ tableSize (length b) = start .pre .0 .2 ∙ ap tableSize e in
+    let e : start .args .count ≡ length b = start .pre .count-is in
+    let s : start .args .start ≡ tableSize (length b) = start .pre .start-is ∙ ap tableSize e in
     file-put l _ _ level b
     (put-lines .ensures ∙ (λ i. puts (set (set l 0 level) 1 (e i)) 2 (lines (s i) b)))
     (c .before .before .put-bodies .ensures ∙ ap (λ (m : ℕ). puts (put-lines .last .1 .1 .1 .1 .1 .0) m (joined b)) s)

@@ -120,10 +120,13 @@ put-file-requires c κs =
     let fit = c .before .before .before .before .before .before in
     let a = fit .before .before .before .before .before .before .before .before .before .args in
     let all = holds (fit .all-fit .ensures) (c .before .before .before .before .before .if1 .left) in
-    let sizes = chosen-sizes (fit .before .point-count .result) _ (a .w) (a .grid .now) (a .triangles .now) (a .quads .now) all in (
-      (omega (arith, count-most fit), count-is fit, refl),
-      (sizes, omega (arith, c .before .before .end-of .ensures, c .before .if3 .left)),
-    )
+    let sizes = chosen-sizes (fit .before .point-count .result) _ (a .w) (a .grid .now) (a .triangles .now) (a .quads .now) all in record {
+      count-most = omega (arith, count-most fit);
+      count-is = count-is fit;
+      start-is = refl;
+      sizes = sizes;
+      out-room = omega (arith, c .before .before .end-of .ensures, c .before .if3 .left);
+    }
 
 same-length : tie.Need-same-length
 same-length c = search needs

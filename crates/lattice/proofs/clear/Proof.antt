@@ -1,7 +1,7 @@
 -- `clear`: the loop's invariant is that p zeros stand before the rest of the buffer as it came. Assumes nothing.
 use mathlib.Core.Path.{_≡_, refl, ap, _∙_}
 use mathlib.Core.List.{_++_}
-use Prim.Native.Nat.{ℕ, _+_, _-_, _≤_}
+use Prim.Native.Nat.{ℕ, _-_, _≤_}
 use native.Mathlib.Omega.{arith}
 use lib.ListN.{length, drop, replicate}
 use Rattle.lattice.proofs.Clearing.{cleared-more, cleared-length}

@@ -112,7 +112,11 @@ returns-4 c =
 mark-ranged-requires : tie.Need-mark-ranged-requires
 mark-ranged-requires c κs =
     let e = c .before .before in
-    (long (e .before .before .before), e .before .before .if2 .left, ranged e)
+    record {
+      grid-long = long (e .before .before .before);
+      nines = e .before .before .if2 .left;
+      in-range = ranged e;
+    }
 
 same-length : tie.Need-same-length
 same-length c = search needs

@@ -37,7 +37,7 @@ loop-holds : tie.Need-loop-holds Inv-loop μ-loop
 loop-holds c =
     let s = c .before in
     let all = ap (λ (m : List (List ℤ)). markedAll (s .args .l) m (s .args .grid .now)) (left-all (s .args .list .now)) in
-    (omega arith, refl, refl, s .pre .1 .1, s .pre .1 .2, all)
+    (omega arith, refl, refl, s .pre .ready .grid, s .pre .ready .unsigned, all)
 
 -- ---- within the loop a triangle begins
 module _ (p : tie.In-loop Inv-loop μ-loop) where
@@ -51,7 +51,7 @@ module _ (p : tie.In-loop Inv-loop μ-loop) where
   place = p .before .loop .at
 
   whole : length list % 9 ≡ 0
-  whole = p .before .before .before .pre .0 .0
+  whole = p .before .before .before .pre .nines
 
   -- its nine numbers lie within the list
   room : place + 9 ≤ length list
@@ -72,7 +72,7 @@ module _ (p : tie.In-loop Inv-loop μ-loop) where
 
   in-range : TriangleWithin level triangle
   in-range =
-      let ranged = range-dropped level place list (p .before .before .before .pre .0 .1) in
+      let ranged = range-dropped level place list (p .before .before .before .pre .in-range) in
       triangle-within level (take 9 (drop place list)) numbered (range-taken level 9 (drop place list) ranged)
 
   -- what is left goes on behind it
@@ -101,8 +101,10 @@ mark-fast-requires : tie.Need-mark-fast-requires Inv-loop μ-loop
 mark-fast-requires c κs =
     let p = c .before .before .before in
     let i = p .before .loop .inv in
-    let is = c .triangle-of .ensures ∙ ap triangleOf (part-is p) in
-    (rw is (in-range p), (rw (i .2) (p .before .before .before .pre .1 .0), i .3, i .4))
+    let is = c .triangle-of .ensures ∙ ap triangleOf (part-is p) in (
+      rw is (in-range p),
+      record { long = rw (i .2) (p .before .before .before .pre .ready .long); grid = i .3; unsigned = i .4 },
+    )
 
 add-at : tie.Need-add-at Inv-loop μ-loop
 add-at c = let r = room (c .before .before .before .before .before .before) in search needs

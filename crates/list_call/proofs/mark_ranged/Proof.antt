@@ -1,6 +1,6 @@
 -- `mark_ranged`: each return is a row of the grid or of the table; behind them the calls leave what `some-marked` says of the whole list.
 -- Assumes nothing.
-use mathlib.Core.Path.{_≡_, sym, ap, subst, _∙_}
+use mathlib.Core.Path.{_≡_, sym, ap, _∙_}
 use mathlib.Core.Bool.{true}
 use mathlib.Core.List.{List}
 use Prim.Native.Nat.{ℕ, _/_, _≤_, _<_}
@@ -9,9 +9,9 @@ use borrow.Author.Needs.{needs}
 use borrow.Author.Tests.{lt-ltb, le-ltb}
 use lib.ListN.{length}
 use Rattle.rules.specs.Lattice.{pointCount}
-use Rattle.rules.specs.Grid.{isGrid, Unsigned}
+use Rattle.rules.specs.Grid.{isGrid}
 use Rattle.lattice.specs.declared.level.Level.{Level}
-use Rattle.lattice.specs.Levels.{cellsOf, pointsOf}
+use Rattle.lattice.specs.Levels.{cellsOf}
 use Rattle.lattice.proofs.LevelFacts.{cells-most}
 use Rattle.grids.specs.declared.GridRead.the-variants.{Grid}
 use Rattle.grids.specs.Scans.{readOf}
@@ -27,7 +27,7 @@ cells-requires c κs = search needs
 read-grid-requires : tie.Need-read-grid-requires
 read-grid-requires c κs =
     let s = c .before .before .before .before in
-    rw (c .before .cells .ensures) (cells-most (s .args .l), s .pre .0)
+    rw (c .before .cells .ensures) (record { small = cells-most (s .args .l); long = s .pre .grid-long })
 
 enum-known-inside : tie.Need-enum-known-inside
 enum-known-inside c = search needs
@@ -102,7 +102,7 @@ returns-3 c =
 clear-signs-requires : tie.Need-clear-signs-requires
 clear-signs-requires c κs =
     let p = c .before .before .before in
-    rw (cells-are p) (cells-most (level p), start p .pre .0, read p)
+    rw (cells-are p) (record { small = cells-most (level p); long = start p .pre .grid-long }, read p)
 
 mark-each-requires : tie.Need-mark-each-requires
 mark-each-requires c κs =
@@ -110,9 +110,7 @@ mark-each-requires c κs =
     let p = k .before .before .before .before in
     let l = level p in
     let u = rw (cells-are p) at (k .clear-signs .ensures) in
-    let n = cellsOf l in
-    let ready = subst (λ (h : List ℕ). (pointsOf l ≤ length h) × (isGrid n h ≡ true) × Unsigned n h) (sym u) (unsigned-ready n (grid p) (start p .pre .0)) in
-    ((start p .pre .1, start p .pre .2), ready)
+    record { nines = start p .pre .nines; in-range = start p .pre .in-range; ready = rw u (unsigned-ready l (grid p) (start p .pre .grid-long)) }
 
 count-held-requires : tie.Need-count-held-requires
 count-held-requires c κs =
@@ -121,7 +119,7 @@ count-held-requires c κs =
     let e = k .before .before .before in
     let p = e .before in
     let same = m .mark-each .kept .1 .0 ∙ k .clear-signs .kept .1 .0 in
-    rw (cells-are p) (cells-most (level p), rw same (start p .pre .0), room e)
+    rw (cells-are p) (record { small = cells-most (level p); long = rw same (start p .pre .grid-long) }, room e)
 
 same-length-4 : tie.Need-same-length-4
 same-length-4 c = search needs
@@ -142,7 +140,7 @@ returns-4 c =
     let marked = m .mark-each .ensures ∙ ap (markedAll l (trianglesOf list)) u in
     let counted = rw (cells-are p) at (h .count-held .ensures) in
     let some : 0 < length list = omega (arith, k .before .before .if2 .left) in
-    rw (is p, le-ltb _ _ (room e)) (some-marked l list (grid p) (table p) (start p .pre .1) some _ _ marked counted)
+    rw (is p, le-ltb _ _ (room e)) (some-marked l list (grid p) (table p) (start p .pre .nines) some _ _ marked counted)
 
 pub mark-ranged-spec : {M : Type 1} → statement M
 mark-ranged-spec =

@@ -1,5 +1,5 @@
 -- `around` asks for layers, rows and ends, as the definition does; the first that has a mark decides. Assumes nothing.
-use mathlib.Core.Path.{_≡_, sym, _∙_}
+use mathlib.Core.Path.{sym, _∙_}
 use Rattle.looking.specs.Inside.{aroundMarked}
 use Rattle.looking.proofs.around.Statement.{statement}
 use Rattle.looking.proofs.around.Tie as tie

@@ -1,12 +1,12 @@
 -- `either_any` asks the first box; where it has no mark, the second decides. Assumes nothing.
-use mathlib.Core.Path.{_≡_, sym, ap, _∙_}
+use mathlib.Core.Path.{sym, ap, _∙_}
 use mathlib.Core.Bool.{Bool, _||_}
 use Rattle.asking.specs.Ask.{anyMarked}
 use Rattle.looking.proofs.either_any.Statement.{statement}
 use Rattle.looking.proofs.either_any.Tie as tie
 
 box-any-requires : tie.Need-box-any-requires
-box-any-requires c κs = let s = c .before in (s .pre .0, s .pre .1, s .pre .2)
+box-any-requires c κs = let s = c .before in (s .pre .sized, s .pre .low-fits)
 
 returns : tie.Need-returns
 returns c =
@@ -15,7 +15,7 @@ returns c =
     sym (ap (λ (b : Bool). b || second) (sym (c .before .box-any .ensures) ∙ c .if1 .taken))
 
 box-any-requires-2 : tie.Need-box-any-requires-2
-box-any-requires-2 c κs = let s = c .before .before .before in (s .pre .0, s .pre .1, s .pre .3)
+box-any-requires-2 c κs = let s = c .before .before .before in (s .pre .sized, s .pre .high-fits)
 
 returns-2 : tie.Need-returns-2
 returns-2 c =

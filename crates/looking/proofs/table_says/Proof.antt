@@ -1,14 +1,13 @@
 -- `table_says` has the rule's three cases; where blocks lie inside, their points are a box within the box, and the rest lies around it. Assumes nothing.
-use mathlib.Core.Path.{_≡_, sym, ap, ap₂, _∙_}
-use mathlib.Core.Bool.{true, false}
-use Prim.Native.Nat.{ℕ, suc, _/_, _≤_}
+use mathlib.Core.Path.{sym, ap, ap₂, _∙_}
+use Prim.Native.Nat.{ℕ, _/_}
 use native.Mathlib.Omega.{arith}
 use Rattle.rules.specs.declared.Point.{Point}
 use Rattle.rules.specs.declared.Box.{Box}
 use Rattle.rules.specs.Lists.{anyOf}
 use Rattle.rules.specs.Lattice.{OfGrid}
 use Rattle.totals.specs.Totals.{boxPoints}
-use Rattle.asking.specs.Ask.{boxFrom, anyMarked, entrySome, Fits}
+use Rattle.asking.specs.Ask.{boxFrom, anyMarked, entrySome, PointBox}
 use Rattle.looking.specs.Inside.{insideOf, pointsOf, emptyBox, aroundMarked}
 use Rattle.looking.proofs.Parts.{none-inside, points-within, inside-fits, inside-few}
 use Rattle.looking.proofs.Six.{told-yes, told-no}
@@ -16,26 +15,28 @@ use Rattle.looking.proofs.table_says.Statement.{statement}
 use Rattle.looking.proofs.table_says.Tie as tie
 
 -- the box lies in the grid
-box-fits : (n : ℕ) (l h : Point) → OfGrid n h → Fits n (boxFrom l h)
+box-fits : (n : ℕ) (l h : Point) → OfGrid n h → PointBox n (boxFrom l h)
 box-fits n l h o = record { x = omega (arith, o .i); y = omega (arith, o .j); z = omega (arith, o .k) }
 
 box-from-requires : tie.Need-box-from-requires
 box-from-requires c κs =
     let s = c .before .before in
-    let o = s .pre .3 in
-    let m = s .pre .0 in
+    let o = s .pre .on-grid in
+    let m = s .pre .sized .small in
     record { i = omega (arith, o .i, m); j = omega (arith, o .j, m); k = omega (arith, o .k, m) }
 
 inside-requires : tie.Need-inside-requires
-inside-requires c κs = c .before .before .before .pre .0
+inside-requires c κs = c .before .before .before .pre .sized .small
 
 is-empty-requires : tie.Need-is-empty-requires
 is-empty-requires c κs = tt
 
 box-any-requires : tie.Need-box-any-requires
 box-any-requires c κs =
-    let s = c .before .before .before .before .before .before in
-    (s .pre .0, s .pre .1, rw (c .before .before .before .box-from .ensures) (box-fits (s .args .n) (s .args .low) (s .args .high) (s .pre .3)))
+    let s = c .before .before .before .before .before .before in (
+      s .pre .sized,
+      rw (c .before .before .before .box-from .ensures) (box-fits (s .args .n) (s .args .low) (s .args .high) (s .pre .on-grid)),
+    )
 
 returns : tie.Need-returns
 returns c =
@@ -46,16 +47,15 @@ returns c =
     let i = c .before .before .before .inside .ensures ∙ ap (insideOf n) e in
     let empty = sym (ap emptyBox i) ∙ sym (c .before .before .is-empty .ensures) ∙ c .before .if1 .taken in
     c .box-any .ensures ∙ ap (anyMarked n g) e
-    ∙ sym (none-inside n g (s .args .totals .now) (boxFrom (s .args .low) (s .args .high)) (box-fits n (s .args .low) (s .args .high) (s .pre .3)) empty)
+    ∙ sym (none-inside n g (s .args .totals .now) (boxFrom (s .args .low) (s .args .high)) (box-fits n (s .args .low) (s .args .high) (s .pre .on-grid)) empty)
 
 box-some-requires : tie.Need-box-some-requires
 box-some-requires c κs =
     let s = c .before .before .before .before .before .before in
     let n = s .args .n in
     let i = c .before .before .inside .ensures ∙ ap (insideOf n) (c .before .before .before .box-from .ensures) in (
-      omega (arith, s .pre .0),
-      s .pre .2,
-      rw i (inside-fits n (boxFrom (s .args .low) (s .args .high)) (box-fits n (s .args .low) (s .args .high) (s .pre .3))),
+      record { small = omega (arith, s .pre .sized .small); long = s .pre .totals-long },
+      rw i (inside-fits n (boxFrom (s .args .low) (s .args .high)) (box-fits n (s .args .low) (s .args .high) (s .pre .on-grid))),
     )
 
 returns-2 : tie.Need-returns-2
@@ -65,7 +65,7 @@ returns-2 c =
     let t = s .args .totals .now in
     let i = c .before .before .before .before .inside .ensures ∙ ap (insideOf n) (c .before .before .before .before .before .box-from .ensures) in
     let yes = sym (ap (λ (b : Box). anyOf (entrySome (n / 4) t) (boxPoints b)) i) ∙ sym (c .before .box-some .ensures) ∙ c .if2 .taken in
-    sym (told-yes n (s .args .grid .now) t (boxFrom (s .args .low) (s .args .high)) (box-fits n (s .args .low) (s .args .high) (s .pre .3)) yes)
+    sym (told-yes n (s .args .grid .now) t (boxFrom (s .args .low) (s .args .high)) (box-fits n (s .args .low) (s .args .high) (s .pre .on-grid)) yes)
 
 points-of-requires : tie.Need-points-of-requires
 points-of-requires c κs =
@@ -74,8 +74,8 @@ points-of-requires c κs =
     let i = c .before .before .before .before .inside .ensures ∙ ap (insideOf n) (c .before .before .before .before .before .box-from .ensures) in
     let some = sym (ap emptyBox i) ∙ sym (c .before .before .before .is-empty .ensures) ∙ c .before .before .if1 .left in
     let b = boxFrom (s .args .low) (s .args .high) in
-    let few = inside-few n (insideOf n b) (s .pre .0) (inside-fits n b (box-fits n (s .args .low) (s .args .high) (s .pre .3))) some in
-    rw i (s .pre .0, few .0, few .1)
+    let few = inside-few n (insideOf n b) (s .pre .sized .small) (inside-fits n b (box-fits n (s .args .low) (s .args .high) (s .pre .on-grid))) some in
+    rw i (record { small = s .pre .sized .small; lo-on = few .0; hi-on = few .1 })
 
 around-requires : tie.Need-around-requires
 around-requires c κs =
@@ -86,8 +86,8 @@ around-requires c κs =
     let h = c .points-of .ensures ∙ ap (pointsOf n) i in
     let some = sym (ap emptyBox i) ∙ sym (c .before .before .before .before .is-empty .ensures) ∙ c .before .before .before .if1 .left in
     let b = boxFrom (s .args .low) (s .args .high) in
-    let f = box-fits n (s .args .low) (s .args .high) (s .pre .3) in
-    rw (e, h) (s .pre .0, s .pre .1, f, points-within n b f some)
+    let f = box-fits n (s .args .low) (s .args .high) (s .pre .on-grid) in
+    rw (e, h) (record { sized = s .pre .sized; fits = f; within = points-within n b f some })
 
 returns-3 : tie.Need-returns-3
 returns-3 c =
@@ -102,7 +102,7 @@ returns-3 c =
     let no = sym (c .before .before .before .box-some .ensures) ∙ c .before .before .if2 .left in
     let none = sym (ap (λ (b : Box). anyOf (entrySome (n / 4) t) (boxPoints b)) i) ∙ no in
     c .around .ensures ∙ ap₂ (aroundMarked n g) e h
-    ∙ sym (told-no n g t (boxFrom (s .args .low) (s .args .high)) (box-fits n (s .args .low) (s .args .high) (s .pre .3)) some none)
+    ∙ sym (told-no n g t (boxFrom (s .args .low) (s .args .high)) (box-fits n (s .args .low) (s .args .high) (s .pre .on-grid)) some none)
 
 pub table-says-spec : {M : Type 1} → statement M
 table-says-spec =

@@ -1,19 +1,15 @@
 -- `mark_passed` counts totals while it reads the grid; only blocks near the triangle get marks, so that these alone are counted anew. Assumes nothing.
-use mathlib.Core.Path.{_≡_, refl, sym, ap, ap₂, _∙_}
-use mathlib.Core.Bool.{true, false}
+use mathlib.Core.Path.{sym, ap, ap₂, _∙_}
 use mathlib.Core.List.{List, _++_}
-use Prim.Native.Nat.{ℕ, _/_, _≤_, _<_}
+use Prim.Native.Nat.{ℕ, _≤_, _<_}
 use native.Mathlib.Omega.{arith}
 use borrow.Author.Tests.{lt-ltb, le-ltb}
 use borrow.Author.Needs.{needs}
 use lib.ListN.{length, take, drop}
-use Rattle.rules.specs.Lattice.{pointCount}
-use Rattle.rules.specs.Grid.{isGrid}
-use Rattle.lattice.specs.Levels.{cellsOf, pointsOf}
+use Rattle.lattice.specs.Levels.{cellsOf}
 use Rattle.lattice.proofs.LevelFacts.{cells-most}
-use Rattle.grids.specs.Scans.{unsigned}
 use Rattle.grids.proofs.Unsigning.{read-none, read-some, unsigned-ready}
-use Rattle.totals.specs.Totals.{blockCount, trued}
+use Rattle.totals.specs.Totals.{blockCount}
 use Rattle.meeting.specs.Met.{marked}
 use Rattle.meeting.proofs.Written.{marked-unsigned}
 use Rattle.marking.specs.Mark.{done, markPassed}
@@ -36,10 +32,8 @@ read-held-requires c κs =
     let l = c .before .before .before .before .before .before .args .l in
     let m = blocks-most l in
     rw (c .before .before .before .cells .ensures) (
-      cells-most l,
-      c .before .before .before .before .before .before .pre .1,
-      omega
-          (arith, m, c .before .before .no-totals .ensures),
+      record { small = cells-most l; long = c .before .before .before .before .before .before .pre .1 },
+      omega (arith, m, c .before .before .no-totals .ensures),
     )
 
 enum-known-inside : tie.Need-enum-known-inside
@@ -84,13 +78,12 @@ returns-2 c =
 
 clear-signs-requires : tie.Need-clear-signs-requires
 clear-signs-requires c κs =
-    let e = rw (c .before .before .before .before .before .before .before .before .before .before .before .cells .ensures) at
-    (sym (c .before .before .before .before .before .before .before .read-held .ensures .0) ∙ c .before .before .before .before .inside .given .1) in
-    rw (c .before .before .before .before .before .before .before .before .before .before .before .cells .ensures) (
-      cells-most (c .before .before .before .before .before .before .before .before .before .before .before .before .before .before .args .l),
-      c .before .before .before .before .before .before .before .before .before .before .before .before .before .before .pre .1,
-      e,
-    )
+    let read = c .before .before .before .before .before .before .before in
+    let counted = read .before .before .before .before in
+    let s = counted .before .before .before in
+    let cells = counted .cells .ensures in
+    let e = rw cells at (sym (read .read-held .ensures .0) ∙ c .before .before .before .before .inside .given .1) in
+    rw cells (record { small = cells-most (s .args .l); long = s .pre .1 }, e)
 
 slice-aggregate-store : tie.Need-slice-aggregate-store
 slice-aggregate-store c = search needs
@@ -105,16 +98,16 @@ store-requires c κs =
       c .before .before .before .before .before .before .before .point-count .ensures .0,
       far .before .before .before .before .before .before .cells .ensures,
     ) at (c .before .before .before .before .before .before .if1 .left) in
-    rw (far .before .before .before .before .before .before .cells .ensures) (
-      cells-most l,
-      omega (
+    rw (far .before .before .before .before .before .before .cells .ensures) (record {
+      small = cells-most l;
+      held-long = omega (
         arith,
         m,
         far .before .before .before .before .before .no-totals .ensures,
         far .before .before .read-held .kept .1 .1 .0,
-      ),
-      k,
-    )
+      );
+      table-long = k;
+    })
 
 mark-edges-requires : tie.Need-mark-edges-requires
 mark-edges-requires c κs =
@@ -122,7 +115,7 @@ mark-edges-requires c κs =
     let end = far .before .before .before .before .before .before .before .before .before .before in
     let s = end .before .before .before in
     let u = rw (end .cells .ensures) at (c .before .before .before .before .before .before .before .before .clear-signs .ensures) in
-    (s .pre .0, rw u (unsigned-ready (cellsOf (s .args .l)) (s .args .grid .now) (s .pre .1)))
+    (s .pre .0, rw u (unsigned-ready (s .args .l) (s .args .grid .now) (s .pre .1)))
 
 recount-met-requires : tie.Need-recount-met-requires
 recount-met-requires c κs =
@@ -133,11 +126,11 @@ recount-met-requires c κs =
     let count = far .before .before .before .before .before .before .point-count .ensures .0 in
     let cells = end .before .before .before .before .before .cells .ensures in
     let room = far .before .before .before .before .before .if1 .left in
-    let k : blockCount (cellsOf l) ≤ length (s .args .totals .now) = rw (count, cells) at room in (
-      s .pre .0,
-      omega (arith, s .pre .1, far .before .before .before .clear-signs .kept .1 .0, c .before .before .before .before .mark-edges .kept .1 .0),
-      omega (arith, k, c .before .before .before .before .before .before .before .before .store .kept .1 .1 .0),
-    )
+    let k : blockCount (cellsOf l) ≤ length (s .args .totals .now) = rw (count, cells) at room in record {
+      within = s .pre .0;
+      grid-long = omega (arith, s .pre .1, far .before .before .before .clear-signs .kept .1 .0, c .before .before .before .before .mark-edges .kept .1 .0);
+      table-long = omega (arith, k, c .before .before .before .before .before .before .before .before .store .kept .1 .1 .0);
+    }
 
 same-length-3 : tie.Need-same-length-3
 same-length-3 c = search needs

@@ -62,7 +62,7 @@ returns-2 c =
 is-grid-requires : tie.Need-is-grid-requires
 is-grid-requires c κs =
     let l-told = c .before .before .before .before .l in
-    rw (c .before .before .cells .ensures) (cells-most (l-told .given .0 .0), rw (c .before .points .ensures) at (c .if1 .left))
+    rw (c .before .before .cells .ensures) (record { small = cells-most (l-told .given .0 .0); long = rw (c .before .points .ensures) at (c .if1 .left) })
 
 returns-3 : tie.Need-returns-3
 unfolding masksRows masksCall
@@ -79,7 +79,10 @@ signs-fit-requires c κs =
     let cells = c .before .before .before .before .cells in
     let l-told = c .before .before .before .before .before .before .l in
     let grid = holds (rw (cells .ensures) at (c .before .is-grid .ensures)) (c .if2 .left) in
-    rw (cells .ensures) (cells-most (l-told .given .0 .0), rw (c .before .before .before .points .ensures) at (c .before .before .if1 .left), grid)
+    rw (cells .ensures) (
+      record { small = cells-most (l-told .given .0 .0); long = rw (c .before .before .before .points .ensures) at (c .before .before .if1 .left) },
+      grid,
+    )
 
 returns-4 : tie.Need-returns-4
 unfolding masksRows masksCall
@@ -137,7 +140,11 @@ put-masks-requires c κs =
     let w : cells .result + 1 ≡ suc (cellsOf (l-told .given .0 .0)) = rw (cells .ensures, add-one (cellsOf (l-told .given .0 .0))) in
     let room : (cells .result + 1) * maskSize (cells .result + 1) ≤ length (start .args .out .now) = rw (← c .before .before .mask-size .ensures .0)
     (c .before .if4 .left) in
-    (omega (arith, cells .ensures, cells-most (l-told .given .0 .0)), rw w (rw (points .ensures) at (if1 .left)), room)
+    record {
+      small = omega (arith, cells .ensures, cells-most (l-told .given .0 .0));
+      grid-room = rw w (rw (points .ensures) at (if1 .left));
+      out-room = room;
+    }
 
 same-length : tie.Need-same-length
 same-length c = search needs

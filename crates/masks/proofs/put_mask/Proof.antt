@@ -19,7 +19,7 @@ slice-aggregate-put-fields-2 c = search needs
 put-fields-requires : tie.Need-put-fields-requires
 put-fields-requires c κs =
     let w = c .before .before .before .before .before .args .w in
-    omega (arith, c .before .before .before .before .before .pre .2, fields-length (ascii "P4\n") w (ascii " ") w)
+    omega (arith, c .before .before .before .before .before .pre .part-room, fields-length (ascii "P4\n") w (ascii " ") w)
 
 slice-aggregate-put-text : tie.Need-slice-aggregate-put-text
 slice-aggregate-put-text c = search needs
@@ -29,26 +29,26 @@ put-text-requires c κs =
     let put-fields = c .before .before .before .before .put-fields in
     let start = c .before .before .before .before .before .before .before .before .before .before in
     let w = c .before .before .before .before .before .before .before .before .before .before .args .w in
-    omega (arith, start .pre .2, fields-length (ascii "P4\n") w (ascii " ") w, put-fields .ensures .place, put-fields .kept .0)
+    omega (arith, start .pre .part-room, fields-length (ascii "P4\n") w (ascii " ") w, put-fields .ensures .place, put-fields .kept .0)
 
 put-rows-requires : tie.Need-put-rows-requires
 put-rows-requires c κs =
     let put-text = c .before .before .before .put-text in
     let put-fields = c .before .before .before .before .before .before .before .before .put-fields in
     let start = c .before .before .before .before .before .before .before .before .before .before .before .before .before .before in
-    let w = c .before .before .before .before .before .before .before .before .before .before .before .before .before .before .args .w in (
-      start .pre .0,
-      start .pre .1,
-      omega (
+    let w = c .before .before .before .before .before .before .before .before .before .before .before .before .before .before .args .w in record {
+      small = start .pre .small;
+      grid-room = start .pre .grid-room;
+      out-room = omega (
         arith,
-        start .pre .2,
+        start .pre .part-room,
         fields-length (ascii "P4\n") w (ascii " ") w,
         put-fields .ensures .place,
         put-fields .kept .0,
         put-text .ensures .place,
         put-text .kept .0,
-      ),
-    )
+      );
+    }
 
 same-length : tie.Need-same-length
 same-length c = search needs

@@ -31,7 +31,7 @@ abbrev μ-loop : tie.MeasureT-loop
 μ-loop out₀ grid w layer at₀ p₀ k₀ out at p k = w - k
 
 mul-layer : tie.Need-mul-layer Inv-loop μ-loop
-mul-layer c = omega (arith, square-small (c .before .before .args .w) (c .before .before .pre .0))
+mul-layer c = omega (arith, square-small (c .before .before .args .w) (c .before .before .pre .small))
 
 loop-holds : tie.Need-loop-holds Inv-loop μ-loop
 loop-holds c =
@@ -46,7 +46,7 @@ sub-put-mask c =
       arith,
       piece-room (maskSize w) (c .before .loop .k) w (c .loop-test .taken),
       mul-comm w (maskSize w),
-      start .pre .2,
+      start .pre .out-room,
       c .before .loop .inv .2,
       c .before .loop .inv .3,
     )
@@ -59,7 +59,7 @@ part-put-mask-start c =
       arith,
       piece-room (maskSize w) (c .before .loop .k) w (c .loop-test .taken),
       mul-comm w (maskSize w),
-      start .pre .2,
+      start .pre .out-room,
       c .before .loop .inv .2,
       c .before .loop .inv .3,
     )
@@ -73,11 +73,11 @@ put-mask-requires c κs =
     let w = c .before .before .before .before .before .args .w in
     let m = c .before .before .loop in
     let r = piece-room (maskSize w) (m .k) w (c .before .loop-test .taken) in
-    let q = piece-room (w * w) (m .k) w (c .before .loop-test .taken) in (
-      start .pre .0,
-      omega (arith, q, start .pre .1, m .inv .1),
-      part-room (m .out) (m .at) (maskSize w) (omega (arith, r, mul-comm w (maskSize w), start .pre .2, m .inv .2, m .inv .3)),
-    )
+    let q = piece-room (w * w) (m .k) w (c .before .loop-test .taken) in record {
+      small = start .pre .small;
+      grid-room = omega (arith, q, start .pre .grid-room, m .inv .1);
+      part-room = part-room (m .out) (m .at) (maskSize w) (omega (arith, r, mul-comm w (maskSize w), start .pre .out-room, m .inv .2, m .inv .3));
+    }
 
 add-at : tie.Need-add-at Inv-loop μ-loop
 add-at c =
@@ -90,7 +90,7 @@ add-at c =
       arith,
       piece-room (maskSize w) (m .k) w (loop-test .taken),
       mul-comm w (maskSize w),
-      start .pre .2,
+      start .pre .out-room,
       m .inv .2,
       c .before .before .put-mask .ensures .place,
       mask-length (start .args .grid .now) (m .p) w,
@@ -104,7 +104,7 @@ add-p c =
     let good = c .before .before .before .before .before .before .before .before .good in
     let w = c .before .before .before .before .before .before .before .before .args .w in
     let m = c .before .before .before .before .before .loop in
-    omega (arith, piece-room (w * w) (m .k) w (loop-test .taken), start .pre .1, m .inv .1, good)
+    omega (arith, piece-room (w * w) (m .k) w (loop-test .taken), start .pre .grid-room, m .inv .1, good)
 
 add-k : tie.Need-add-k Inv-loop μ-loop
 add-k c = omega arith
@@ -121,7 +121,7 @@ loop-again c =
     let q = c .before .before .put-mask in
     let w = a .w in
     let r = piece-room (maskSize w) (m .k) w (loop-test .taken) in
-    let fits : m .at ≤ length (m .out) = omega (arith, r, mul-comm w (maskSize w), start .pre .2, m .inv .2, m .inv .3) in
+    let fits : m .at ≤ length (m .out) = omega (arith, r, mul-comm w (maskSize w), start .pre .out-room, m .inv .2, m .inv .3) in
     let size = q .ensures .place ∙ zero-add _ ∙ mask-length (a .grid .now) (m .p) w in (
       omega arith,
       rw (piece-more (w * w) (m .k)) (ap (λ (x : ℕ). x + w * w) (m .inv .1)),

@@ -24,7 +24,7 @@ abbrev μ-loop : tie.MeasureT-loop
 μ-loop out₀ at grid from w end b₀ out b = end - b
 
 add-end : tie.Need-add-end Inv-loop μ-loop
-add-end c = omega (arith, c .before .before .pre .0)
+add-end c = omega (arith, c .before .before .pre .small)
 
 loop-holds : tie.Need-loop-holds Inv-loop μ-loop
 loop-holds c =
@@ -34,19 +34,19 @@ loop-holds c =
 packed-requires : tie.Need-packed-requires Inv-loop μ-loop
 packed-requires c κs =
     let s = c .before .before .before .before in
-    (s .pre .1, omega (arith, s .pre .0, c .before .loop .inv .0, c .loop-test .taken))
+    (s .pre .grid-room, omega (arith, s .pre .small, c .before .loop .inv .0, c .loop-test .taken))
 
 add-out : tie.Need-add-out Inv-loop μ-loop
 add-out c =
     let start = c .before .before .before .before .before in
     let good = c .before .before .before .before .before .good in
-    omega (arith, start .pre .2, c .before .before .loop .inv .0, c .before .loop-test .taken, good)
+    omega (arith, start .pre .out-room, c .before .before .loop .inv .0, c .before .loop-test .taken, good)
 
 slice-write-out : tie.Need-slice-write-out Inv-loop μ-loop
 slice-write-out c =
     let loop-told = c .before .before .loop in
     let start = c .before .before .before .before .before in
-    omega (arith, start .pre .2, loop-told .inv .0, loop-told .inv .2, c .before .loop-test .taken)
+    omega (arith, start .pre .out-room, loop-told .inv .0, loop-told .inv .2, c .before .loop-test .taken)
 
 add-b : tie.Need-add-b Inv-loop μ-loop
 add-b c = omega (arith, c .before .loop-test .taken)
@@ -60,7 +60,7 @@ loop-again c =
     let s = c .before .before .before .before .before in
     let a = s .args in
     let v = c .packed .result in
-    let h : a .at + m .b < length (m .out) = omega (arith, s .pre .2, m .inv .0, m .inv .2, c .before .loop-test .taken) in
+    let h : a .at + m .b < length (m .out) = omega (arith, s .pre .out-room, m .inv .0, m .inv .2, c .before .loop-test .taken) in
     let p = put-both (m .inv .3) (put-byte (m .out) (a .at + m .b) v h) in (
       m .inv .0,
       omega (arith, c .before .loop-test .taken),
@@ -72,7 +72,7 @@ add-result : tie.Need-add-result Inv-loop μ-loop
 add-result c =
     let start = c .before .before .before .before in
     let good = c .before .before .before .before .good in
-    omega (arith, start .pre .2, c .before .loop .inv .0, c .before .loop .inv .1, good)
+    omega (arith, start .pre .out-room, c .before .loop .inv .0, c .before .loop .inv .1, good)
 
 same-length : tie.Need-same-length Inv-loop μ-loop
 same-length c = c .before .loop .inv .2

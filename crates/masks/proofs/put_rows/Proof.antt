@@ -35,13 +35,17 @@ put-row-requires c κs =
     let m = c .before .before .loop in
     let p = piece-room w (m .j) w (c .before .loop-test .taken) in
     let r = piece-room (rowBytes w) (m .j) w (c .before .loop-test .taken) in
-    (s .pre .0, omega (arith, p, s .pre .1, m .inv .1), omega (arith, r, mul-comm w (rowBytes w), s .pre .2, m .inv .2, m .inv .3))
+    record {
+      small = s .pre .small;
+      grid-room = omega (arith, p, s .pre .grid-room, m .inv .1);
+      out-room = omega (arith, r, mul-comm w (rowBytes w), s .pre .out-room, m .inv .2, m .inv .3);
+    }
 
 add-p : tie.Need-add-p Inv-loop μ-loop
 add-p c =
     let s = c .before .before .before .before .before .before .before .before in
     let m = c .before .before .before .before .before .loop in
-    omega (arith, piece-room (s .args .w) (m .j) (s .args .w) (c .before .before .before .before .loop-test .taken), s .pre .1, m .inv .1, s .good)
+    omega (arith, piece-room (s .args .w) (m .j) (s .args .w) (c .before .before .before .before .loop-test .taken), s .pre .grid-room, m .inv .1, s .good)
 
 add-j : tie.Need-add-j Inv-loop μ-loop
 add-j c = omega arith

@@ -1,6 +1,6 @@
 -- `cells_along` divides two lattice coordinates by the side: an edge can be touched from the cell before the span's first plane on. Assumes nothing.
 use mathlib.Core.Path.{sym, _∙_}
-use Prim.Native.Nat.{zero-le, _≤_}
+use Prim.Native.Nat.{zero-le}
 use native.Mathlib.Nat.{div-le-self}
 use native.Mathlib.Omega.{arith}
 use borrow.Author.Needs.{needs}
@@ -18,18 +18,18 @@ side-requires c κs = search needs
 plain-requires : tie.Need-plain-requires
 plain-requires c κs =
     let e : Plain w64 (c .before .before .args .x .low) = search needs in
-    rw e (≤ℤ-trans (pos-le zero-le) (c .before .before .pre .0 .low))
+    rw e (≤ℤ-trans (pos-le zero-le) (c .before .before .pre .low-within .low))
 
 plain-requires-2 : tie.Need-plain-requires-2
 plain-requires-2 c κs =
     let e : Plain w64 (c .before .before .before .before .args .x .high) = search needs in
-    rw e (≤ℤ-trans (pos-le zero-le) (c .before .before .before .before .pre .1 .low))
+    rw e (≤ℤ-trans (pos-le zero-le) (c .before .before .before .before .pre .high-within .low))
 
 sub-t6 : tie.Need-sub-t6
 sub-t6 c =
     let s = c .before .before .before .before .before in
     let e : Plain w64 (s .args .x .low) = search needs in
-    let h = plain-within (s .args .l) _ _ (sym e ∙ c .before .before .plain .ensures) (s .pre .0) .0 in
+    let h = plain-within (s .args .l) _ _ (sym e ∙ c .before .before .plain .ensures) (s .pre .low-within) .0 in
     omega arith
 
 div-t7 : tie.Need-div-t7
@@ -42,7 +42,7 @@ add-t9 : tie.Need-add-t9
 add-t9 c =
     let s = c .before .before .before .before .before in
     let f : Plain w64 (s .args .x .high) = search needs in
-    let h = plain-within (s .args .l) _ _ (sym f ∙ c .plain2 .ensures) (s .pre .1) .2 in
+    let h = plain-within (s .args .l) _ _ (sym f ∙ c .plain2 .ensures) (s .pre .high-within) .2 in
     omega (arith, h, div-le-self (c .plain2 .result) (c .before .before .before .before .side .result))
 
 returns : tie.Need-returns
@@ -52,7 +52,8 @@ returns c =
     let f : Plain w64 (s .args .x .high) = search needs in
     let p = s .pre in
     rw (c .before .before .before .before .side .ensures)
-    (touches (s .args .l) (s .args .x) _ _ (sym e ∙ c .before .before .plain .ensures) (sym f ∙ c .plain2 .ensures) (p .0) (p .1) (p .2))
+    (touches (s .args .l) (s .args .x) _ _ (sym e ∙ c .before .before .plain .ensures) (sym f ∙ c .plain2 .ensures) (p .low-within) (p .high-within)
+    (p .ordered))
 
 pub cells-along-spec : {M : Type 1} → statement M
 cells-along-spec =

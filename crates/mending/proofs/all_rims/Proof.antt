@@ -21,14 +21,23 @@ point-count-requires c κs = search needs
 loop-holds : tie.Need-loop-holds Inv-loop μ-loop
 loop-holds c =
     let start = c .before .before .before in
-    (c .point-count .ensures .0, record { at-most = omega arith; few = omega arith; fine = start .pre .3; g-long = refl; w-long = refl; now = λ E i B. B })
+    (c .point-count .ensures .0, record { at-most = omega arith; few = omega arith; fine = start .pre .1; g-long = refl; w-long = refl; now = λ E i B. B })
 
 rim-at-requires : tie.Need-rim-at-requires Inv-loop μ-loop
 rim-at-requires c κs =
     let start = c .before .before .before .before .before .before .before in
     let i = c .before .before .before .loop .inv in
     let l = rw (i .0) at (c .before .before .loop-test .taken) in
-    (start .pre .0, rw (i .1 .g-long) (start .pre .1), rw (i .1 .w-long) (start .pre .2), omega (arith, l), i .1 .fine)
+    record {
+      sized = record {
+        small = start .pre .0 .small;
+        grid-long = rw (i .1 .g-long) (start .pre .0 .grid-long);
+        work-long = rw (i .1 .w-long)
+            (start .pre .0 .work-long);
+      };
+      below = omega (arith, l);
+      fine = i .1 .fine;
+    }
 
 add-found : tie.Need-add-found Inv-loop μ-loop
 add-found c =

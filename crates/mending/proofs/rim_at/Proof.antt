@@ -4,6 +4,7 @@ use mathlib.Core.Bool.{false}
 use native.Mathlib.Omega.{arith}
 use lib.ListN.{getD}
 use Rattle.lattice.specs.Byte.{noneOdd, seen}
+use Rattle.lattice.proofs.Buffers.{work-sized}
 use Rattle.mending.proofs.Point.{fit-of, at-none, at-cell, at-seen, at-unseen, at-rim}
 use borrow.Author.Needs.{needs}
 use Rattle.mending.proofs.rim_at.Statement.{statement}
@@ -19,8 +20,12 @@ returns : tie.Need-returns
 returns c =
     let none-odd = c .before .none-odd in
     let start = c .before .before .before .before .before in
-    let given = start .args in
-    (omega arith, at-none (given .n) (given .grid .now) (given .work .now) (given .p) (start .pre .3) (sym (none-odd .ensures) ∙ c .if1 .taken), start .pre .4)
+    let given = start .args in (
+      omega arith,
+      at-none (given .n) (given .grid .now) (given .work .now) (given .p) (start .pre .below)
+          (sym (none-odd .ensures) ∙ c .if1 .taken),
+      start .pre .fine,
+    )
 
 is-seen-requires : tie.Need-is-seen-requires
 is-seen-requires c κs = search needs
@@ -42,8 +47,8 @@ returns-2 c =
     let given = start .args in
     let e = sym (is-seen .ensures) ∙ c .if2 .taken in (
       omega arith,
-      at-seen (given .n) (given .grid .now) (given .work .now) (given .p) (start .pre .3) (start .pre .4) (some-odd (c .before .before)) e,
-      start .pre .4,
+      at-seen (given .n) (given .grid .now) (given .work .now) (given .p) (start .pre .below) (start .pre .fine) (some-odd (c .before .before)) e,
+      start .pre .fine,
     )
 
 point-of-requires : tie.Need-point-of-requires
@@ -53,16 +58,23 @@ find-rim-requires : tie.Need-find-rim-requires
 find-rim-requires c κs =
     let start = c .before .before .before .before .before .before .before .before .before in
     let given = start .args in
-    let cell = at-cell (given .n) (given .grid .now) (given .work .now) (given .p) (start .pre .3) (start .pre .4)
+    let cell = at-cell (given .n) (given .grid .now) (given .work .now) (given .p) (start .pre .below) (start .pre .fine)
     (some-odd (c .before .before .before .before)) in
-    let not-seen = at-unseen (given .n) (given .grid .now) (given .work .now) (given .p) (start .pre .3) (unseen (c .before .before)) in
-    rw (c .point-of .ensures) (start .pre .0, start .pre .2, cell, start .pre .4, not-seen)
+    let not-seen = at-unseen (given .n) (given .grid .now) (given .work .now) (given .p) (start .pre .below) (unseen (c .before .before)) in
+    rw (c .point-of .ensures) (record {
+      sized = work-sized (start .pre .sized);
+      cell = cell;
+      fine = start .pre .fine;
+      unseen = not-seen;
+    })
 
 patch-box-requires : tie.Need-patch-box-requires
 patch-box-requires c κs =
     let start = c .before .before .before .before .before .before .before .before .before .before .before .before .before .before in
-    let f = c .before .before .before .before .find-rim in
-    ((start .pre .0, start .pre .1, rw (f .kept .1 .0) (start .pre .2)), fit-of _ _ _ _ _ _ (f .ensures))
+    let f = c .before .before .before .before .find-rim in (
+      record { small = start .pre .sized .small; grid-long = start .pre .sized .grid-long; work-long = rw (f .kept .1 .0) (start .pre .sized .work-long) },
+      fit-of _ _ _ _ _ _ (f .ensures),
+    )
 
 same-length : tie.Need-same-length
 same-length c = search needs
@@ -78,7 +90,8 @@ returns-3 c =
     let entry = c .before .before .before .before .before .before .before .before .before .before in
     let start = entry .before .before .before .before .before .before .before .before .before in
     let given = start .args in
-    let r = at-rim (given .n) (given .grid .now) (given .work .now) (given .p) (start .pre .3) (start .pre .1) (start .pre .2) (start .pre .4)
+    let r = at-rim (given .n) (given .grid .now) (given .work .now) (given .p) (start .pre .below) (start .pre .sized .grid-long)
+    (start .pre .sized .work-long) (start .pre .fine)
     (some-odd (c .before .before .before .before .before .before .before .before .before .before .before .before .before .before))
     (unseen (c .before .before .before .before .before .before .before .before .before .before .before .before)) _ (point-of .ensures) _ _
     (find-rim .ensures) _ _ (patch-box .ensures) in

@@ -1,12 +1,11 @@
 -- `move_back` meets its contract: so many triangles are moved after so many turns. Assumes nothing.
-use borrow.Author.Needs.{needs}
 use mathlib.Core.Path.{_≡_, refl, sym, ap, subst, _∙_}
 use mathlib.Core.List.{List}
-use Prim.Native.Nat.{ℕ, suc, _+_, _-_, _*_, _≤_, _<_}
+use Prim.Native.Nat.{ℕ, _+_, _-_, _*_, _≤_}
 use native.Mathlib.Nat.{le-antisymm}
 use native.Mathlib.Omega.{arith}
 use lib.ListN.{length, getD}
-use Rattle.octets.specs.Octets.{wordAt, puts}
+use Rattle.octets.specs.Octets.{puts}
 use Rattle.rounding.specs.Scales.{exponentOf}
 use Rattle.stl_reading.specs.File.{verticesAt}
 use Rattle.moving.specs.Back.{Centred}
@@ -44,12 +43,14 @@ move-vertices-requires c κs =
     let p = s .pre in
     let e = exponentOf (s .args .s) in
     let l = s .args .file .now in
-    let t = c .before .before .loop .t in (
-      (omega arith, p .1, p .2),
-      λ k h. subst (Centred e)
+    let t = c .before .before .loop .t in record {
+      file-room = omega arith;
+      scale = p .scale;
+      near = p .near;
+      centred = λ k h. subst (Centred e)
           (sym (kept-word (c .before .before .loop .file) l (84 + 50 * t) (verticesAt t + 4 * k) (kept-now (c .before .before) (omega arith))
-          (omega arith))) (p .3 t k (omega arith) h),
-    )
+          (omega arith))) (p .written t k (omega arith) h);
+    }
 
 add-t : tie.Need-add-t Inv-loop μ-loop
 add-t c = omega arith

@@ -5,7 +5,6 @@ use native.Mathlib.Omega.{arith}
 use Prim.Native.Nat.{_+_}
 use lib.Dec.{lit<}
 use lib.IntN.{ℤ}
-use lib.ListN.{length}
 use mir.Syntax.{w32}
 use mir.Val.{toZ, ofZ}
 use Rattle.octets.specs.Octets.{wordAt, word, puts}
@@ -32,13 +31,12 @@ on-z c = search needs
 move-word-requires : tie.Need-move-word-requires
 move-word-requires c κs =
     let s = c .before .before .before in
-    let p = s .pre in (
-      omega (arith, p .0 .0),
-      p .0 .1,
-      rw (on-x c) (p .0 .2 .on-x),
-      centred-first (exponentOf (s .args .s)) (s .args .file .now) (s .args .at) 3 (p .1)
-          (lit< tt),
-    )
+    let p = s .pre in record {
+      file-room = omega (arith, p .file-room);
+      scale = p .scale;
+      near = rw (on-x c) (p .near .on-x);
+      centred = centred-first (exponentOf (s .args .s)) (s .args .file .now) (s .args .at) 3 (p .centred) (lit< tt);
+    }
 
 add-move-word : tie.Need-add-move-word
 add-move-word c = search needs
@@ -47,13 +45,13 @@ move-word-requires-2 : tie.Need-move-word-requires-2
 move-word-requires-2 c κs =
     let s = c .before .before .before .before .before .before .before .before in
     let p = s .pre in
-    let w = c .before .before .before .before .move-word in (
-      omega (arith, p .0 .0, w .kept .0),
-      p .0 .1,
-      rw (on-y c) (p .0 .2 .on-y),
-      centred-next (exponentOf (s .args .s)) (s .args .file .now) (s .args .at) 3 (p .1) (w .last .0) 1
-          (kept-put (s .args .file .now) (w .last .0) _ (s .args .at) 4 (w .ensures) (word-length _)) (lit< tt),
-    )
+    let w = c .before .before .before .before .move-word in record {
+      file-room = omega (arith, p .file-room, w .kept .0);
+      scale = p .scale;
+      near = rw (on-y c) (p .near .on-y);
+      centred = centred-next (exponentOf (s .args .s)) (s .args .file .now) (s .args .at) 3 (p .centred) (w .last .0) 1
+          (kept-put (s .args .file .now) (w .last .0) _ (s .args .at) 4 (w .ensures) (word-length _)) (lit< tt);
+    }
 
 add-move-word-2 : tie.Need-add-move-word-2
 add-move-word-2 c = search needs
@@ -65,15 +63,15 @@ move-word-requires-3 c κs =
     let s = c12 .before in
     let p = s .pre in
     let w = c6 .before .before .before .move-word in
-    let u = c .before .before .before .before .move-word2 in (
-      omega (arith, p .0 .0, w .kept .0, u .kept .0),
-      p .0 .1,
-      rw (on-z c) (p .0 .2 .on-z),
-      centred-next (exponentOf (s .args .s)) (s .args .file .now) (s .args .at) 3 (p .1) (u .last .0) 2
+    let u = c .before .before .before .before .move-word2 in record {
+      file-room = omega (arith, p .file-room, w .kept .0, u .kept .0);
+      scale = p .scale;
+      near = rw (on-z c) (p .near .on-z);
+      centred = centred-next (exponentOf (s .args .s)) (s .args .file .now) (s .args .at) 3 (p .centred) (u .last .0) 2
           (kept-two (s .args .file .now) (w .last .0) (u .last .0) _ _ (s .args .at) 4 (s .args .at + 4) 4 (s .args .at + 8) (w .ensures)
           (word-length _) (u .ensures) (word-length _)
-          (omega arith) (omega arith)) (lit< tt),
-    )
+          (omega arith) (omega arith)) (lit< tt);
+    }
 
 same-length : tie.Need-same-length
 same-length c = search needs

@@ -42,10 +42,14 @@ make-job-requires c κs =
     let c6 = c5 .before in
     let c11 = c6 .before .before .before .before .before in
     let c16 = c11 .before .before .before .before .before in
-    let n = ap length (c5 .empty-list .ensures ∙ list-lent) ∙ list-long in (
-      (c16 .pre .0, c11 .feed-all .ensures .ready, c6 .empty-grid2 .ensures ∙ bytes-lent),
-      (omega (arith, n), c16 .pre .1, omega (arith, n, c16 .pre .2)),
-    )
+    let n = ap length (c5 .empty-list .ensures ∙ list-lent) ∙ list-long in record {
+      level-is = c16 .pre .level-is;
+      ready = c11 .feed-all .ensures .ready;
+      work-lent = c6 .empty-grid2 .ensures ∙ bytes-lent;
+      list-fits = omega (arith, n);
+      front-room = c16 .pre .front-room;
+      back-room = omega (arith, n, c16 .pre .back-room);
+    }
 
 enum-known-number : tie.Need-enum-known-number
 enum-known-number c = search needs

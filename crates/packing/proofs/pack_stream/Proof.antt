@@ -68,7 +68,11 @@ pack-at-requires c κs =
     let c3 = c .before .before .before in
     let c5 = c3 .before .before in
     let c13 = c5 .before .before .before .before .before .before .before .before in
-    (read-number _ _ (sym (c5 .read .ensures) ∙ c3 .l .given .1), c13 .pre .0, c13 .pre .1)
+    record {
+      level-is = read-number _ _ (sym (c5 .read .ensures) ∙ c3 .l .given .1);
+      front-room = c13 .pre .0;
+      back-room = c13 .pre .1;
+    }
 
 same-length-3 : tie.Need-same-length-3
 same-length-3 c = search needs

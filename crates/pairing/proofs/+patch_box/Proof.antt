@@ -13,6 +13,7 @@ use Rattle.halving.proofs.halves.longest_axis.Reads as longest-axis-reads
 use Rattle.halving.proofs.halves.lower_half.Reads as lower-half-reads
 use Rattle.halving.proofs.halves.middle_of.Reads as middle-of-reads
 use Rattle.halving.proofs.halves.upper_half.Reads as upper-half-reads
+use Rattle.lattice.proofs.Buffers.{both-kept, work-sized}
 use Rattle.halving.specs.Halving.{cellCount}
 use Rattle.halving.proofs.Boxes.{one-is, mid-low, mid-high, low-ok, up-ok, halves-turn}
 use Rattle.halving.proofs.Clear.{clear-is}
@@ -59,7 +60,7 @@ patch-box-returns t c = one-is _ _ _ _ (sym (c .before .is-one-cell .ensures) �
 patch-box-is-clear-requires : (t : ℕ) → patch-box-lts.Need-is-clear-requires (claims t) (patch-box-at t) patch-box.Post
 patch-box-is-clear-requires t c κs =
     let s = c .before .before .before .before .before in
-    (s .pre .1 .0 .0, s .pre .1 .0 .2, s .pre .1 .1)
+    (work-sized (s .pre .1 .0), s .pre .1 .1)
 
 patch-box-same-length : (t : ℕ) → patch-box-lts.Need-same-length (claims t) (patch-box-at t) patch-box.Post
 patch-box-same-length t c = refl
@@ -71,7 +72,7 @@ patch-box-longest-axis-requires : (t : ℕ) → patch-box-lts.Need-longest-axis-
 patch-box-longest-axis-requires t c κs = c .before .before .before .before .before .before .before .pre .1 .1
 
 patch-box-middle-of-requires : (t : ℕ) → patch-box-lts.Need-middle-of-requires (claims t) (patch-box-at t) patch-box.Post
-patch-box-middle-of-requires t c κs = let s = c .before .before .before .before .before .before .before .before in (s .pre .1 .0 .0, s .pre .1 .1)
+patch-box-middle-of-requires t c κs = let s = c .before .before .before .before .before .before .before .before in (s .pre .1 .0 .small, s .pre .1 .1)
 
 patch-box-cut-plane-requires : (t : ℕ) → patch-box-lts.Need-cut-plane-requires (claims t) (patch-box-at t) patch-box.Post
 patch-box-cut-plane-requires t c κs =
@@ -81,7 +82,8 @@ patch-box-cut-plane-requires t c κs =
     let o = sym (is-one-cell .ensures) ∙ if1 .left in
     let a = c .before .before .before .longest-axis .ensures in
     let m = c .before .before .middle-of .ensures in
-    (s .pre .1 .0, s .pre .1 .1, mid-low _ _ (s .pre .1 .1) o _ _ a m, mid-high _ _ (s .pre .1 .1) o _ _ a m)
+    let fits = s .pre .1 .1 in
+    record { sized = s .pre .1 .0; fits = fits; lo-below = mid-low _ _ fits o _ _ a m; hi-above = mid-high _ _ fits o _ _ a m }
 
 patch-box-lower-half-requires : (t : ℕ) → patch-box-lts.Need-lower-half-requires (claims t) (patch-box-at t) patch-box.Post
 patch-box-lower-half-requires t c κs = tt
@@ -97,7 +99,7 @@ patch-box-patch-box-requires t c κs =
     let o = sym (is-one-cell .ensures) ∙ if1 .left in
     let k = plane .cut-plane .kept in
     let h = low-ok _ _ (s .pre .1 .1) o _ _ (longest-axis .ensures) (middle-of .ensures) t _ (s .pre .0) (c .lower-half .ensures) in
-    (h .0, ((s .pre .1 .0 .0, rw (k .1 .0) (s .pre .1 .0 .1), rw (k .1 .1 .0) (s .pre .1 .0 .2)), h .1))
+    (h .0, (both-kept (k .1 .0) (k .1 .1 .0) (s .pre .1 .0), h .1))
 
 patch-box-upper-half-requires : (t : ℕ) → patch-box-lts.Need-upper-half-requires (claims t) (patch-box-at t) patch-box.Post
 patch-box-upper-half-requires t c κs = tt
@@ -115,7 +117,7 @@ patch-box-patch-box-requires-2 t c κs =
     let k = plane .cut-plane .kept in
     let j = lower .patch-box .kept in
     let h = up-ok _ _ (s .pre .1 .1) o _ _ (longest-axis .ensures) (middle-of .ensures) t _ (s .pre .0) (c .upper-half .ensures) in
-    (h .0, ((s .pre .1 .0 .0, rw (j .1 .0, k .1 .0) (s .pre .1 .0 .1), rw (j .1 .1 .0, k .1 .1 .0) (s .pre .1 .0 .2)), h .1))
+    (h .0, (both-kept (j .1 .0 ∙ k .1 .0) (j .1 .1 .0 ∙ k .1 .1 .0) (s .pre .1 .0), h .1))
 
 patch-box-same-length-2 : (t : ℕ) → patch-box-lts.Need-same-length-2 (claims t) (patch-box-at t) patch-box.Post
 patch-box-same-length-2 t c =
@@ -146,7 +148,7 @@ patch-box-returns-3 t c =
     let l = lower .patch-box in
     let u = upper .patch-box2 in
     halves-turn _ _ (s .pre .1 .1) o _ _ (longest-axis .ensures) (middle-of .ensures) (s .args .work .now) (s .args .grid .now)
-    (k .last .1 .1 .0) (k .last .1 .0) (l .last .1 .1 .0) (l .last .1 .0) _ _ _ _ (s .pre .1 .0 .2) (lower .before .lower-half .ensures)
+    (k .last .1 .1 .0) (k .last .1 .0) (l .last .1 .1 .0) (l .last .1 .0) _ _ _ _ (s .pre .1 .0 .work-long) (lower .before .lower-half .ensures)
     (upper .before .upper-half .ensures) (k .ensures) (l .ensures) (u .ensures)
 
 pub +patch-box-spec : {M : Type 1} → statement M

@@ -7,6 +7,7 @@ use Prim.Native.Nat.{_-_, _≤_}
 use native.Mathlib.Omega.{arith}
 use Rattle.rules.specs.Lattice.{coord}
 use Rattle.rules.specs.declared.Axis.{Axis}
+use Rattle.lattice.proofs.Buffers.{both-kept}
 use Rattle.halving.specs.Halving.{scanOf}
 use Rattle.halving.proofs.Scans.{fits-coord}
 use Rattle.halving.proofs.Rows.{Planing, planing-on, planing-end}
@@ -38,7 +39,7 @@ coordinate-requires-4 c κs = tt
 loop-holds : tie.Need-loop-holds Inv-loop μ-loop
 loop-holds c =
     let start = c .before .before .before .before .before .before .before .before .before .before in
-    record { scan = refl; unpaired = let f = start .pre .1 in omega arith; g-long = refl; w-long = refl }
+    record { scan = refl; unpaired = let f = start .pre .fits in omega arith; g-long = refl; w-long = refl }
 
 pair-row-requires : tie.Need-pair-row-requires Inv-loop μ-loop
 pair-row-requires c κs =
@@ -48,16 +49,16 @@ pair-row-requires c κs =
     let later = c .before .before .before .before .before .before .before .before .later in
     let earlier = c .before .before .before .before .before .before .before .before .before .earlier in
     let start = c .before .before .before .before .before .before .before .before .before .before .before .before .before .before in
-    let f = start .pre .1 in
+    let f = start .pre .fits in
     let x = fits-coord (start .args .n) (start .args .b) (start .args .a) f in
-    let e : coordinate3 .result ≤ start .args .n = rw (coordinate3 .ensures) (fits-coord (start .args .n) (start .args .b) (later .result) f) in (
-      rw (loop-told .inv .g-long, loop-told .inv .w-long) (start .pre .0),
-      omega (arith, start .pre .2),
-      omega (arith, start .pre .3),
-      rw (coordinate2 .ensures) (fits-coord (start .args .n) (start .args .b) (earlier .result) f),
-      omega (arith, c .before .before .loop-test .taken),
-      loop-told .inv .unpaired,
-    )
+    let e : coordinate3 .result ≤ start .args .n = rw (coordinate3 .ensures) (fits-coord (start .args .n) (start .args .b) (later .result) f) in record {
+      sized = both-kept (loop-told .inv .g-long) (loop-told .inv .w-long) (start .pre .sized);
+      plane-some = omega (arith, start .pre .lo-below);
+      plane-most = omega (arith, start .pre .hi-above);
+      to-most = rw (coordinate2 .ensures) (fits-coord (start .args .n) (start .args .b) (earlier .result) f);
+      row = omega (arith, c .before .before .loop-test .taken);
+      unpaired = loop-told .inv .unpaired;
+    }
 
 add-v : tie.Need-add-v Inv-loop μ-loop
 add-v c =
@@ -65,9 +66,9 @@ add-v c =
     let coordinate3 = c .before .before .before .before .before .before .before .before .before .before .coordinate3 in
     let later = c .before .before .before .before .before .before .before .before .before .before .before .before .before in
     let start = later .before .before .before .before .before .before in
-    let f = start .pre .1 in
+    let f = start .pre .fits in
     let e : coordinate3 .result ≤ start .args .n = rw (coordinate3 .ensures) (fits-coord (start .args .n) (start .args .b) (later .later .result) f) in
-    omega (arith, loop-test .taken, start .pre .0 .0)
+    omega (arith, loop-test .taken, start .pre .sized .small)
 
 loop-less : tie.Need-loop-less Inv-loop μ-loop
 loop-less c = omega (arith, c .before .before .before .before .before .before .before .loop-test .taken)
@@ -92,7 +93,8 @@ returns c =
     let later = c .before .before .before .before .before .before .later in
     let earlier = c .before .before .before .before .before .before .before .earlier in
     let start = c .before .before .before .before .before .before .before .before .before .before .before .before in
-    planing-end _ _ _ _ (start .pre .1) (start .pre .2) (start .pre .3) _ _ (start .pre .0 .2) _ _ _ _ _ _ _ _ _ (c .before .loop .inv)
+    planing-end _ _ _ _ (start .pre .fits) (start .pre .lo-below) (start .pre .hi-above) _ _ (start .pre .sized .work-long) _ _ _ _ _ _ _ _ _
+    (c .before .loop .inv)
     (c .loop-test .left) (coordinate .ensures ∙ ap (λ (x : Axis). coord x (start .args .b .lo)) (earlier .ensures))
     (coordinate2 .ensures ∙ ap (λ (x : Axis). coord x (start .args .b .hi)) (earlier .ensures))
     (c .before .before .before .coordinate3 .ensures ∙ ap (λ (x : Axis). coord x (start .args .b .hi)) (later .ensures))

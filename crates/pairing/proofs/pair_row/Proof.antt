@@ -5,6 +5,7 @@ use Rattle.pairing.proofs.pair_row.Statement.{statement}
 use mathlib.Core.Path.{refl}
 use Prim.Native.Nat.{_-_}
 use native.Mathlib.Omega.{arith}
+use Rattle.lattice.proofs.Buffers.{both-kept}
 use Rattle.halving.specs.Halving.{scanOf}
 use Rattle.halving.proofs.Rows.{Rowing, rowing-on, rowing-end}
 
@@ -15,24 +16,24 @@ abbrev μ-loop : tie.MeasureT-loop
 μ-loop n grid₀ work₀ a m from to v h₀ u₀ grid work h u = to - u
 
 loop-holds : tie.Need-loop-holds Inv-loop μ-loop
-loop-holds c = record { scan = refl; unpaired = c .before .before .pre .5; g-long = refl; w-long = refl }
+loop-holds c = record { scan = refl; unpaired = c .before .before .pre .unpaired; g-long = refl; w-long = refl }
 
 pair-spot-requires : tie.Need-pair-spot-requires Inv-loop μ-loop
 pair-spot-requires c κs =
     let loop-told = c .before .before .before .loop in
-    let start = c .before .before .before .before .before .before in (
-      rw (loop-told .inv .g-long, loop-told .inv .w-long) (start .pre .0),
-      start .pre .1,
-      start .pre .2,
-      omega (arith, c .before .before .loop-test .taken, start .pre .3, start .pre .4),
-      loop-told .inv .unpaired,
-    )
+    let start = c .before .before .before .before .before .before in record {
+      sized = both-kept (loop-told .inv .g-long) (loop-told .inv .w-long) (start .pre .sized);
+      plane-some = start .pre .plane-some;
+      plane-most = start .pre .plane-most;
+      q-placed = omega (arith, c .before .before .loop-test .taken, start .pre .to-most, start .pre .row);
+      unpaired = loop-told .inv .unpaired;
+    }
 
 add-u : tie.Need-add-u Inv-loop μ-loop
 add-u c =
     let loop-test = c .before .before .before .before .before .before .before .loop-test in
     let start = c .before .before .before .before .before .before .before .before .before .before .before in
-    omega (arith, loop-test .taken, start .pre .3, start .pre .0 .0)
+    omega (arith, loop-test .taken, start .pre .to-most, start .pre .sized .small)
 
 loop-less : tie.Need-loop-less Inv-loop μ-loop
 loop-less c = omega (arith, c .before .before .before .before .before .before .before .loop-test .taken)

@@ -4,6 +4,7 @@ use borrow.Author.Needs.{needs}
 use Rattle.pairing.proofs.pair_spot.Statement.{statement}
 use mathlib.Core.Path.{refl}
 use borrow.Author.Tests.{not-true, not-false}
+use Rattle.lattice.proofs.Buffers.{work-sized}
 use Rattle.halving.proofs.Scans.{pass-is, wait-is, meet-is, place-low}
 
 point-at-requires : tie.Need-point-at-requires
@@ -12,10 +13,9 @@ point-at-requires c κs = search needs
 member-requires : tie.Need-member-requires
 member-requires c κs =
     let start = c .before .before .before .before in (
-      start .pre .0 .0,
-      start .pre .0 .2,
-      place-low (start .args .n) (start .args .a) (start .args .m) (start .args .q) (start .args .h)
-          (start .args .grid .now) (start .args .work .now) _ _ (c .before .point-at .ensures) refl (start .pre .2) (start .pre .3),
+      work-sized (start .pre .sized),
+      place-low (start .args .n) (start .args .a) (start .args .m) (start .args .q) (start .args .h) (start .args .grid .now)
+          (start .args .work .now) _ _ (c .before .point-at .ensures) refl (start .pre .plane-most) (start .pre .q-placed),
     )
 
 same-length : tie.Need-same-length
@@ -24,7 +24,7 @@ same-length c = search needs
 returns : tie.Need-returns
 returns c =
     let start = c .before .before .before .before .before .before in
-    (pass-is _ _ _ _ _ _ _ _ _ (c .before .before .before .point-at .ensures) (c .before .member .ensures) (not-true _ (c .if1 .taken)), start .pre .4)
+    (pass-is _ _ _ _ _ _ _ _ _ (c .before .before .before .point-at .ensures) (c .before .member .ensures) (not-true _ (c .if1 .taken)), start .pre .unpaired)
 
 join-requires : tie.Need-join-requires
 join-requires c κs = search needs
@@ -44,7 +44,7 @@ returns-2 c =
     let point-at = c .before .before .before .before .before .before .before .before .before .before .before .before .point-at in
     let start = c .before .before .before .before .before .before .before .before .before .before .before .before .before .before .before in (
       meet-is _ _ _ _ _ _ _ _ _ (point-at .ensures) (member .ensures) (not-false _ (if1 .left)) (if2 .taken) _ _ (join .ensures),
-      start .pre .3,
+      start .pre .q-placed,
     )
 
 same-length-4 : tie.Need-same-length-4
@@ -53,8 +53,11 @@ same-length-4 c = search needs
 returns-3 : tie.Need-returns-3
 returns-3 c =
     let point-at = c .before .before .before .before .point-at in
-    let start = c .before .before .before .before .before .before .before in
-    (wait-is _ _ _ _ _ _ _ _ _ (point-at .ensures) (c .before .before .member .ensures) (not-false _ (c .before .if1 .left)) (c .if2 .left), start .pre .3)
+    let start = c .before .before .before .before .before .before .before in (
+      wait-is _ _ _ _ _ _ _ _ _ (point-at .ensures) (c .before .before .member .ensures) (not-false _ (c .before .if1 .left))
+          (c .if2 .left),
+      start .pre .q-placed,
+    )
 
 pub pair-spot-spec : {M : Type 1} → statement M
 pair-spot-spec =

@@ -8,7 +8,7 @@ lseek-requires : tie.Need-lseek-requires
 lseek-requires c κs = search needs
 
 returns : tie.Need-returns
-returns c = came-nothing _ _ _ _ _ (c .before .before .before .pre .2) (c .before .before .before .pre .1)
+returns c = came-nothing _ _ _ _ _ (c .before .before .before .pre .some) (c .before .before .before .pre .ready)
 
 feed-all-requires : tie.Need-feed-all-requires
 feed-all-requires c κs = search needs

@@ -1,17 +1,16 @@
 -- `feed_all`: the loop's invariant: some bytes bring the marks to the count and grid so far; each block is put behind them. Assumes nothing.
-use mathlib.Core.Path.{_≡_, refl, sym, ap, _∙_}
-use mathlib.Core.List.{[]}
-use Prim.Native.Nat.{ℕ, _-_, _<_}
+use mathlib.Core.Path.{_≡_, refl, _∙_}
+use Prim.Native.Nat.{_-_, _<_}
 use native.Mathlib.Nat.{le-of-lt}
 use native.Mathlib.Omega.{arith}
 use lib.ListN.{length}
 use borrow.Author.Needs.{needs}
 use Rattle.rounding.specs.Scales.{exponentOf}
-use Rattle.feeding.specs.Feed.{Ready}
-use Rattle.passes.specs.Read.{Came}
+use Rattle.passes.specs.Read.{CameAgain}
 use Rattle.passes.proofs.Blocks.{falls, less, came-none, came-more, came-refused, came-all, came-short}
 use Rattle.passes.proofs.feed_all.Statement.{statement}
 use Rattle.passes.proofs.feed_all.Tie as tie
+use Rattle.lattice.specs.Buffers.{Ready}
 
 abbrev Inv-loop : tie.InvT-loop
 Inv-loop l grid₀ s shift all triangles₀ block₀ grid triangles block =
@@ -19,7 +18,7 @@ Inv-loop l grid₀ s shift all triangles₀ block₀ grid triangles block =
     × (length block ≡ 5000)
     × (length grid ≡ length grid₀)
     × Ready l grid
-    × Came l (exponentOf s) shift all grid₀ triangles grid
+    × CameAgain l (exponentOf s) shift all grid₀ triangles grid
 
 abbrev μ-loop : tie.MeasureT-loop
 μ-loop l grid₀ s shift all triangles₀ block₀ grid triangles block = all - triangles
@@ -28,7 +27,7 @@ empty-block-requires : tie.Need-empty-block-requires Inv-loop μ-loop
 empty-block-requires c κs = search needs
 
 loop-holds : tie.Need-loop-holds Inv-loop μ-loop
-loop-holds c = (c .before .before .pre .2, c .empty-block .ensures, refl, c .before .before .pre .1, came-none _ _ _ _ _)
+loop-holds c = (c .before .before .pre .some, c .empty-block .ensures, refl, c .before .before .pre .ready, came-none _ _ _ _ _)
 
 slice-aggregate-read-full : tie.Need-slice-aggregate-read-full Inv-loop μ-loop
 slice-aggregate-read-full c = search needs
@@ -45,7 +44,11 @@ slice-aggregate-feed-records c = search needs
 feed-records-requires : tie.Need-feed-records-requires Inv-loop μ-loop
 feed-records-requires c κs =
     let loop = c .before .before .before .before .before in
-    (le-of-lt (loop .loop .inv .0), loop .before .before .before .pre .0, loop .loop .inv .3)
+    record {
+      count-most = le-of-lt (loop .loop .inv .0);
+      scale = loop .before .before .before .pre .scale;
+      ready = loop .loop .inv .3;
+    }
 
 enum-known-fed : tie.Need-enum-known-fed Inv-loop μ-loop
 enum-known-fed c = search needs

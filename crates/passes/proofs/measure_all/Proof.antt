@@ -1,13 +1,10 @@
 -- `measure_all`: the loop's invariant: some bytes bring the measure to the count and extent so far; each block is put behind them. Assumes nothing.
-use mathlib.Core.Path.{_≡_, refl, sym, ap, _∙_}
-use mathlib.Core.List.{[]}
-use Prim.Native.Nat.{ℕ, _-_, _<_}
+use mathlib.Core.Path.{_≡_, _∙_}
+use Prim.Native.Nat.{_-_, _<_}
 use native.Mathlib.Nat.{le-of-lt}
 use native.Mathlib.Omega.{arith}
 use lib.ListN.{length}
 use borrow.Author.Needs.{needs}
-use Rattle.measuring.specs.declared.Extent.{Extent}
-use Rattle.stl_feeding.specs.Measured.{measured}
 use Rattle.passes.specs.Read.{Saw}
 use Rattle.passes.proofs.Blocks.{falls, less, saw-none, saw-more, saw-refused, saw-all, saw-short}
 use Rattle.passes.proofs.measure_all.Statement.{statement}

@@ -1,6 +1,6 @@
 -- `stream_all` meets its contract: a block has room for its triangles, and each whole block brings some. Assumes nothing.
 use mathlib.Core.Path.{_≡_, _∙_}
-use Prim.Native.Nat.{ℕ, _-_, _<_}
+use Prim.Native.Nat.{_-_, _<_}
 use native.Mathlib.Omega.{arith}
 use native.Mathlib.Nat.{le-of-lt}
 use lib.ListN.{length}
@@ -45,7 +45,11 @@ put-records-requires c κs =
     let r = c .before .before .before .read-full in
     let start = c .before .before .before .before .before in
     let l = start .loop in
-    (le-of-lt (l .inv .0), start .before .before .before .pre .0, omega (arith, r .ensures .0, r .ensures .1, r .kept .1 .0, l .inv .1, l .inv .2))
+    record {
+      count-most = le-of-lt (l .inv .0);
+      scale = start .before .before .before .pre .0;
+      out-room = omega (arith, r .ensures .0, r .ensures .1, r .kept .1 .0, l .inv .1, l .inv .2);
+    }
 
 enum-known-count : tie.Need-enum-known-count Inv-loop μ-loop
 enum-known-count c = search needs

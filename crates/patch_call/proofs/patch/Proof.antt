@@ -1,11 +1,8 @@
 -- `patch` gives the first row that applies, and patches where none does. Assumes nothing.
-use mathlib.Core.Path.{_≡_, sym, _∙_}
-use Prim.Native.Nat.{_/_, _≤_}
+use mathlib.Core.Path.{sym, _∙_}
 use native.Mathlib.Omega.{arith}
 use borrow.Author.Needs.{needs}
 use borrow.Author.Tests.{lt-ltb, le-ltb}
-use lib.ListN.{length}
-use Rattle.lattice.specs.Levels.{cellsOf, pointsOf}
 use Rattle.lattice.proofs.LevelFacts.{cells-some, cells-most}
 use Rattle.lattice.proofs.Tests.{fails, holds}
 use Rattle.refusals.proofs.Levels.{read-unknown, read-known}
@@ -54,7 +51,7 @@ is-grid-requires c κs =
     let c3 = c2 .before in
     let c4 = c3 .before in
     let c6 = c4 .before .before in
-    rw (c4 .cells .ensures) (cells-most (c6 .l .given .0 .0), rw (c3 .points .ensures) at (c2 .if1 .left))
+    rw (c4 .cells .ensures) (record { small = cells-most (c6 .l .given .0 .0); long = rw (c3 .points .ensures) at (c2 .if1 .left) })
 
 same-length : tie.Need-same-length
 same-length c = search needs
@@ -108,16 +105,17 @@ patch-held-requires c κs =
     let c11 = c10 .before in
     let c13 = c11 .before .before in
     let l = c13 .l .given .0 .0 in
-    rw (c11 .cells .ensures) (
-      (
-        cells-some l,
-        cells-most l,
-        rw (c10 .points .ensures) at (c9 .if1 .left),
-        rw (c10 .points .ensures) at (c8 .if2 .left),
-        holds (rw (c11 .cells .ensures) at (c6 .is-grid .ensures)) (c5 .if3 .left),
-      ),
-      rw (c4 .point-count .ensures .0, c11 .cells .ensures) at (c3 .if4 .left),
-    )
+    rw (c11 .cells .ensures) (record {
+      some = cells-some l;
+      sized = record {
+        small = cells-most l;
+        grid-long = rw (c10 .points .ensures) at (c9 .if1 .left);
+        work-long = rw (c10 .points .ensures) at
+            (c8 .if2 .left);
+      };
+      is-grid = holds (rw (c11 .cells .ensures) at (c6 .is-grid .ensures)) (c5 .if3 .left);
+      totals-long = rw (c4 .point-count .ensures .0, c11 .cells .ensures) at (c3 .if4 .left);
+    })
 
 same-length-2 : tie.Need-same-length-2
 same-length-2 c = search needs

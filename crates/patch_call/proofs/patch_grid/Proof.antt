@@ -26,7 +26,8 @@ returns c =
     let r = c .before .before .before .before .before .before .before .before .before .before .before .before .patch-rims .ensures in
     let f = c .before .before .before .before .finish .ensures in
     let k = c .before .before .before .before .before .before .before .point-count .ensures .0 in
-    λ t. ends-well (s .args .n) (s .args .grid .now) (s .args .work .now) (s .pre .2) (s .pre .3) (s .pre .4) _ _ _ (r .0) _ _ _ _ _
+    λ t. ends-well (s .args .n) (s .args .grid .now) (s .args .work .now) (s .pre .sized .grid-long) (s .pre .sized .work-long) (s .pre .is-grid) _ _ _
+    (r .0) _ _ _ _ _
     (rw k at (f .0)) (rw k at (f .1)) (rw k at (f .2))
     (r .1) (r .2) _ t refl
 

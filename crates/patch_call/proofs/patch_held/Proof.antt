@@ -27,7 +27,8 @@ returns c =
     let s = c20 in
     let r = c14 .patch-rims .ensures in
     let f = c6 .finish-held .ensures in
-    ends-well (s .args .n) (s .args .grid .now) (s .args .work .now) (s .pre .0 .2) (s .pre .0 .3) (s .pre .0 .4) _ _ _ (r .0) _ _ _ _ _
+    ends-well (s .args .n) (s .args .grid .now) (s .args .work .now) (s .pre .sized .grid-long) (s .pre .sized .work-long) (s .pre .is-grid) _ _ _
+    (r .0) _ _ _ _ _
     (f .0 .0) (f .0 .1) (f .1 .0) (r .1) (r .2) _ _ (f .1 .1)
 
 pub patch-held-spec : {M : Type 1} → statement M

@@ -1,5 +1,5 @@
 -- `patch_rims` finds the odd faces, puts the marks by, and patches every rim. Assumes nothing.
-use mathlib.Core.Path.{_≡_, ap, _∙_}
+use mathlib.Core.Path.{ap, _∙_}
 use Prim.Native.Nat.{ℕ}
 use borrow.Author.Needs.{needs}
 use Rattle.lattice.specs.Byte.{marksPutBy}
@@ -24,8 +24,15 @@ all-rims-requires c κs =
     let c9 = c4 .before .before .before .before .before in
     let c14 = c9 .before .before .before .before .before in
     let s = c14 in
-    let f = c9 .find-odd .ensures .2 in
-    (s .pre .1, rw (c4 .put-by .kept .1 .0) (s .pre .2), rw (f .long) (s .pre .3), fine-start (s .args .n) (s .args .grid .now) _ _ (s .pre .2) (s .pre .4) f)
+    let f = c9 .find-odd .ensures .2 in (
+      record {
+        small = s .pre .sized .small;
+        grid-long = rw (c4 .put-by .kept .1 .0) (s .pre .sized .grid-long);
+        work-long = rw (f .long)
+            (s .pre .sized .work-long);
+      },
+      fine-start (s .args .n) (s .args .grid .now) _ _ (s .pre .sized .grid-long) (s .pre .is-grid) f,
+    )
 
 same-length : tie.Need-same-length
 same-length c = search needs
@@ -44,7 +51,7 @@ returns c =
     let g = s .args .grid .now in
     let o = c14 .find-odd .ensures in
     let e = c9 .put-by .ensures ∙ ap (λ (k : ℕ). paint marksPutBy k g) (c11 .point-count .ensures .0) in
-    (rims-done (s .args .n) g (s .args .work .now) _ _ _ _ _ (s .pre .2) (s .pre .4) (o .2) e (c4 .all-rims .ensures), o .0, o .1)
+    (rims-done (s .args .n) g (s .args .work .now) _ _ _ _ _ (s .pre .sized .grid-long) (s .pre .is-grid) (o .2) e (c4 .all-rims .ensures), o .0, o .1)
 
 pub patch-rims-spec : {M : Type 1} → statement M
 patch-rims-spec =

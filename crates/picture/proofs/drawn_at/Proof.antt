@@ -16,7 +16,7 @@ enum-told c = search needs
 shared-slice-read-character-of : tie.Need-shared-slice-read-character-of
 shared-slice-read-character-of c =
     let start = c .before .before .before .before in
-    let b = num-below (start .args .n) (start .args .q) (start .pre .3) in omega (arith, b, start .pre .1, start .pre .4)
+    let b = num-below (start .args .n) (start .args .q) (start .pre .on-grid) in omega (arith, b, start .pre .sized .long, start .pre .number-is)
 
 character-of-requires : tie.Need-character-of-requires
 character-of-requires c κs = search needs
@@ -30,7 +30,7 @@ letter-at-requires c κs = search needs
 returns : tie.Need-returns
 returns c =
     let s = c .before .before .before .before .before in
-    let e = ap (λ (i : ℕ). character (saysInside (getD (s .args .grid .now) i 0))) (s .pre .4) in
+    let e = ap (λ (i : ℕ). character (saysInside (getD (s .args .grid .now) i 0))) (s .pre .number-is) in
     rw (c .before .before .enum-told .given .1) (c .character-of .ensures ∙ e)
 
 returns-2 : tie.Need-returns-2

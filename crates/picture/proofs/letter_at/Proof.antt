@@ -24,29 +24,37 @@ returns c =
 
 -- the point of the number is the one that is handed over
 at-point : (c : tie.Start) → pointOf (c .args .n) (c .args .p) ≡ c .args .q
-at-point c = point-is (c .args .n) (c .args .p) (c .args .q) (c .pre .3) (c .pre .4)
+at-point c = point-is (c .args .n) (c .args .p) (c .args .q) (c .pre .on-grid) (c .pre .number-is)
 
 at-face : (c : tie.Start) (a : Axis) → faceMarks (marks (c .args .n) (c .args .grid .now)) a (pointOf (c .args .n) (c .args .p))
     ≡ faceMarks (marks (c .args .n) (c .args .grid .now)) a (c .args .q)
 at-face c a = ap (faceMarks (marks (c .args .n) (c .args .grid .now)) a) (at-point c)
 
 below : (c : tie.Start) → (c .args .q .k ≡ c .args .n → ⊥) → pointOf (c .args .n) (c .args .p) .k < c .args .n
-below c h = let e = ap (λ (q : Point). q .k) (at-point c) in let g = c .pre .3 in omega arith
+below c h = let e = ap (λ (q : Point). q .k) (at-point c) in let g = c .pre .on-grid in omega arith
 
 lower-marks-requires : tie.Need-lower-marks-requires
 lower-marks-requires c κs =
     let start = c .before .before .before in
-    (start .pre .0, start .pre .1, start .pre .2, below start (c .if1 .left))
+    record { sized = start .pre .sized; is-grid = start .pre .is-grid; layer = below start (c .if1 .left) }
 
 lower-marks-requires-2 : tie.Need-lower-marks-requires-2
 lower-marks-requires-2 c κs =
     let start = c .before .before .before .before in
-    (start .pre .0, start .pre .1, start .pre .2, below start (c .before .if1 .left))
+    record {
+      sized = start .pre .sized;
+      is-grid = start .pre .is-grid;
+      layer = below start (c .before .if1 .left);
+    }
 
 lower-marks-requires-3 : tie.Need-lower-marks-requires-3
 lower-marks-requires-3 c κs =
     let start = c .before .before .before .before .before in
-    (start .pre .0, start .pre .1, start .pre .2, below start (c .before .before .if1 .left))
+    record {
+      sized = start .pre .sized;
+      is-grid = start .pre .is-grid;
+      layer = below start (c .before .before .if1 .left);
+    }
 
 letter-of-requires-2 : tie.Need-letter-of-requires-2
 letter-of-requires-2 c κs = search needs

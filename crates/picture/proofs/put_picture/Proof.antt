@@ -30,7 +30,7 @@ abbrev μ-loop : tie.MeasureT-loop
 μ-loop out₀ n grid w count q₀ at₀ p₀ out q at p = count - p
 
 point-count-requires : tie.Need-point-count-requires Inv-loop μ-loop
-point-count-requires c κs = c .before .before .pre .0
+point-count-requires c κs = c .before .before .pre .sized .small
 
 loop-holds : tie.Need-loop-holds Inv-loop μ-loop
 loop-holds c =
@@ -42,32 +42,37 @@ drawn-at-requires : tie.Need-drawn-at-requires Inv-loop μ-loop
 drawn-at-requires c κs =
     let s = c .before .before .before .before .before in
     let g = at-grid _ _ _ (c .before .loop .inv .4) (omega (arith, c .before .loop .inv .0, c .loop-test .taken)) in
-    (s .pre .0, s .pre .1, s .pre .3, g, sym (c .before .loop .inv .4 .is))
+    record {
+      sized = s .pre .sized;
+      is-grid = s .pre .is-grid;
+      on-grid = g;
+      number-is = sym (c .before .loop .inv .4 .is);
+    }
 
 slice-write-out : tie.Need-slice-write-out Inv-loop μ-loop
 slice-write-out c =
     let loop-told = c .before .before .loop in
     let start = c .before .before .before .before .before .before in
-    omega (arith, loop-told .inv .0, loop-told .inv .2, loop-told .inv .3, c .before .loop-test .taken, start .pre .2)
+    omega (arith, loop-told .inv .0, loop-told .inv .2, loop-told .inv .3, c .before .loop-test .taken, start .pre .out-room)
 
 add-put-end : tie.Need-add-put-end Inv-loop μ-loop
 add-put-end c =
     let loop-told = c .before .before .before .loop in
     let start = c .before .before .before .before .before .before .before in
-    omega (arith, loop-told .inv .0, loop-told .inv .2, loop-told .inv .3, c .before .before .loop-test .taken, start .pre .2)
+    omega (arith, loop-told .inv .0, loop-told .inv .2, loop-told .inv .3, c .before .before .loop-test .taken, start .pre .out-room)
 
 put-end-requires : tie.Need-put-end-requires Inv-loop μ-loop
 put-end-requires c κs =
     let loop-told = c .before .before .before .loop in
     let start = c .before .before .before .before .before .before .before in
-    simp length-set (omega (arith, loop-told .inv .0, loop-told .inv .2, loop-told .inv .3, c .before .before .loop-test .taken, start .pre .2))
+    simp length-set (omega (arith, loop-told .inv .0, loop-told .inv .2, loop-told .inv .3, c .before .before .loop-test .taken, start .pre .out-room))
 
 next-point-requires : tie.Need-next-point-requires Inv-loop μ-loop
 next-point-requires c κs =
     let loop-test = c .before .before .before .before .before .loop-test in
     let loop-told = c .before .before .before .before .before .before .loop in
     let start = c .before .before .before .before .before .before .before .before .before .before in
-    (start .pre .0, at-grid _ _ _ (loop-told .inv .4) (omega (arith, loop-told .inv .0, loop-test .taken)))
+    (start .pre .sized .small, at-grid _ _ _ (loop-told .inv .4) (omega (arith, loop-told .inv .0, loop-test .taken)))
 
 add-p : tie.Need-add-p Inv-loop μ-loop
 add-p c =
@@ -87,7 +92,7 @@ loop-again c =
     let f = c .before .before .before .put-end in
     let d = c .before .before .before .before .before .drawn-at in
     let h : l .p < pointCount (a .n) = omega (arith, l .inv .0, loop-test .taken) in
-    let g : l .at < length (l .out) = omega (arith, l .inv .0, l .inv .2, l .inv .3, loop-test .taken, start .pre .2) in (
+    let g : l .at < length (l .out) = omega (arith, l .inv .0, l .inv .2, l .inv .3, loop-test .taken, start .pre .out-room) in (
       l .inv .0,
       omega (arith, loop-test .taken),
       omega (arith, l .inv .2, f .ensures .1),

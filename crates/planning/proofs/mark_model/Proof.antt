@@ -23,7 +23,7 @@ feed-again-requires c κs =
     let c5 = c3 .before .before in
     let c8 = c5 .before .before .before in
     let p = rw (c3 .planned .given .1) at (c5 .plan-model .ensures) in
-    (p .steady .1, rw (c8 .pre) (lent-ready _), p .steady .3)
+    record { scale = p .steady .1; ready = rw (c8 .pre) (lent-ready _); some = p .steady .3 }
 
 enum-known-triangles : tie.Need-enum-known-triangles
 enum-known-triangles c = search needs

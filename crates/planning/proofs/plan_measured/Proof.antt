@@ -24,7 +24,7 @@ returns c =
     let c4 = c3 .before in
     let stands = rw (c1 .at .given .1) at (c3 .plan-for .ensures .0) in
     record {
-      steady = (c4 .pre .0, stands .0, stands .1, c4 .pre .2);
+      steady = (c4 .pre .sound, stands .0, stands .1, c4 .pre .some);
       plan = λ m h. ap (planned (c4 .args .order) (c4 .args .all)) (sym (c1 .at .given .1) ∙ c3 .plan-for .ensures .1 m h);
     }
 

@@ -18,7 +18,11 @@ plan-measured-requires c κs =
     let c3 = c1 .before .before in
     let c4 = c3 .before in
     let by = rw (c1 .extent .given .1) at (c3 .measure-all .ensures) in
-    (c4 .pre .0, record { model = modelOf (c4 .args .all) (by .bytes); measures = seen-measures _ _ _ (c4 .pre .1) by }, c4 .pre .1)
+    record {
+      sound = c4 .pre .0;
+      measurable = record { model = modelOf (c4 .args .all) (by .bytes); measures = seen-measures _ _ _ (c4 .pre .1) by };
+      some = c4 .pre .1;
+    }
 
 enum-known-number : tie.Need-enum-known-number
 enum-known-number c = search needs

@@ -1,6 +1,5 @@
 -- `size_of_input` meets its contract: what lseek answers is a size where it is not below zero. Assumes nothing.
-use mathlib.Core.Path.{_≡_, _∙_}
-use lib.IntN.{pos, natAbs}
+use mathlib.Core.Path.{_∙_}
 use mir.Syntax.{w64}
 use mir.Facts.{toZ-ofZ, fits-natAbs}
 use Rattle.text.proofs.Signs.{signed-plus}

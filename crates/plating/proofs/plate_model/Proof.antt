@@ -27,7 +27,18 @@ tell-requires c κs =
     let c11 = c8 .before .before .before in
     let c21 = c11 .before .before .before .before .before .before .before .before .before .before in
     let m = rw (c8 .order .given .1) at (c11 .mark-model .ensures) in
-    ((m .stood .0 .level-is, m .stood .1, m .stood .2, m .stood .3), (c21 .pre .0, c21 .pre .1))
+    let p = c21 .pre in record {
+      level-is = m .stood .0 .level-is;
+      scale = m .stood .1;
+      near = m .stood .2;
+      ready = m .stood .3;
+      head-room = p .head-room;
+      faces-room = p .faces-room;
+      layers-room = p .layers-room;
+      masks-room = p .masks-room;
+      quads-room = p .quads-room;
+      file-lent = p .file-lent;
+    }
 
 enum-known-words : tie.Need-enum-known-words
 enum-known-words c = search needs

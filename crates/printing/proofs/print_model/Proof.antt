@@ -48,15 +48,14 @@ plate-model-requires c κs =
     let c8 = c7 .before in
     let c9 = c8 .before in
     let c10 = c9 .before in
-    let c11 = c10 .before in (
-      (
-        room (c11 .empty-head .ensures),
-        room (c10 .empty-picture .ensures),
-        room (c9 .empty-picture2 .ensures),
-        room (c8 .empty-masks .ensures),
-      ),
-      (room (c7 .empty-quads .ensures), c6 .empty-file .ensures ∙ file-lent),
-    )
+    let c11 = c10 .before in record {
+      head-room = room (c11 .empty-head .ensures);
+      faces-room = room (c10 .empty-picture .ensures);
+      layers-room = room (c9 .empty-picture2 .ensures);
+      masks-room = room (c8 .empty-masks .ensures);
+      quads-room = room (c7 .empty-quads .ensures);
+      file-lent = c6 .empty-file .ensures ∙ file-lent;
+    }
 
 slice-aggregate-write-parts : tie.Need-slice-aggregate-write-parts
 slice-aggregate-write-parts c = search needs

@@ -64,7 +64,8 @@ unfolding surfaceRows surfaceCall
 returns-2 c = simp (level-read (c .before) .0, level-read (c .before) .1, lt-ltb _ _ (rw (c .before .points .ensures) at (c .if1 .taken)))
 
 is-grid-requires : tie.Need-is-grid-requires
-is-grid-requires c κs = rw (c .before .before .cells .ensures) (cells-most (c .before .before .before .before .l .given .0 .0), grid-long c)
+is-grid-requires c κs = rw (c .before .before .cells .ensures)
+    (record { small = cells-most (c .before .before .before .before .l .given .0 .0); long = grid-long c })
 
 returns-3 : tie.Need-returns-3
 unfolding surfaceRows surfaceCall
@@ -76,7 +77,7 @@ signs-fit-requires : tie.Need-signs-fit-requires
 signs-fit-requires c κs =
     let cells = c .before .before .before .before .cells in
     let l = c .before .before .before .before .before .before .l .given .0 .0 in
-    rw (cells .ensures) (cells-most l, grid-long (c .before .before), a-grid c)
+    rw (cells .ensures) (record { small = cells-most l; long = grid-long (c .before .before) }, a-grid c)
 
 returns-4 : tie.Need-returns-4
 unfolding surfaceRows surfaceCall
@@ -89,7 +90,10 @@ list-quads-requires : tie.Need-list-quads-requires
 list-quads-requires c κs =
     let cells = c .before .before .before .before .before .before .before .cells in
     let l = c .before .before .before .before .before .before .before .before .before .l .given .0 .0 in
-    rw (cells .ensures) (cells-most l, grid-long (c .before .before .before .before .before), a-grid (c .before .before .before))
+    rw (cells .ensures) (
+      record { small = cells-most l; long = grid-long (c .before .before .before .before .before) },
+      a-grid (c .before .before .before),
+    )
 
 same-length : tie.Need-same-length
 same-length c = search needs

@@ -21,7 +21,7 @@ abbrev μ-loop : tie.MeasureT-loop
 μ-loop n grid count k₀ p₀ k p = count - p
 
 point-count-requires : tie.Need-point-count-requires Inv-loop μ-loop
-point-count-requires c κs = c .before .pre .0
+point-count-requires c κs = c .before .pre .0 .small
 
 loop-holds : tie.Need-loop-holds Inv-loop μ-loop
 loop-holds c =
@@ -51,7 +51,7 @@ loop-again c =
     let n = start .args .n in
     let g = start .args .grid .now in
     let h : l .p < pointCount n = omega (arith, l .inv .0, c .before .before .loop-test .taken) in
-    let e = count-step n g (l .p) (pointOf n (l .p)) (start .pre .1) (start .pre .2) (at-pointOf n (l .p) h) h in
+    let e = count-step n g (l .p) (pointOf n (l .p)) (start .pre .0 .long) (start .pre .1) (at-pointOf n (l .p) h) h in
     let m = c .marks-in .ensures .0 in
     (l .inv .0, omega arith, omega (arith, c .marks-in .ensures .1), rw (add-one (l .p), m) (again (l .k) _ _ _ _ e (l .inv .3)))
   where

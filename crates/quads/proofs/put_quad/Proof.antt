@@ -33,7 +33,7 @@ cell-number-requires : tie.Need-cell-number-requires
 cell-number-requires c κs =
     let start = c .before .before .before .before .before .before .before in
     let mark = holds (c .before .before .before .before .before .bit .ensures) (c .before .before .before .before .if1 .left) in
-    (start .pre .0, inner→ (start .args .n) (start .args .a) (start .args .q) (start .pre .1 mark) .cell)
+    (start .pre .small, inner→ (start .args .n) (start .args .a) (start .args .q) (start .pre .is-inner mark) .cell)
 
 -- the numbers of the four cells
 numbers : (c : tie.After-cell-number) →
@@ -45,7 +45,7 @@ numbers c =
     let next-is = c .before .before .before .before .next .ensures in
     let mark = holds (c .before .before .before .before .before .before .bit .ensures) (c .before .before .before .before .before .if1 .left) in
     let start = c .before .before .before .before .before .before .before .before in
-    around (start .args .n) (start .args .a) (start .args .q) _ _ _ (start .pre .1 mark)
+    around (start .args .n) (start .args .a) (start .args .q) _ _ _ (start .pre .is-inner mark)
     (c .before .before .before .cell-step .ensures ∙ ap (cellStep (start .args .n)) next-is)
     (c .before .cell-step2 .ensures ∙ ap (cellStep (start .args .n)) (c .before .before .next2 .ensures ∙ ap next next-is))
     (c .cell-number .ensures)
@@ -64,7 +64,7 @@ put-four-requires c κs =
     let if1 = c .before .before .before .before .before .before .before .if1 in
     let bit = c .before .before .before .before .before .before .before .before .bit in
     let start = c .before .before .before .before .before .before .before .before .before .before in
-    simp (holds (bit .ensures) (if1 .left), c .before .if2 .taken) at (start .pre .2)
+    simp (holds (bit .ensures) (if1 .left), c .before .if2 .taken) at (start .pre .list-room)
 
 add-result : tie.Need-add-result
 add-result c = search needs
@@ -87,7 +87,7 @@ put-four-requires-2 c κs =
     let if1 = c .before .before .before .before .before .before .before .if1 in
     let bit = c .before .before .before .before .before .before .before .before .bit in
     let start = c .before .before .before .before .before .before .before .before .before .before in
-    simp (holds (bit .ensures) (if1 .left), c .before .if2 .left) at (start .pre .2)
+    simp (holds (bit .ensures) (if1 .left), c .before .if2 .left) at (start .pre .list-room)
 
 add-result-2 : tie.Need-add-result-2
 add-result-2 c = search needs

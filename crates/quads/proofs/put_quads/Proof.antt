@@ -27,26 +27,38 @@ long : (s : tie.Start) (a : Axis) → length (byteQuad (s .args .n) (s .args .b)
 long s a = quad-long (s .args .n) (s .args .b) (s .args .inside) a (s .args .q)
 
 room : (s : tie.Start) → s .args .at + 4 * byteMarks (s .args .b) ≤ length (s .args .list .now)
-room s = rw (quads-long (s .args .n) (s .args .b) (s .args .inside) (s .args .q)) at (s .pre .2)
+room s = rw (quads-long (s .args .n) (s .args .b) (s .args .inside) (s .args .q)) at (s .pre .list-room)
 
 -- the marks are on inner edges, and there is room for the quad of each
 put-quad-requires : tie.Need-put-quad-requires
 put-quad-requires c κs =
     let s = c .before .before .before .before in
     let f = long s in
-    (s .pre .0, search (needs, s .pre .1), omega (arith, f X, f Y, f Z, room s))
+    record {
+      small = s .pre .small;
+      is-inner = search (needs, s .pre .marks-inner);
+      list-room = omega (arith, f X, f Y, f Z, room s);
+    }
 
 put-quad-requires-2 : tie.Need-put-quad-requires-2
 put-quad-requires-2 c κs =
     let s = c .before .before .before .before .before .before .before .before in
     let f = long s in
-    (s .pre .0, search (needs, s .pre .1), omega (arith, f X, f Y, f Z, room s))
+    record {
+      small = s .pre .small;
+      is-inner = search (needs, s .pre .marks-inner);
+      list-room = omega (arith, f X, f Y, f Z, room s);
+    }
 
 put-quad-requires-3 : tie.Need-put-quad-requires-3
 put-quad-requires-3 c κs =
     let s = c .before .before .before .before .before .before .before .before .before .before .before .before in
     let f = long s in
-    (s .pre .0, search (needs, s .pre .1), omega (arith, f X, f Y, f Z, room s))
+    record {
+      small = s .pre .small;
+      is-inner = search (needs, s .pre .marks-inner);
+      list-room = omega (arith, f X, f Y, f Z, room s);
+    }
 
 same-length : tie.Need-same-length
 same-length c = search needs

@@ -31,7 +31,7 @@ abbrev μ-loop : tie.MeasureT-loop
 μ-loop n grid list₀ count q₀ p₀ at₀ list q p at = count - p
 
 point-count-requires : tie.Need-point-count-requires Inv-loop μ-loop
-point-count-requires c κs = c .before .before .pre .0
+point-count-requires c κs = c .before .before .pre .sized .small
 
 loop-holds : tie.Need-loop-holds Inv-loop μ-loop
 loop-holds c =
@@ -44,15 +44,15 @@ loop-holds c =
       omega arith,
       at-start _,
       refl,
-      omega (arith, ap length e, quads-length n E s, start .pre .3),
+      omega (arith, ap length e, quads-length n E s, start .pre .list-room),
       ap (sets (start .args .list .now) 0) e,
     )
 
 shared-slice-read-put-quads : tie.Need-shared-slice-read-put-quads Inv-loop μ-loop
-shared-slice-read-put-quads c = omega (arith, c .before .before .before .before .before .before .pre .1)
+shared-slice-read-put-quads c = omega (arith, c .before .before .before .before .before .before .pre .sized .long)
 
 shared-slice-read-is-inside : tie.Need-shared-slice-read-is-inside Inv-loop μ-loop
-shared-slice-read-is-inside c = omega (arith, c .before .before .before .before .before .before .before .pre .1)
+shared-slice-read-is-inside c = omega (arith, c .before .before .before .before .before .before .before .pre .sized .long)
 
 is-inside-requires : tie.Need-is-inside-requires Inv-loop μ-loop
 is-inside-requires c κs = tt
@@ -63,18 +63,18 @@ put-quads-requires c κs =
     let l = c .before .before .before .before .before .loop in
     let n = start .args .n in
     let g = start .args .grid .now in
-    let h : l .p < pointCount n = omega (arith, l .inv .0, c .before .before .before .before .loop-test .taken) in (
-      start .pre .0,
-      marks-inner-at n g (l .p) (l .q) (start .pre .1) (start .pre .2) (l .inv .2) h,
-      byte-room n g (l .p) (l .q) _ (l .at) (l .list) (start .pre .1) (start .pre .2) (l .inv .2) h (l .inv .4),
-    )
+    let h : l .p < pointCount n = omega (arith, l .inv .0, c .before .before .before .before .loop-test .taken) in record {
+      small = start .pre .sized .small;
+      marks-inner = marks-inner-at n g (l .p) (l .q) (start .pre .sized .long) (start .pre .is-grid) (l .inv .2) h;
+      list-room = byte-room n g (l .p) (l .q) _ (l .at) (l .list) (start .pre .sized .long) (start .pre .is-grid) (l .inv .2) h (l .inv .4);
+    }
 
 next-point-requires : tie.Need-next-point-requires Inv-loop μ-loop
 next-point-requires c κs =
     let start = c .before .before .before .before .before .before .before .before .before .before .before .before in
     let l = c .before .before .before .before .before .before .before .before .loop in
     let h : l .p < pointCount (start .args .n) = omega (arith, l .inv .0, c .before .before .before .before .before .before .before .loop-test .taken) in
-    (start .pre .0, at-grid _ (l .p) (l .q) (l .inv .2) h)
+    (start .pre .sized .small, at-grid _ (l .p) (l .q) (l .inv .2) h)
 
 add-p : tie.Need-add-p Inv-loop μ-loop
 add-p c =
@@ -93,7 +93,7 @@ loop-again c =
     let n = start .args .n in
     let g = start .args .grid .now in
     let h : l .p < pointCount n = omega (arith, l .inv .0, c .before .before .before .before .before .before .before .before .loop-test .taken) in
-    let byte = quads-byte n g (l .p) (l .q) _ (start .pre .1) (start .pre .2) (l .inv .2) h (is-inside .ensures) in
+    let byte = quads-byte n g (l .p) (l .q) _ (start .pre .sized .long) (start .pre .is-grid) (l .inv .2) h (is-inside .ensures) in
     let e = rw byte at (c .before .before .before .put-quads .ensures) in
     let w = given-written n (marks n g) (quad n (inside n g)) (l .p) (l .q) (l .inv .2) h (l .at) _ (l .list) _ e (l .inv .4) in (
       l .inv .0,
@@ -117,7 +117,7 @@ returns c =
     let s = inside n (start .args .grid .now) in
     sym (ap (sets (l .list) (l .at)) (given-end n E (quad n s) (l .p) (omega (arith, l .inv .0, c .loop-test .left))))
     ∙ l .inv .5
-    ∙ written (start .args .list .now) (quads n E s) (4 * quadCount n E) (quads-length n E s) (start .pre .3)
+    ∙ written (start .args .list .now) (quads n E s) (4 * quadCount n E) (quads-length n E s) (start .pre .list-room)
 
 pub write-quads-spec : {M : Type 1} → statement M
 write-quads-spec =

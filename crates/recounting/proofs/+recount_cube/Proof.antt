@@ -1,6 +1,6 @@
 -- `recount_cube` drops a cube of blocks, counts a single one anew, or goes through the eight cubes of half the side; the side falls.
 -- Assumes nothing.
-use mathlib.Core.Path.{_≡_, refl, sym, _∙_}
+use mathlib.Core.Path.{_≡_, refl, _∙_}
 use Prim.Native.Nat.{ℕ, _-_, _/_, _≤_, _<_}
 use native.Mathlib.Numerals.{add-one}
 use native.Mathlib.Omega.{arith}
@@ -22,7 +22,7 @@ use Rattle.lattice.proofs.Tests.{fails}
 use Rattle.triangles.specs.declared.Triangle.{Triangle}
 use Rattle.meeting.specs.Met.{met}
 use Rattle.meeting.specs.Covered.{Covers}
-use Rattle.descending.specs.Reach.{Ready}
+use Rattle.descending.specs.Reach.{KeepsAll}
 use Rattle.descending.proofs.Cubes.{halves, eighth-ok, cube-wider}
 use Rattle.recounting.specs.Anew.{Recounted, inFirstBlocks}
 use Rattle.recounting.proofs.Cubes.{few-blocks, fourfold-cube, outside-kept, missed-kept, single-block, single-recounted}
@@ -43,7 +43,7 @@ below-size t =
 abbrev Inv : lts.InvT-loop
 Inv l n grid table₀ kept reach side b c k₀ table k =
     (k ≤ 8) × (length table ≡ length table₀)
-    × ((t : Triangle) → Ready l t kept reach → Covers l t b → Recounted (cellsOf l) grid (inFirstBlocks c k (met l t)) table₀ table)
+    × ((t : Triangle) → KeepsAll l t kept reach → Covers l t b → Recounted (cellsOf l) grid (inFirstBlocks c k (met l t)) table₀ table)
 
 abbrev fuel : lts.MeasureT-loop
 fuel l n grid table₀ kept reach side b c k₀ table k = 8 - k
@@ -66,13 +66,13 @@ claims t = (
 )
 
 recount-cube-cells-of-requires : (t : ℕ) → lts.Need-cells-of-requires (claims t) (at-size t) cube.Post Inv fuel
-recount-cube-cells-of-requires t c κs = let s = c .before .before in few-blocks (s .args .l) (s .args .c) (s .pre .1 .1 .0)
+recount-cube-cells-of-requires t c κs = let s = c .before .before in few-blocks (s .args .l) (s .args .c) (s .pre .1 .cube)
 
 recount-cube-touches-requires : (t : ℕ) → lts.Need-touches-requires (claims t) (at-size t) cube.Post Inv fuel
 recount-cube-touches-requires t c κs =
     let s = c .before .before .before in
     let n = cellsOf (s .args .l) in
-    rw (c .cells-of .ensures) (cube-wider n _ (cells-most (s .args .l)) (fourfold-cube n (s .args .c) (s .pre .1 .1 .0)))
+    rw (c .cells-of .ensures) (cube-wider n _ (cells-most (s .args .l)) (fourfold-cube n (s .args .c) (s .pre .1 .cube)))
 
 recount-cube-returns : (t : ℕ) → lts.Need-returns (claims t) (at-size t) cube.Post Inv fuel
 recount-cube-returns t c =
@@ -83,7 +83,11 @@ recount-cube-returns t c =
 recount-cube-is-spared-requires : (t : ℕ) → lts.Need-is-spared-requires (claims t) (at-size t) cube.Post Inv fuel
 recount-cube-is-spared-requires t c κs =
     let s = c .before .before .before .before .before in
-    (s .pre .1 .1 .1, rw (c .before .before .cells-of .ensures) (fourfold-cube (cellsOf (s .args .l)) (s .args .c) (s .pre .1 .1 .0)), s .pre .1 .1 .2)
+    let p = s .pre .1 in record {
+      loaded = p .loaded;
+      cube = rw (c .before .before .cells-of .ensures) (fourfold-cube (cellsOf (s .args .l)) (s .args .c) (p .cube));
+      side-of = p .side-of;
+    }
 
 recount-cube-returns-2 : (t : ℕ) → lts.Need-returns-2 (claims t) (at-size t) cube.Post Inv fuel
 recount-cube-returns-2 t c =
@@ -96,7 +100,12 @@ recount-cube-recount-requires : (t : ℕ) → lts.Need-recount-requires (claims 
 recount-cube-recount-requires t c κs =
     let s = c .before .before .before .before .before .before .before .before .before .before in
     let l = s .args .l in
-    rw (s .pre .1 .0 .0) (cells-most l, s .pre .1 .0 .1, s .pre .1 .0 .2, single-block (cellsOf l) (s .args .c) (c .before .if3 .taken) (s .pre .1 .1 .0))
+    let p = s .pre .1 in
+    rw (p .cells-are) (record {
+      sized = record { small = cells-most l; long = p .grid-long };
+      table-long = p .table-long;
+      block = single-block (cellsOf l) (s .args .c) (c .before .if3 .taken) (p .cube);
+    })
 
 recount-cube-same-length : (t : ℕ) → lts.Need-same-length (claims t) (at-size t) cube.Post Inv fuel
 recount-cube-same-length t c = search needs
@@ -105,10 +114,10 @@ recount-cube-returns-3 : (t : ℕ) → lts.Need-returns-3 (claims t) (at-size t)
 recount-cube-returns-3 t c =
     let s = c .before .before .before .before .before .before .before .before .before .before .before .before .before in
     let l = s .args .l in
-    let e = rw (s .pre .1 .0 .0) at (c .before .before .recount .ensures) in
+    let e = rw (s .pre .1 .cells-are) at (c .before .before .recount .ensures) in
     let one = c .before .before .before .before .if3 .taken in
     λ u y v.
-    rw e (single-recounted (cellsOf l) (s .args .grid .now) (s .args .table .now) (s .args .c) one (s .pre .1 .1 .0) (s .pre .1 .0 .2) (met l u))
+    rw e (single-recounted (cellsOf l) (s .args .grid .now) (s .args .table .now) (s .args .c) one (s .pre .1 .cube) (s .pre .1 .table-long) (met l u))
 
 recount-cube-loop-holds : (t : ℕ) → lts.Need-loop-holds (claims t) (at-size t) cube.Post Inv fuel
 recount-cube-loop-holds t c =
@@ -119,14 +128,24 @@ recount-cube-eighth-requires : (t : ℕ) → lts.Need-eighth-requires (claims t)
 recount-cube-eighth-requires t c κs =
     let s = c .before .before .before .before .before .before .before .before .before .before .before .before in
     let m = cells-most (s .args .l) in
-    cube-wider (cellsOf (s .args .l) / 4) (s .args .c) (omega (arith, m)) (s .pre .1 .1 .0)
+    cube-wider (cellsOf (s .args .l) / 4) (s .args .c) (omega (arith, m)) (s .pre .1 .cube)
 
 recount-cube-recount-cube-requires : (t : ℕ) → lts.Need-recount-cube-requires (claims t) (at-size t) cube.Post Inv fuel
 recount-cube-recount-cube-requires t c κs =
     let s = c .before .before .before .before .before .before .before .before .before .before .before .before .before in
     let two = c .before .before .before .before .if3 .left in
-    let e = eighth-ok (cellsOf (s .args .l) / 4) (s .args .c) (s .pre .1 .1 .0) two _ t _ (s .pre .0) (c .eighth .ensures) in
-    (e .0, ((s .pre .1 .0 .0, s .pre .1 .0 .1, rw (c .before .before .before .loop .inv .1) (s .pre .1 .0 .2)), (e .1, s .pre .1 .1 .1, s .pre .1 .1 .2)))
+    let e = eighth-ok (cellsOf (s .args .l) / 4) (s .args .c) (s .pre .1 .cube) two _ t _ (s .pre .0) (c .eighth .ensures) in
+    let p = s .pre .1 in (
+      e .0,
+      record {
+        cells-are = p .cells-are;
+        grid-long = p .grid-long;
+        table-long = rw (c .before .before .before .loop .inv .1) (p .table-long);
+        cube = e .1;
+        loaded = p .loaded;
+        side-of = p .side-of;
+      },
+    )
 
 recount-cube-add-k : (t : ℕ) → lts.Need-add-k (claims t) (at-size t) cube.Post Inv fuel
 recount-cube-add-k t c = omega arith
@@ -152,7 +171,7 @@ recount-cube-returns-4 : (t : ℕ) → lts.Need-returns-4 (claims t) (at-size t)
 recount-cube-returns-4 t c =
     let s = c .before .before .before .before .before .before .before .before .before .before .before in
     let l = c .before .loop in
-    let w = halves (cellsOf (s .args .l) / 4) (s .args .c) (s .pre .1 .1 .0) (c .before .before .if3 .left) in
+    let w = halves (cellsOf (s .args .l) / 4) (s .args .c) (s .pre .1 .cube) (c .before .before .if3 .left) in
     let h : l .k ≡ 8 = omega arith in
     λ u y v. first-whole (cellsOf (s .args .l)) (s .args .grid .now) (s .args .c) (met (s .args .l) u) (w .even) (rw h at (l .inv .2 u y v))
 

@@ -18,10 +18,10 @@ reach-at-requires : tie.Need-reach-at-requires
 reach-at-requires c κs = search needs
 
 numbers-of-requires : tie.Need-numbers-of-requires
-numbers-of-requires c κs = let s = c .before .before in let f = s .pre .1 .fits in let m = cells-most (s .args .l) in omega arith
+numbers-of-requires c κs = let s = c .before .before in let f = s .pre .cube .fits in let m = cells-most (s .args .l) in omega arith
 
 signed-requires : tie.Need-signed-requires
-signed-requires c κs = let s = c .before .before .before in let f = s .pre .1 .fits in let m = cells-most (s .args .l) in omega arith
+signed-requires c κs = let s = c .before .before .before in let f = s .pre .cube .fits in let m = cells-most (s .args .l) in omega arith
 
 -- the cube's side, as the machine holds it
 side-is : (c : tie.After-signed) → held (c .signed .result) ≡ pos (c .before .before .before .before .args .c .side)
@@ -30,9 +30,9 @@ side-is c = plain (c .signed .result) (c .signed .ok) ∙ c .signed .ensures
 misses-requires : tie.Need-misses-requires
 misses-requires c κs =
     let s = c .before .before .before .before in
-    let y = s .pre .0 in
+    let y = s .pre .loaded in
     rw (c .before .before .before .kept-at .ensures, c .before .before .reach-at .ensures, c .before .numbers-of .ensures, side-is c)
-    (missed-fits (s .args .l) (y .whose) (s .args .kept .now) (s .args .reach .now) (y .ready) (s .args .c) (s .args .k) (s .pre .2) (s .pre .1))
+    (missed-fits (s .args .l) (y .whose) (s .args .kept .now) (s .args .reach .now) (y .all-kept) (s .args .c) (s .args .k) (s .pre .axis) (s .pre .cube))
 
 returns : tie.Need-returns
 returns c =
@@ -43,7 +43,7 @@ returns c =
     let p = u .before .numbers-of .ensures in
     let w = side-is u in
     λ e t y.
-    one-missed (s .args .l) t (s .args .kept .now) (s .args .reach .now) y (s .args .c) (s .args .k) (s .pre .2)
+    one-missed (s .args .l) t (s .args .kept .now) (s .args .reach .now) y (s .args .c) (s .args .k) (s .pre .axis)
     (sym (λ i. apart (a i .span) (reachSpan (a i .axis) (r i) (p i) (w i))) ∙ sym (c .misses .ensures) ∙ e)
 
 pub is-beside-spec : {M : Type 1} → statement M

@@ -1,6 +1,4 @@
 -- `recount`: the block's own box is counted and written as its entry; a block has few points, so that 16 bits hold it. Assumes nothing.
-use mathlib.Core.Path.{_≡_, ap}
-use Prim.Native.Nat.{ℕ, _≤_}
 use borrow.Author.Needs.{needs}
 use Rattle.recounting.specs.Anew.{blockAnew}
 use Rattle.totals.proofs.Blocks.{block-small}
@@ -15,7 +13,7 @@ block-box-requires c κs = search needs
 
 box-marks-requires : tie.Need-box-marks-requires
 box-marks-requires c κs = let s = c .before .before .before .before in
-    (s .pre .0, s .pre .1, rw (c .block-box .ensures) (block-small (s .args .n) (s .args .c) (s .pre .3)))
+    (s .pre .sized, rw (c .block-box .ensures) (block-small (s .args .n) (s .args .c) (s .pre .block)))
 
 mul-table : tie.Need-mul-table
 mul-table c = search needs

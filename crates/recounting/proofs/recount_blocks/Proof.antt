@@ -1,12 +1,9 @@
 -- `recount_blocks` meets its contract. The loop's invariant: the layers from here on, counted anew, make of the table what all of them do. Assumes nothing.
-use mathlib.Core.Path.{_≡_, refl, ap, _∙_}
-use mathlib.Core.List.{List}
-use Prim.Native.Nat.{ℕ, _+_, _-_, _/_, _≤_, _<_}
+use mathlib.Core.Path.{_≡_, refl, _∙_}
+use Prim.Native.Nat.{_-_}
 use native.Mathlib.Omega.{arith}
-use borrow.Author.Needs.{needs}
 use lib.ListN.{length}
 use Rattle.rules.specs.Lists.{upto}
-use Rattle.totals.specs.Totals.{blockCount}
 use Rattle.recounting.specs.Anew.{over, layerAnew, boxAnew}
 use Rattle.recounting.proofs.Anew.{over-on, over-end}
 use Rattle.recounting.proofs.recount_blocks.Statement.{statement}
@@ -25,13 +22,18 @@ loop-holds c = (refl, refl)
 recount-layer-requires : tie.Need-recount-layer-requires Inv-loop μ-loop
 recount-layer-requires c κs =
     let s = c .before .before .before .before .before in
-    (s .pre .0, s .pre .1, omega (arith, s .pre .2, c .before .before .loop .inv .0), s .pre .3, omega (arith, s .pre .3, c .before .loop-test .taken))
+    record {
+      sized = s .pre .sized;
+      table-long = omega (arith, s .pre .table-long, c .before .before .loop .inv .0);
+      blocks = s .pre .blocks;
+      layer = omega (arith, s .pre .blocks, c .before .loop-test .taken);
+    }
 
 add-k : tie.Need-add-k Inv-loop μ-loop
 add-k c = omega (
   arith,
-  c .before .before .before .before .before .before .before .before .pre .0,
-  c .before .before .before .before .before .before .before .before .pre .3,
+  c .before .before .before .before .before .before .before .before .pre .sized .small,
+  c .before .before .before .before .before .before .before .before .pre .blocks,
   c .before .before .before .before .loop-test .taken,
 )
 

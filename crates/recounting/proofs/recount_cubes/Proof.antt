@@ -19,14 +19,14 @@ recount-cube-requires : tie.Need-recount-cube-requires
 recount-cube-requires c κs =
     let s = c .before .before .before .before .before .before .before .before .before .before in
     let u = c .before .before .before .before .before in
-    let e = c .before .before .before .cells .ensures in (
-      (e, s .pre .2, s .pre .3),
-      (
-        all-blocks (s .args .l) _ (ap (λ (n : ℕ). n / 4) e),
-        record { whose = s .args .t; ready = u .keep-all .ensures },
-        c .before .before .before .before .long-side .ensures,
-      ),
-    )
+    let e = c .before .before .before .cells .ensures in record {
+      cells-are = e;
+      grid-long = s .pre .grid-long;
+      table-long = s .pre .table-long;
+      cube = all-blocks (s .args .l) _ (ap (λ (n : ℕ). n / 4) e);
+      loaded = record { whose = s .args .t; all-kept = u .keep-all .ensures };
+      side-of = c .before .before .before .before .long-side .ensures;
+    }
 
 same-length : tie.Need-same-length
 same-length c = search needs
@@ -35,9 +35,9 @@ returns : tie.Need-returns
 returns c =
     let s = c .before .before .before .before .before .before .before .before .before .before .before .before .before in
     let u = c .before .before .before .before .before .before .before .before in
-    let m = c .before .before .recount-cube .ensures (s .args .t) (u .keep-all .ensures) (s .pre .1) in
+    let m = c .before .before .recount-cube .ensures (s .args .t) (u .keep-all .ensures) (s .pre .covers) in
     let e = c .before .before .before .before .before .before .cells .ensures in
-    whole-recounted (s .args .l) (s .args .t) (s .args .b) (s .pre .1) (s .args .grid .now) (rw e at m)
+    whole-recounted (s .args .l) (s .args .t) (s .args .b) (s .pre .covers) (s .args .grid .now) (rw e at m)
 
 pub recount-cubes-spec : {M : Type 1} → statement M
 recount-cubes-spec =

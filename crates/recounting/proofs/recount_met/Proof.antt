@@ -23,7 +23,12 @@ cells-in-requires c κs =
     let x = v X in
     let y = v Y in
     let z = v Z in
-    (omega arith, le-of-lt (x .some), le-of-lt (y .some), le-of-lt (z .some))
+    record {
+      on-grid = omega arith;
+      x-ordered = le-of-lt (x .some);
+      y-ordered = le-of-lt (y .some);
+      z-ordered = le-of-lt (z .some);
+    }
 
 cells-requires : tie.Need-cells-requires
 cells-requires c κs = search needs
@@ -32,7 +37,11 @@ recount-box-requires : tie.Need-recount-box-requires
 recount-box-requires c κs =
     let s = c .before .before .before .before .before .before .before in
     let l = s .args .l in
-    rw (c .before .cells .ensures) (cells-most l, s .pre .1, s .pre .2, covers-grid l (s .args .t) _ (c .before .before .before .before .box-of .ensures))
+    rw (c .before .cells .ensures) (record {
+      sized = record { small = cells-most l; long = s .pre .grid-long };
+      table-long = s .pre .table-long;
+      on-grid = covers-grid l (s .args .t) _ (c .before .before .before .before .box-of .ensures);
+    })
 
 same-length : tie.Need-same-length
 same-length c = search needs
@@ -45,12 +54,18 @@ returns c =
     let b = c .before .before .before .before .before .before .before .box-of .result in
     let v = c .before .before .before .before .before .before .before .box-of .ensures in
     let e = rw (c .before .before .before .before .cells .ensures) at (c .before .before .recount-box .ensures) in
-    rw e (box-recounted (cellsOf l) (s .args .grid .now) (s .args .table .now) (s .pre .2) (blocksOf b) (covers-blocks l x b v) (met l x) (box-reached l x b v))
+    rw e (box-recounted (cellsOf l) (s .args .grid .now) (s .args .table .now) (s .pre .table-long) (blocksOf b) (covers-blocks l x b v) (met l x)
+    (box-reached l x b v))
 
 recount-cubes-requires : tie.Need-recount-cubes-requires
 recount-cubes-requires c κs =
     let s = c .before .before .before .before .before .before in
-    (within-inside (s .args .l) (s .args .t) (s .pre .0), c .before .before .before .box-of .ensures, s .pre .1, s .pre .2)
+    record {
+      inside = within-inside (s .args .l) (s .args .t) (s .pre .within);
+      covers = c .before .before .before .box-of .ensures;
+      grid-long = s .pre .grid-long;
+      table-long = s .pre .table-long;
+    }
 
 same-length-2 : tie.Need-same-length-2
 same-length-2 c = search needs

@@ -12,7 +12,11 @@ cells-requires c κs = search needs
 patch-grid-requires : tie.Need-patch-grid-requires
 patch-grid-requires c κs =
     let s = c .before .before .before .before .before in
-    rw (c .before .before .cells .ensures) (cells-some (s .args .l), cells-most (s .args .l), s .pre .0 .long, s .pre .1, s .pre .0 .grid)
+    rw (c .before .before .cells .ensures) (record {
+      some = cells-some (s .args .l);
+      sized = record { small = cells-most (s .args .l); grid-long = s .pre .0 .long; work-long = s .pre .1 };
+      is-grid = s .pre .0 .grid;
+    })
 
 sign-grid-requires : tie.Need-sign-grid-requires
 sign-grid-requires c κs =
@@ -21,7 +25,11 @@ sign-grid-requires c κs =
     let s = sized .before .before .before in
     let p = patched .patch-grid in
     let h = patch-left (s .args .l) _ _ (rw (sized .cells .ensures) at (p .ensures lentTotals)) in
-    rw (sized .cells .ensures) ((cells-most (s .args .l), rw (p .kept .1 .0) (s .pre .0 .long)), (h .0, h .1))
+    rw (sized .cells .ensures) (record {
+      sized = record { small = cells-most (s .args .l); long = rw (p .kept .1 .0) (s .pre .0 .long) };
+      is-grid = h .0;
+      even = h .1;
+    })
 
 same-length : tie.Need-same-length
 same-length c = search needs

@@ -13,10 +13,10 @@ use Rattle.reporting.proofs.report.Tie as tie
 
 -- the work buffer is long enough
 work-long : (c : tie.Start) → pointsOf (c .args .l) ≤ length (c .args .work .now)
-work-long c = rw (c .pre .2) (bytes-long (c .args .l))
+work-long c = rw (c .pre .work-lent) (bytes-long (c .args .l))
 
 close-grid-requires : tie.Need-close-grid-requires
-close-grid-requires c κs = let s = c .before .before .before .before .before .before in (s .pre .1, work-long s)
+close-grid-requires c κs = let s = c .before .before .before .before .before .before in (s .pre .ready, work-long s)
 
 cells-requires : tie.Need-cells-requires
 cells-requires c κs = search needs
@@ -26,7 +26,7 @@ list-quads-requires c κs =
     let closed = c .before .before .before .before .before .before .before in
     let s = closed .before .before .before .before .before .before .before in
     let k = closed .close-grid in
-    rw (c .before .before .cells .ensures) (cells-most (s .args .l), k .ensures .long, k .ensures .grid)
+    rw (c .before .before .cells .ensures) (record { small = cells-most (s .args .l); long = k .ensures .long }, k .ensures .grid)
 
 enum-known-quads : tie.Need-enum-known-quads
 enum-known-quads c = search needs
@@ -45,8 +45,8 @@ put-listing-requires c κs =
     let s = closed .before .before .before .before .before .before .before in
     let q = listed .list-quads in
     let r = listed-room _ _ _ _ _ _ (rw (found .quads .given .1) at (q .ensures)) in
-    let e : length (s .args .list .now) ≡ 32768 = ap length (s .pre .3) ∙ list-long in
-    (omega (arith, r, e, s .pre .4), omega (arith, r, q .kept .1 .1 .0))
+    let e : length (s .args .list .now) ≡ 32768 = ap length (s .pre .list-lent) ∙ list-long in
+    (omega (arith, r, e, s .pre .out-room), omega (arith, r, q .kept .1 .1 .0))
 
 number-requires : tie.Need-number-requires
 number-requires c κs = search needs
@@ -77,11 +77,11 @@ returns c =
     let sized = listed .before .before .before in
     let closed = sized .before .before .before .before .before in
     let s = closed .before .before .before .before .before .before .before in
-    let k = rw (s .pre .2) at (closed .close-grid .ensures) in
+    let k = rw (s .pre .work-lent) at (closed .close-grid .ensures) in
     let p = c .before .before .put-listing .ensures in
-    let e = rw (found .quads .given .1, sized .cells .ensures, s .pre .3) at (listed .list-quads .ensures) in
+    let e = rw (found .quads .given .1, sized .cells .ensures, s .pre .list-lent) at (listed .list-quads .ensures) in
     let i = listing-is (s .args .l) _ k (s .args .triangles) _ _ _ e (counted .count-inside .ensures) in
-    (rw (s .pre .0, ← i) (rw (s .pre .0) at (p .0)), p .1)
+    (rw (s .pre .level-is, ← i) (rw (s .pre .level-is) at (p .0)), p .1)
 
 same-length-5 : tie.Need-same-length-5
 same-length-5 c = search needs
@@ -102,11 +102,11 @@ returns-2 c =
     let sized = listed .before .before .before in
     let closed = sized .before .before .before .before .before in
     let s = closed .before .before .before .before .before .before .before in
-    let k = rw (s .pre .2) at (closed .close-grid .ensures) in
+    let k = rw (s .pre .work-lent) at (closed .close-grid .ensures) in
     let p = c .before .before .put-refusal .ensures in
-    let e = rw (told .why .given .1, sized .cells .ensures, s .pre .3) at (listed .list-quads .ensures) in
+    let e = rw (told .why .given .1, sized .cells .ensures, s .pre .list-lent) at (listed .list-quads .ensures) in
     let i = refused-is (s .args .l) _ k (s .args .triangles) _ (told .why .given .0 .0) e in
-    (rw (s .pre .0, ← i, ← c .before .before .before .number .ensures) (p .0), p .1)
+    (rw (s .pre .level-is, ← i, ← c .before .before .before .number .ensures) (p .0), p .1)
 
 pub report-spec : {M : Type 1} → statement M
 report-spec =

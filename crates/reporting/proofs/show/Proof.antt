@@ -15,10 +15,10 @@ use Rattle.reporting.proofs.show.Tie as tie
 
 -- the work buffer is long enough
 work-long : (c : tie.Start) → pointsOf (c .args .l) ≤ length (c .args .work .now)
-work-long c = rw (c .pre .1) (bytes-long (c .args .l))
+work-long c = rw (c .pre .work-lent) (bytes-long (c .args .l))
 
 close-grid-requires : tie.Need-close-grid-requires
-close-grid-requires c κs = (c .before .before .before .before .before .pre .0, work-long (c .before .before .before .before .before))
+close-grid-requires c κs = (c .before .before .before .before .before .pre .ready, work-long (c .before .before .before .before .before))
 
 cells-requires : tie.Need-cells-requires
 cells-requires c κs = search needs
@@ -27,7 +27,11 @@ put-picture-requires : tie.Need-put-picture-requires
 put-picture-requires c κs =
     let s = c .before .before .before .before .before .before .before .before .before .before .before .before .before in
     let k = c .before .before .before .before .before .before .before .close-grid .ensures in
-    rw (c .before .cells .ensures) (cells-most (s .args .l), k .long, omega (arith, points-most (s .args .l), s .pre .2), k .grid)
+    rw (c .before .cells .ensures) (record {
+      sized = record { small = cells-most (s .args .l); long = k .long };
+      out-room = omega (arith, points-most (s .args .l), s .pre .out-room);
+      is-grid = k .grid;
+    })
 
 put-faces-requires : tie.Need-put-faces-requires
 put-faces-requires c κs =
@@ -35,7 +39,7 @@ put-faces-requires c κs =
     let cells = c .before .before .before .before .before .cells in
     let s = c .before .before .before .before .before .before .before .before .before .before .before .before .before .before .before .before .before in
     let p = rw (cells .ensures) at (put-picture .ensures .1) in
-    omega (arith, points-most (s .args .l), s .pre .2, p, put-picture .kept .0)
+    omega (arith, points-most (s .args .l), s .pre .out-room, p, put-picture .kept .0)
 
 same-length : tie.Need-same-length
 same-length c = search needs
@@ -55,8 +59,8 @@ returns c =
     let s = back .before .before .before .before .before .before .before .before .before .before in
     let p = rw (cells .ensures) at (put-picture .ensures) in
     let f = c .before .before .put-faces in (
-      rw (sym (picture-is (s .args .l) _ (rw (s .pre .1) at (close-grid .ensures)))) (put-both (p .0) (f .ensures .0)),
-      omega (arith, points-most (s .args .l), s .pre .2, p .1, f .ensures .1, put-picture .kept .0, f .kept .0),
+      rw (sym (picture-is (s .args .l) _ (rw (s .pre .work-lent) at (close-grid .ensures)))) (put-both (p .0) (f .ensures .0)),
+      omega (arith, points-most (s .args .l), s .pre .out-room, p .1, f .ensures .1, put-picture .kept .0, f .kept .0),
     )
 
 pub show-spec : {M : Type 1} → statement M

@@ -14,7 +14,11 @@ cells-requires c κs = search needs
 put-picture-requires : tie.Need-put-picture-requires
 put-picture-requires c κs =
     let s = c .before .before .before .before in
-    rw (c .cells .ensures) (cells-most (s .args .l), s .pre .0 .long, omega (arith, points-most (s .args .l), s .pre .1), s .pre .0 .grid)
+    rw (c .cells .ensures) (record {
+      sized = record { small = cells-most (s .args .l); long = s .pre .0 .long };
+      out-room = omega (arith, points-most (s .args .l), s .pre .1);
+      is-grid = s .pre .0 .grid;
+    })
 
 same-length : tie.Need-same-length
 same-length c = search needs

@@ -1,11 +1,10 @@
 -- `show_masks` puts the masks of the closed grid, which are those of the signs given; 5742 bytes hold the pictures of any level. Assumes nothing.
-use mathlib.Core.Path.{_≡_, sym}
-use Prim.Native.Nat.{suc, _+_, _≤_}
+use mathlib.Core.Path.{sym}
+use Prim.Native.Nat.{suc, _≤_}
 use native.Mathlib.Numerals.{add-one}
 use native.Mathlib.Omega.{arith}
-use lib.ListN.{length}
 use borrow.Author.Needs.{needs}
-use Rattle.lattice.specs.Levels.{cellsOf, pointsOf}
+use Rattle.lattice.specs.Levels.{cellsOf}
 use Rattle.lattice.proofs.LevelFacts.{cells-most}
 use Rattle.masks.proofs.Sizes.{pictures-most}
 use Rattle.masks.proofs.Shown.{masks-are, masks-length}
@@ -15,7 +14,7 @@ use Rattle.reporting.proofs.show_masks.Statement.{statement}
 use Rattle.reporting.proofs.show_masks.Tie as tie
 
 close-grid-requires : tie.Need-close-grid-requires
-close-grid-requires c κs = let s = c .before .before .before .before .before in (s .pre .0, rw (s .pre .1) (bytes-long (s .args .l)))
+close-grid-requires c κs = let s = c .before .before .before .before .before in (s .pre .ready, rw (s .pre .work-lent) (bytes-long (s .args .l)))
 
 cells-requires : tie.Need-cells-requires
 cells-requires c κs = search needs
@@ -32,7 +31,11 @@ put-masks-requires c κs =
     let s = closed .before .before .before .before .before .before in
     let n = cellsOf (s .args .l) in
     let small : suc n ≤ 33 = omega (arith, cells-most (s .args .l)) in
-    rw (c .cells .ensures, add-one n) (small, closed .close-grid .ensures .long, omega (arith, pictures-most (suc n) small, s .pre .2))
+    rw (c .cells .ensures, add-one n) (record {
+      small = small;
+      grid-room = closed .close-grid .ensures .long;
+      out-room = omega (arith, pictures-most (suc n) small, s .pre .out-room);
+    })
 
 same-length : tie.Need-same-length
 same-length c = search needs
@@ -47,13 +50,13 @@ returns : tie.Need-returns
 returns c =
     let closed = c .before .before .before .before .before .before .before .before .before .before in
     let s = closed .before .before .before .before .before .before in
-    let k = rw (s .pre .1) at (closed .close-grid .ensures) in
+    let k = rw (s .pre .work-lent) at (closed .close-grid .ensures) in
     let n = cellsOf (s .args .l) in
     let h = closed .close-grid .last .1 .0 in
     let small : suc n ≤ 33 = omega (arith, cells-most (s .args .l)) in
     let p = rw (c .before .before .before .cells .ensures, add-one n, ← masks-are n h) at (c .before .before .put-masks .ensures) in (
       rw (sym (masks-shown (s .args .l) _ k)) p,
-      omega (arith, p .place, masks-length n h, pictures-most (suc n) small, s .pre .2, c .before .before .put-masks .kept .0),
+      omega (arith, p .place, masks-length n h, pictures-most (suc n) small, s .pre .out-room, c .before .before .put-masks .kept .0),
     )
 
 pub show-masks-spec : {M : Type 1} → statement M

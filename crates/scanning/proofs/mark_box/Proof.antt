@@ -7,7 +7,7 @@ use native.Mathlib.Omega.{arith}
 use Rattle.lattice.specs.Levels.{cellsOf}
 use Rattle.lattice.proofs.LevelFacts.{cells-most}
 use Rattle.meeting.specs.Met.{met}
-use Rattle.corners.specs.Corner.{Keeps}
+use Rattle.corners.specs.Corner.{KeepsAxes}
 use Rattle.meeting.specs.Adding.{Added}
 use Rattle.meeting.proofs.Outside.{met-covered}
 use Rattle.scanning.proofs.Scanning.{rank, passed, Standing, covers-standing, standing-row, next-standing, next-later}
@@ -17,7 +17,7 @@ use Rattle.scanning.proofs.mark_box.Tie as tie
 
 abbrev Inv-loop : tie.InvT-loop
 Inv-loop l grid₀ t b kept₀ built₀ last c₀ grid kept built c =
-    Standing (cellsOf l) b c × (built ≤ 10) × Keeps l t built kept × Added (cellsOf l) (passed b c (met l t)) grid₀ grid
+    Standing (cellsOf l) b c × (built ≤ 10) × KeepsAxes l t built kept × Added (cellsOf l) (passed b c (met l t)) grid₀ grid
 
 abbrev μ-loop : tie.MeasureT-loop
 μ-loop l grid₀ t b kept₀ built₀ last c₀ grid kept built c = 4000 - rank c
@@ -26,7 +26,7 @@ loop-holds : tie.Need-loop-holds Inv-loop μ-loop
 loop-holds c =
     let s = c .before .before in
     let l = s .args .l in
-    let v = covers-standing l (s .args .t) (s .args .b) (s .pre .0 .1) in (
+    let v = covers-standing l (s .args .t) (s .args .b) (s .pre .covers) in (
       v,
       zero-le,
       record { long = refl; axis = λ k h. absurd (not-suc-le-zero h) },
@@ -38,7 +38,14 @@ mark-row-requires c κs =
     let s = c .before .before .before .before .before .before .before in
     let l = c .before .before .before .before .loop in
     let r = standing-row (cellsOf (s .args .l)) (cells-most (s .args .l)) (s .args .b) (l .c) (l .inv .0) (c .before .before .if1 .taken) in
-    ((s .pre .0 .0, l .inv .1, l .inv .2), (rw (l .inv .3 .long) (s .pre .1), s .pre .0 .1, r))
+    record {
+      inside = s .pre .inside;
+      built-most = l .inv .1;
+      keeps = l .inv .2;
+      grid-long = rw (l .inv .3 .long) (s .pre .grid-long);
+      covers = s .pre .covers;
+      row-of = r;
+    }
 
 next-row-requires : tie.Need-next-row-requires Inv-loop μ-loop
 next-row-requires c κs =
@@ -78,7 +85,7 @@ returns c =
     let s = c .before .before .before .before .before in
     let l = c .before .before .loop in
     passed-all (cellsOf (s .args .l)) (s .args .b) (cells-most (s .args .l)) (l .c) (l .inv .0) (c .if1 .left) (met (s .args .l) (s .args .t))
-    (λ a p e. met-covered (s .args .l) (s .args .t) a p (s .args .b) (s .pre .0 .1) e) (l .inv .3)
+    (λ a p e. met-covered (s .args .l) (s .args .t) a p (s .args .b) (s .pre .covers) e) (l .inv .3)
 
 pub mark-box-spec : {M : Type 1} → statement M
 mark-box-spec =

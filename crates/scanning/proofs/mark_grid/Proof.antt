@@ -31,12 +31,16 @@ returns c =
     let g = s .args .grid .now in
     let bare = sym (c .before .is-bare .ensures) ∙ c .if1 .taken in
     let a = bare-none (s .args .l) (s .args .t) (box-of .result) (box-of .ensures) bare g in
-    added-written (cellsOf (s .args .l)) (met (s .args .l) (s .args .t)) g g (s .pre .1 .0) (s .pre .1 .1) (s .pre .1 .2) a
+    added-written (cellsOf (s .args .l)) (met (s .args .l) (s .args .t)) g g (s .pre .1 .long) (s .pre .1 .grid) (s .pre .1 .unsigned) a
 
 mark-box-requires : tie.Need-mark-box-requires
 mark-box-requires c κs =
     let s = c .before .before .before .before .before in
-    ((within-inside (s .args .l) (s .args .t) (s .pre .0), c .before .before .before .box-of .ensures), s .pre .1 .0)
+    record {
+      inside = within-inside (s .args .l) (s .args .t) (s .pre .0);
+      covers = c .before .before .before .box-of .ensures;
+      grid-long = s .pre .1 .long;
+    }
 
 same-length : tie.Need-same-length
 same-length c = c .before .before .mark-box .ensures .long
@@ -46,7 +50,7 @@ unfolding marked
 returns-2 c =
     let a = c .before .before .mark-box .ensures in
     let s = c .before .before .before .before .before .before .before .before in
-    added-written (cellsOf (s .args .l)) (met (s .args .l) (s .args .t)) (s .args .grid .now) _ (s .pre .1 .0) (s .pre .1 .1) (s .pre .1 .2) a
+    added-written (cellsOf (s .args .l)) (met (s .args .l) (s .args .t)) (s .args .grid .now) _ (s .pre .1 .long) (s .pre .1 .grid) (s .pre .1 .unsigned) a
 
 pub mark-grid-spec : {M : Type 1} → statement M
 mark-grid-spec =

@@ -8,7 +8,7 @@ use Rattle.rules.specs.declared.Axis.the-variants.{X}
 use Rattle.lattice.specs.Levels.{cellsOf}
 use Rattle.lattice.proofs.LevelFacts.{cells-most}
 use Rattle.meeting.specs.Met.{met}
-use Rattle.corners.specs.Corner.{Keeps}
+use Rattle.corners.specs.Corner.{KeepsAxes}
 use Rattle.meeting.specs.Adding.{Added}
 use Rattle.scanning.specs.Scan.{inRun}
 use Rattle.corners.proofs.Planes.{covers-reaches}
@@ -18,7 +18,7 @@ use Rattle.scanning.proofs.mark_row.Tie as tie
 
 abbrev Inv-loop : tie.InvT-loop
 Inv-loop l grid₀ t kept₀ built b n past c₀ built₀ grid kept c built' =
-    (c₀ .i ≤ c .i) × (c .i ≤ b .hi .i) × (c .j ≡ c₀ .j) × (c .k ≡ c₀ .k) × (built' ≤ 10) × Keeps l t built' kept
+    (c₀ .i ≤ c .i) × (c .i ≤ b .hi .i) × (c .j ≡ c₀ .j) × (c .k ≡ c₀ .k) × (built' ≤ 10) × KeepsAxes l t built' kept
     × Added (cellsOf l) (inRun c₀ (c .i) (met l t)) grid₀ grid
 
 abbrev μ-loop : tie.MeasureT-loop
@@ -30,26 +30,34 @@ cells-requires c κs = search needs
 loop-holds : tie.Need-loop-holds Inv-loop μ-loop
 loop-holds c =
     let s = c .before .before in
-    let x = s .pre .1 .1 X .some in
-    let r = s .pre .1 .2 .in-i in
+    let x = s .pre .covers X .some in
+    let r = s .pre .row-of .in-i in
     let none = run-start (cellsOf (s .args .l)) (s .args .c) (met (s .args .l) (s .args .t)) (s .args .grid .now) in
-    (le-refl _, omega arith, refl, refl, s .pre .0 .1, s .pre .0 .2, none)
+    (le-refl _, omega arith, refl, refl, s .pre .built-most, s .pre .keeps, none)
 
 mark-cell-requires : tie.Need-mark-cell-requires Inv-loop μ-loop
 mark-cell-requires c κs =
     let l = c .before .before .before .before .loop in
     let i = l .inv in
     let s = c .before .before .before .before .before .before .before in
-    let v = s .pre .1 .1 in
-    let h = row-cell (s .args .l) (s .args .t) (s .args .b) v (s .args .c) (l .c) (s .pre .1 .2) (i .0) (c .before .before .if1 .taken) (i .2) (i .3) in
+    let v = s .pre .covers in
+    let h = row-cell (s .args .l) (s .args .t) (s .args .b) v (s .args .c) (l .c) (s .pre .row-of) (i .0) (c .before .before .if1 .taken) (i .2) (i .3) in
     let reaches = covers-reaches (s .args .l) (s .args .t) (s .args .b) v (l .c) (h .1) in
-    ((s .pre .0 .0, i .4, i .5), (c .before .before .before .before .before .cells .ensures, rw (i .6 .long) (s .pre .1 .0), h .0, reaches))
+    record {
+      inside = s .pre .inside;
+      built-most = i .4;
+      keeps = i .5;
+      cells-are = c .before .before .before .before .before .cells .ensures;
+      grid-long = rw (i .6 .long) (s .pre .grid-long);
+      cell = h .0;
+      reaches = reaches;
+    }
 
 add-c : tie.Need-add-c Inv-loop μ-loop
 add-c c =
     let s = c .before .before .before .before .before .before .before .before .before .before .before in
     let m = cells-most (s .args .l) in
-    let x = s .pre .1 .1 X .most in
+    let x = s .pre .covers X .most in
     omega arith
 
 loop-less : tie.Need-loop-less Inv-loop μ-loop

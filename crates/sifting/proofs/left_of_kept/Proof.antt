@@ -22,7 +22,7 @@ abbrev μ-loop : tie.MeasureT-loop
 
 loop-holds : tie.Need-loop-holds Inv-loop μ-loop
 unfolding noneParts
-loop-holds c = (omega arith, c .pre .0, λ a. sym (&&-true (has a (c .args .left))))
+loop-holds c = (omega arith, c .pre .left-fits, λ a. sym (&&-true (has a (c .args .left))))
 
 returns : tie.Need-returns Inv-loop μ-loop
 returns c =
@@ -34,15 +34,15 @@ returns c =
     (l .inv .1, λ a. none a ∙ sym (further a (has a (s .args .left)) (l .k) (s .args .built) (l .inv .0) (sym (l .inv .2 a) ∙ none a)))
 
 kept-at-requires : tie.Need-kept-at-requires Inv-loop μ-loop
-kept-at-requires c κs = let h = c .before .before .before .pre .1 in omega arith
+kept-at-requires c κs = let h = c .before .before .before .pre .built-most in omega arith
 
 still-left-requires : tie.Need-still-left-requires Inv-loop μ-loop
 still-left-requires c κs =
     let l = c .before .before .before .loop in
-    (l .inv .1, rw (c .kept-at .ensures) (c .before .before .before .before .pre .2 (l .k) (c .before .before .loop-test .taken)))
+    (l .inv .1, rw (c .kept-at .ensures) (c .before .before .before .before .pre .fits-kept (l .k) (c .before .before .loop-test .taken)))
 
 add-k : tie.Need-add-k Inv-loop μ-loop
-add-k c = let h = c .before .before .before .before .before .pre .1 in omega arith
+add-k c = let h = c .before .before .before .before .before .pre .built-most in omega arith
 
 loop-less : tie.Need-loop-less Inv-loop μ-loop
 loop-less c = omega arith

@@ -13,7 +13,7 @@ use Rattle.lattice.specs.Cells.{indexOf}
 use Rattle.lattice.proofs.LevelFacts.{cells-most, side-most}
 use Rattle.triangles.specs.Vectors.{zeroVector}
 use Rattle.triangles.specs.Keeping.{laterAxes, keptOf, parts}
-use Rattle.corners.specs.Corner.{Keeps, restLeft}
+use Rattle.corners.specs.Corner.{KeepsAxes, restLeft}
 use Rattle.meeting.proofs.Within.{up-to}
 use Rattle.triangles.proofs.Held.{held, plain}
 use Rattle.meeting.proofs.Adding.{cell-wide}
@@ -23,13 +23,13 @@ use Rattle.sifting.proofs.left_of_rest.Tie as tie
 
 abbrev Inv-loop : tie.InvT-loop
 Inv-loop l t kept₀ built c left left₀ k₀ kept left' k =
-    (k ≤ 10) × (left' < 8) × Keeps l t k kept × ((a : Axis) → restLeft l t k c a (has a left') ≡ restLeft l t built c a (has a left))
+    (k ≤ 10) × (left' < 8) × KeepsAxes l t k kept × ((a : Axis) → restLeft l t k c a (has a left') ≡ restLeft l t built c a (has a left))
 
 abbrev μ-loop : tie.MeasureT-loop
 μ-loop l t kept₀ built c left left₀ k₀ kept left' k = 10 - k
 
 loop-holds : tie.Need-loop-holds Inv-loop μ-loop
-loop-holds c = let p = c .pre in (p .2, p .1, p .3, λ a. refl)
+loop-holds c = let p = c .pre in (p .built-most, p .left-fits, p .keeps, λ a. refl)
 
 returns : tie.Need-returns Inv-loop μ-loop
 returns c =
@@ -50,7 +50,11 @@ side-is : (c : tie.After-signed Inv-loop μ-loop) → held (c .signed .result) �
 side-is c = plain (c .signed .result) (c .signed .ok) ∙ c .signed .ensures ∙ ap pos (c .before .side .ensures)
 
 kept-requires : tie.Need-kept-requires Inv-loop μ-loop
-kept-requires c κs = let s = c .before .before .before .before .before in (s .pre .0, (omega arith, rw (side-is c) (up-to (side-most (s .args .l)))))
+kept-requires c κs = let s = c .before .before .before .before .before in record {
+  inside = s .pre .inside;
+  axis = omega arith;
+  side-fits = rw (side-is c) (up-to (side-most (s .args .l)));
+}
 
 -- the axis that is built
 axis-is : (c : tie.After-kept Inv-loop μ-loop) →
@@ -65,13 +69,13 @@ keep-requires c κs = omega arith
 numbers-of-requires : tie.Need-numbers-of-requires Inv-loop μ-loop
 numbers-of-requires c κs =
     let s = c .before .before .before .before .before .before .before .before in
-    cell-wide (cellsOf (s .args .l)) (s .args .c) (cells-most (s .args .l)) (s .pre .4)
+    cell-wide (cellsOf (s .args .l)) (s .args .c) (cells-most (s .args .l)) (s .pre .cell)
 
 still-left-requires : tie.Need-still-left-requires Inv-loop μ-loop
 still-left-requires c κs =
     let s = c .before .before .before .before .before .before .before .before .before in
     let l = c .before .before .before .before .before .before .before .before .loop in
-    let fits = kept-fits (s .args .l) (s .args .t) (s .pre .0) (l .k) (s .args .c) (s .pre .4) in
+    let fits = kept-fits (s .args .l) (s .args .t) (s .pre .inside) (l .k) (s .args .c) (s .pre .cell) in
     (l .inv .1, rw (axis-is (c .before .before .before), c .numbers-of .ensures) fits)
 
 add-k : tie.Need-add-k Inv-loop μ-loop

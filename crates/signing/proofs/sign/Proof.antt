@@ -64,7 +64,7 @@ returns-2 c = simp (level-read (c .before) .0, level-read (c .before) .1, lt-ltb
 is-grid-requires : tie.Need-is-grid-requires
 is-grid-requires c κs =
     let l = c .before .before .before .before .before .l in
-    rw (c .before .before .before .cells .ensures) (cells-most (l .given .0 .0), grid-long (c .before))
+    rw (c .before .before .before .cells .ensures) (record { small = cells-most (l .given .0 .0); long = grid-long (c .before) })
 
 same-length : tie.Need-same-length
 same-length c = search needs
@@ -82,7 +82,11 @@ all-even-requires c κs =
     let place = c .before .before .before .before in
     let cells = c .before .before .before .before .before .before .cells in
     let l = c .before .before .before .before .before .before .before .before .l in
-    rw (cells .ensures) (cells-some (l .given .0 .0), cells-most (l .given .0 .0), grid-long (place), a-grid (c .before))
+    rw (cells .ensures) (record {
+      some = cells-some (l .given .0 .0);
+      sized = record { small = cells-most (l .given .0 .0); long = grid-long (place) };
+      is-grid = a-grid (c .before);
+    })
 
 same-length-2 : tie.Need-same-length-2
 same-length-2 c = search needs
@@ -102,7 +106,11 @@ sign-grid-requires c κs =
     let place = c .before .before .before .before .before .before .before in
     let cells = c .before .before .before .before .before .before .before .before .before .cells in
     let l = c .before .before .before .before .before .before .before .before .before .before .before .l in
-    rw (cells .ensures) ((cells-most (l .given .0 .0), grid-long (place)), (a-grid (place-2), even (c .before)))
+    rw (cells .ensures) (record {
+      sized = record { small = cells-most (l .given .0 .0); long = grid-long (place) };
+      is-grid = a-grid (place-2);
+      even = even (c .before);
+    })
 
 same-length-3 : tie.Need-same-length-3
 same-length-3 c = search needs

@@ -66,8 +66,8 @@ loop-again c =
     let E = marks n g in
     let h : q .p < pointCount n = omega arith in
     let k = q .inv .3 (q .p) (omega arith) in
-    let e = ap (λ (b : ℕ). b % 8) k ∙ low-byte n g (s .pre .0 .1) (s .pre .1 .0) (q .p) h in
-    let next = sign-next n g (s .pre .0 .1) (s .pre .1 .0) (s .pre .1 .1) (q .p) h in (
+    let e = ap (λ (b : ℕ). b % 8) k ∙ low-byte n g (s .pre .sized .long) (s .pre .is-grid) (q .p) h in
+    let next = sign-next n g (s .pre .sized .long) (s .pre .is-grid) (s .pre .even) (q .p) h in (
       q .inv .0,
       omega arith,
       length-set (q .grid) (q .p) _ ∙ q .inv .2,
@@ -90,7 +90,7 @@ returns c =
     ∙ q .inv .5
     ∙ ap (λ (k : ℕ). sets (s .args .grid .now) 0 (map (signOf n E) (upto 0 k))) (let e : pointCount n - 0 ≡ pointCount n = omega arith in e)
     ∙ ap (λ (l : List ℕ). sets (s .args .grid .now) 0 l) (sym (signs-by-number n E))
-    ∙ written (s .args .grid .now) (signBytes n E) (pointCount n) (signs-length n E) (s .pre .0 .1)
+    ∙ written (s .args .grid .now) (signBytes n E) (pointCount n) (signs-length n E) (s .pre .sized .long)
 
 pub sign-grid-spec : {M : Type 1} → statement M
 sign-grid-spec =

@@ -105,7 +105,12 @@ put-triangles-requires c κs =
     let if3 = c .before .before .before .before .if3 in
     let first-fault = c .before .before .before .first-fault in
     let r = right-length (start .args .file .now) (holds (the-right-length .ensures) (if1 .left)) in
-    ((rw (word-at .ensures) (omega (arith, r .1)), told at-s .small, if3 .left), sym (first-fault .ensures) ∙ c .before .enum-told3 .given .1)
+    record {
+      file-room = rw (word-at .ensures) (omega (arith, r .1));
+      scale = told at-s .small;
+      list-room = if3 .left;
+      clear = sym (first-fault .ensures) ∙ c .before .enum-told3 .given .1;
+    }
 
 returns-5 : tie.Need-returns-5
 returns-5 c =

@@ -1,16 +1,15 @@
 -- `feed_records` meets its contract. The loop's invariant: what is left from here comes to the whole. Assumes nothing.
-use mathlib.Core.Path.{_≡_, refl, sym, ap, _∙_}
+use mathlib.Core.Path.{_≡_, refl, ap, _∙_}
 use mathlib.Core.List.{List, [], _++_}
 use Prim.Native.Nat.{ℕ, _+_, _-_, _/_, _%_, _≤_, _<_}
 use native.Mathlib.Omega.{arith}
 use lib.ListN.{length, take, drop, drop-of-length-le, length-drop}
 use lib.Seq.{length-take-le}
-use borrow.Author.Needs.{needs}
 use Rattle.lattice.specs.Levels.{numberOf}
+use Rattle.lattice.specs.Buffers.{Ready}
 use Rattle.rounding.specs.Scales.{exponentOf}
-use Rattle.feeding.specs.Feed.{Ready}
 use Rattle.stl_feeding.specs.Taken.{taken}
-use Rattle.stl_feeding.specs.Feed.{Whole}
+use Rattle.stl_feeding.specs.Feed.{UncutRecords}
 use Rattle.stl_feeding.proofs.Taken.{block-done, block-short, block-refused, block-next}
 use Rattle.stl_feeding.proofs.feed_records.Statement.{statement}
 use Rattle.stl_feeding.proofs.feed_records.Tie as tie
@@ -23,7 +22,7 @@ Inv-loop l grid₀ s shift all count block triangles₀ at₀ grid triangles at 
     × (triangles ≤ all)
     × (length grid ≡ length grid₀)
     × Ready l grid
-    × ((rest : List ℕ) → Whole block rest → taken (numberOf l) (exponentOf s) shift (all - count) (block ++ rest) count grid₀
+    × ((rest : List ℕ) → UncutRecords block rest → taken (numberOf l) (exponentOf s) shift (all - count) (block ++ rest) count grid₀
     ≡ taken (numberOf l) (exponentOf s) shift (all - triangles) (drop at block ++ rest) triangles grid)
 
 abbrev μ-loop : tie.MeasureT-loop
@@ -34,7 +33,7 @@ here : (at : ℕ) (block : List ℕ) → take (at + 50 - at) (drop at block) ≡
 here at block = let e : at + 50 - at ≡ 50 = omega arith in ap (λ (k : ℕ). take k (drop at block)) e
 
 loop-holds : tie.Need-loop-holds Inv-loop μ-loop
-loop-holds c = let s = c .before .before in (omega arith, refl, omega arith, s .pre .0, refl, s .pre .2, λ rest w. refl)
+loop-holds c = let s = c .before .before in (omega arith, refl, omega arith, s .pre .count-most, refl, s .pre .ready, λ rest w. refl)
 
 same-length : tie.Need-same-length Inv-loop μ-loop
 same-length c = c .before .before .loop .inv .4
@@ -89,12 +88,12 @@ mark-record-requires c κs =
     let c5 = c2 .before .before .before in
     let c8 = c5 .before .before .before in
     let l = c5 .loop in
-    let a = c8 .args in (
-      ap length (here (l .at) (a .block .now))
-          ∙ length-take-le 50 (drop (l .at) (a .block .now)) (omega (arith, length-drop (l .at) (a .block .now), c2 .if2 .left)),
-      c8 .pre .1,
-      l .inv .5,
-    )
+    let a = c8 .args in record {
+      bytes-long = ap length (here (l .at) (a .block .now))
+          ∙ length-take-le 50 (drop (l .at) (a .block .now)) (omega (arith, length-drop (l .at) (a .block .now), c2 .if2 .left));
+      scale = c8 .pre .scale;
+      ready = l .inv .5;
+    }
 
 same-length-3 : tie.Need-same-length-3 Inv-loop μ-loop
 same-length-3 c = c .before .before .before .mark-record .kept .1 .0 ∙ c .before .before .before .before .before .before .before .before .before .loop .inv .4

@@ -1,8 +1,6 @@
 -- `mark_record`: what is wrong with a vertex is told first; where nothing is, the numbers are placed and marked. Assumes nothing.
-use mathlib.Core.Path.{refl, sym, ap, _∙_}
-use Prim.Native.Nat.{_≤_}
+use mathlib.Core.Path.{sym, ap, _∙_}
 use native.Mathlib.Omega.{arith}
-use lib.ListN.{length}
 use borrow.Author.Needs.{needs}
 use Rattle.stl_feeding.specs.Taken.{faultNumber}
 use Rattle.stl_feeding.proofs.Taken.{recorded-fault, recorded-mark}
@@ -24,7 +22,8 @@ enum-told-3 c = search needs
 placed-numbers-requires : tie.Need-placed-numbers-requires
 placed-numbers-requires c κs =
     let s = c .before .before .before .before .before .before in
-    (omega (arith, s .pre .0), s .pre .1, sym (c .before .before .before .triangle-fault .ensures) ∙ c .before .enum-told3 .given .1)
+    let clear = sym (c .before .before .before .triangle-fault .ensures) ∙ c .before .enum-told3 .given .1 in
+    record { bytes-room = omega (arith, s .pre .bytes-long); scale = s .pre .scale; clear = clear }
 
 slice-aggregate-mark-numbers : tie.Need-slice-aggregate-mark-numbers
 slice-aggregate-mark-numbers c = search needs
@@ -35,12 +34,14 @@ mark-numbers-requires c κs = search needs
 returns : tie.Need-returns
 returns c =
     let s = c .before .before .before .before .before in
-    recorded-fault (s .args .l) _ _ _ _ _ (s .pre .0) (c .before .before .triangle-fault .ensures) (s .pre .2) 11 (ap faultNumber (c .enum-told .given .1))
+    recorded-fault (s .args .l) _ _ _ _ _ (s .pre .bytes-long) (c .before .before .triangle-fault .ensures) (s .pre .ready) 11
+    (ap faultNumber (c .enum-told .given .1))
 
 returns-2 : tie.Need-returns-2
 returns-2 c =
     let s = c .before .before .before .before .before in
-    recorded-fault (s .args .l) _ _ _ _ _ (s .pre .0) (c .before .before .triangle-fault .ensures) (s .pre .2) 12 (ap faultNumber (c .enum-told2 .given .1))
+    recorded-fault (s .args .l) _ _ _ _ _ (s .pre .bytes-long) (c .before .before .triangle-fault .ensures) (s .pre .ready) 12
+    (ap faultNumber (c .enum-told2 .given .1))
 
 same-length : tie.Need-same-length
 same-length c = search needs
@@ -53,7 +54,7 @@ returns-3 c =
     let c8 = c6 .before .before in
     let c11 = c8 .before .before .before in
     let s = c11 in
-    recorded-mark (s .args .l) _ _ _ _ _ (s .pre .0) (c8 .triangle-fault .ensures) (s .pre .2) (c6 .enum-told3 .given .1) _
+    recorded-mark (s .args .l) _ _ _ _ _ (s .pre .bytes-long) (c8 .triangle-fault .ensures) (s .pre .ready) (c6 .enum-told3 .given .1) _
     (c4 .placed-numbers .ensures) _ _ (c2 .mark-numbers .ensures)
 
 pub mark-record-spec : {M : Type 1} → statement M

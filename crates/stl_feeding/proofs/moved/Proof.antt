@@ -1,12 +1,7 @@
 -- `moved` meets its contract: the sum of two numbers of 32 bits fits in 64, and what lies between the ends in 32. Assumes nothing.
-use mathlib.Core.Path.{_≡_, _∙_, sym}
-use mathlib.Core.Bool.{true, false}
-use mir.Syntax.{w32}
+use mathlib.Core.Path.{_∙_}
 use mir.Facts.{toZ-ofZ}
-use lib.IntN.{ℤ, pos, negsuc, _+ℤ_}
-use lib.Signed.{ltZ}
 use borrow.Author.Needs.{needs}
-use Rattle.triangles.proofs.Held.{held as read}
 use Rattle.stl_feeding.specs.Placed.{held}
 use Rattle.stl_feeding.proofs.Placed.{Summed, summed, between}
 use Rattle.stl_feeding.proofs.moved.Statement.{statement}

@@ -1,7 +1,7 @@
 -- `placed_numbers` meets its contract. The loop's invariant: what is moved, and what is left moved too, comes to the whole. Assumes nothing.
-use mathlib.Core.Path.{_≡_, refl, sym, ap, _∙_}
+use mathlib.Core.Path.{_≡_, sym, ap, _∙_}
 use mathlib.Core.List.{_++_}
-use Prim.Native.Nat.{_+_, _-_, _≤_}
+use Prim.Native.Nat.{_-_, _≤_}
 use native.Mathlib.Omega.{arith}
 use lib.IntN.{ℤ, pos, _+ℤ_}
 use lib.ListN.{length, getD, take, drop, length-set}
@@ -32,7 +32,7 @@ slice-aggregate-put-triangle c = search needs
 put-triangle-requires : tie.Need-put-triangle-requires Inv-loop μ-loop
 put-triangle-requires c κs =
     let s = c .before .before in
-    ((omega (arith, s .pre .0), s .pre .1, omega arith), s .pre .2)
+    record { file-room = omega (arith, s .pre .bytes-room); scale = s .pre .scale; list-room = omega arith; clear = s .pre .clear }
 
 loop-holds : tie.Need-loop-holds Inv-loop μ-loop
 unfolding triangleNumbers

@@ -35,12 +35,12 @@ returns c =
     let x = coordinate .ensures ∙ ap (λ (k : ℕ). coordOf k e) (centre .ensures .0) in
     let y = c .before .before .coordinate2 .ensures ∙ ap (λ (k : ℕ). coordOf k e) (c .before .before .before .centre2 .ensures .0) in
     let z = c .coordinate3 .ensures ∙ ap (λ (k : ℕ). coordOf k e) (c .before .centre3 .ensures .0) in
-    let p = a .pre .2 in (
+    let p = a .pre .placed in (
       (λ i. record { x = x i; y = y i; z = z i }),
       record {
-        at-x = rw x (centre-number (a .args .side) (a .args .c .i) (a .args .s) (a .pre .0) (p .on-i) (a .pre .1));
-        at-y = rw y (centre-number (a .args .side) (a .args .c .j) (a .args .s) (a .pre .0) (p .on-j) (a .pre .1));
-        at-z = rw z (centre-number (a .args .side) (a .args .c .k) (a .args .s) (a .pre .0) (p .on-k) (a .pre .1));
+        at-x = rw x (centre-number (a .args .side) (a .args .c .i) (a .args .s) (a .pre .side-least) (p .on-i) (a .pre .scale));
+        at-y = rw y (centre-number (a .args .side) (a .args .c .j) (a .args .s) (a .pre .side-least) (p .on-j) (a .pre .scale));
+        at-z = rw z (centre-number (a .args .side) (a .args .c .k) (a .args .s) (a .pre .side-least) (p .on-k) (a .pre .scale));
       },
     )
 

@@ -29,7 +29,7 @@ returns c =
     let vertex-at = c .before .before .vertex-at in
     absurd
     (clear-finite (isNear (exponentOf (start .args .s))) (start .args .file .now) (start .args .from) _
-    (sym (c .enum-told .given .1) ∙ vertex-at .ensures) (start .pre .1))
+    (sym (c .enum-told .given .1) ∙ vertex-at .ensures) (start .pre .clear))
 
 rounded-requires : tie.Need-rounded-requires
 rounded-requires c κs =
@@ -37,12 +37,12 @@ rounded-requires c κs =
     let shared-slice-known = c .before .before .before .before .shared-slice-known in
     let vertex-at = c .before .before .before .vertex-at in
     let is : Finite (c .before .p .given .0 .0) ≡ vertexAt (start .args .file .now) (start .args .from) = sym (c .before .p .given .1) ∙ vertex-at .ensures in
-    let t = place-told _ _ _ (shared-slice-known .given) is in (
-      t .number-x,
-      start .pre .0 .1,
-      rw (t .bits-x)
-          (near-each (isNear (exponentOf (start .args .s))) (start .args .file .now) (start .args .from) _ is (start .pre .1) .0),
-    )
+    let t = place-told _ _ _ (shared-slice-known .given) is in record {
+      no-nan = t .number-x;
+      scale = start .pre .scale;
+      near = rw (t .bits-x)
+          (near-each (isNear (exponentOf (start .args .s))) (start .args .file .now) (start .args .from) _ is (start .pre .clear) .0);
+    }
 
 mul-list : tie.Need-mul-list
 mul-list c = search needs
@@ -57,12 +57,12 @@ rounded-requires-2 c κs =
     let vertex-at = c .before .before .before .before .vertex-at in
     let p = c .before .before .p in
     let is : Finite (p .given .0 .0) ≡ vertexAt (start .args .file .now) (start .args .from) = sym (p .given .1) ∙ vertex-at .ensures in
-    let t = place-told _ _ _ (shared-slice-known .given) is in (
-      t .number-y,
-      start .pre .0 .1,
-      rw (t .bits-y)
-          (near-each (isNear (exponentOf (start .args .s))) (start .args .file .now) (start .args .from) _ is (start .pre .1) .1),
-    )
+    let t = place-told _ _ _ (shared-slice-known .given) is in record {
+      no-nan = t .number-y;
+      scale = start .pre .scale;
+      near = rw (t .bits-y)
+          (near-each (isNear (exponentOf (start .args .s))) (start .args .file .now) (start .args .from) _ is (start .pre .clear) .1);
+    }
 
 add-list : tie.Need-add-list
 add-list c = search needs
@@ -80,12 +80,12 @@ rounded-requires-3 c κs =
     let vertex-at = c .before .before .before .before .before .vertex-at in
     let p = c .before .before .before .p in
     let is : Finite (p .given .0 .0) ≡ vertexAt (start .args .file .now) (start .args .from) = sym (p .given .1) ∙ vertex-at .ensures in
-    let t = place-told _ _ _ (shared-slice-known .given) is in (
-      t .number-z,
-      start .pre .0 .1,
-      rw (t .bits-z)
-          (near-each (isNear (exponentOf (start .args .s))) (start .args .file .now) (start .args .from) _ is (start .pre .1) .2),
-    )
+    let t = place-told _ _ _ (shared-slice-known .given) is in record {
+      no-nan = t .number-z;
+      scale = start .pre .scale;
+      near = rw (t .bits-z)
+          (near-each (isNear (exponentOf (start .args .s))) (start .args .file .now) (start .args .from) _ is (start .pre .clear) .2);
+    }
 
 add-t11 : tie.Need-add-t11
 add-t11 c = search needs

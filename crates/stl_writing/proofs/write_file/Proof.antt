@@ -2,7 +2,7 @@
 use borrow.Author.Needs.{needs}
 use Rattle.stl_writing.proofs.write_file.Statement.{statement}
 use Rattle.stl_writing.proofs.write_file.Tie as tie
-use mathlib.Core.Path.{_≡_, sym, _∙_}
+use mathlib.Core.Path.{sym, _∙_}
 use Rattle.rules.specs.Grid.{marks, inside}
 use Rattle.rounding.specs.Scales.{exponentOf}
 use Rattle.stl_records.specs.File.{facings}

@@ -2,9 +2,7 @@
 use borrow.Author.Needs.{needs}
 use Rattle.stl_writing.proofs.write_stl.Statement.{statement}
 use Rattle.stl_writing.proofs.write_stl.Tie as tie
-use mathlib.Core.Path.{_≡_, sym, ap, _∙_}
-use mathlib.Core.List.{List}
-use Prim.Native.Nat.{ℕ, _*_}
+use mathlib.Core.Path.{sym, ap, _∙_}
 use borrow.Author.Tests.{lt-ltb, le-ltb}
 use mir.Syntax.{w32}
 use mir.ValLaws.{toZ-ofZ}
@@ -12,7 +10,7 @@ use Rattle.rules.specs.Grid.{marks, inside}
 use Rattle.lattice.proofs.LevelFacts.{cells-most, side-whole}
 use Rattle.lattice.proofs.Tests.{fails, holds}
 use Rattle.refusals.proofs.Levels.{read-unknown, read-known}
-use Rattle.rounding.specs.Scales.{scaleOf, exponentOf}
+use Rattle.rounding.specs.Scales.{scaleOf}
 use Rattle.rounding.proofs.Scaled.{scale-told, scale-bad}
 use Rattle.stl_records.specs.File.{facings}
 use Rattle.stl_writing.specs.Call.{written, writeRows, writeCall}
@@ -71,7 +69,7 @@ is-grid-requires c κs =
     let cells = c .before .before .before .before .before .before .cells in
     let l = c .before .before .before .before .before .before .before .before .l in
     let long = rw (points .ensures) at (if1 .left) in
-    rw (cells .ensures) (cells-most (l .given .0 .0), long)
+    rw (cells .ensures) (record { small = cells-most (l .given .0 .0); long = long })
 
 returns-4 : tie.Need-returns-4
 unfolding writeRows writeCall
@@ -99,7 +97,7 @@ signs-fit-requires c κs =
     let l = c .before .before .before .before .before .before .before .before .before .before .l in
     let long = rw (points .ensures) at (if1 .left) in
     let grid = holds (rw (cells .ensures) at (c .before .is-grid .ensures)) (c .if2 .left) in
-    rw (cells .ensures) (cells-most (l .given .0 .0), long, grid)
+    rw (cells .ensures) (record { small = cells-most (l .given .0 .0); long = long }, grid)
 
 returns-5 : tie.Need-returns-5
 unfolding writeRows writeCall
@@ -140,7 +138,12 @@ write-file-requires c κs =
     let long = rw (points .ensures) at (if1 .left) in
     let scale = scale-told (start .args .e) (s-told .given .0 .0) (sym (s-told .given .1) ∙ scale-of .ensures ∙ ap scaleOf (toZ-ofZ w32 _ (fits .e))) in
     let grid = holds (rw (cells .ensures) at (is-grid .ensures)) (if2 .left) in
-    rw (cells .ensures, c .before .side .ensures) (cells-most (l .given .0 .0), side-whole (l .given .0 .0), scale .small, long, grid)
+    rw (cells .ensures, c .before .side .ensures) (record {
+      sized = record { small = cells-most (l .given .0 .0); long = long };
+      side-is = side-whole (l .given .0 .0);
+      scale = scale .small;
+      is-grid = grid;
+    })
 
 same-length : tie.Need-same-length
 same-length c = search needs

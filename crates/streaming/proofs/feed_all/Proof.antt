@@ -5,11 +5,11 @@ use Prim.Native.Nat.{_-_, _≤_}
 use native.Mathlib.Omega.{arith}
 use lib.ListN.{length}
 use borrow.Author.Needs.{needs}
-use Rattle.feeding.specs.Feed.{Ready}
 use Rattle.streaming.specs.Read.{Came}
 use Rattle.streaming.proofs.Blocks.{came-more, came-end}
 use Rattle.streaming.proofs.feed_all.Statement.{statement}
 use Rattle.streaming.proofs.feed_all.Tie as tie
+use Rattle.lattice.specs.Buffers.{Ready}
 
 abbrev Inv-loop : tie.InvT-loop
 Inv-loop l grid₀ triangles₀ block₀ grid triangles block =

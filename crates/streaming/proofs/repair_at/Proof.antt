@@ -45,14 +45,13 @@ report-requires c κs =
     let empty-list = c .before .before .before .before .empty-list in
     let empty-grid2 = c6 .before .empty-grid2 in
     let feed-all = c12 .feed-all in
-    let start = c12 .before .before .before .before in (
-      start .pre .0,
-      feed-all .ensures .ready,
-      empty-grid2 .ensures ∙ bytes-lent,
-      empty-list .ensures ∙ list-lent,
-      rw
-          (c .before .before .before .before .before .enum-told .given .1) at (start .pre .1),
-    )
+    let start = c12 .before .before .before .before in record {
+      level-is = start .pre .0;
+      ready = feed-all .ensures .ready;
+      work-lent = empty-grid2 .ensures ∙ bytes-lent;
+      list-lent = empty-list .ensures ∙ list-lent;
+      out-room = rw (c .before .before .before .before .before .enum-told .given .1) at (start .pre .1);
+    }
 
 enum-told-2 : tie.Need-enum-told-2
 enum-told-2 c = search needs
@@ -68,7 +67,11 @@ show-requires c κs =
     let empty-grid2 = c .before .before .before .before .before .empty-grid2 in
     let feed-all = c .before .before .before .before .before .before .before .before .before .before .feed-all in
     let start = c .before .before .before .before .before .before .before .before .before .before .before .before .before .before in
-    (feed-all .ensures .ready, empty-grid2 .ensures ∙ bytes-lent, omega (arith, rw (c .before .before .before .enum-told2 .given .1) at (start .pre .1)))
+    record {
+      ready = feed-all .ensures .ready;
+      work-lent = empty-grid2 .ensures ∙ bytes-lent;
+      out-room = omega (arith, rw (c .before .before .before .enum-told2 .given .1) at (start .pre .1));
+    }
 
 enum-told-3 : tie.Need-enum-told-3
 enum-told-3 c = search needs
@@ -84,7 +87,11 @@ show-masks-requires c κs =
     let empty-grid2 = c .before .before .before .before .before .empty-grid2 in
     let feed-all = c .before .before .before .before .before .before .before .before .before .before .feed-all in
     let start = c .before .before .before .before .before .before .before .before .before .before .before .before .before .before in
-    (feed-all .ensures .ready, empty-grid2 .ensures ∙ bytes-lent, omega (arith, rw (c .before .before .before .enum-told3 .given .1) at (start .pre .1)))
+    record {
+      ready = feed-all .ensures .ready;
+      work-lent = empty-grid2 .ensures ∙ bytes-lent;
+      out-room = omega (arith, rw (c .before .before .before .enum-told3 .given .1) at (start .pre .1));
+    }
 
 enum-told-4 : tie.Need-enum-told-4
 enum-told-4 c = search needs
@@ -111,13 +118,12 @@ write-surface-requires : tie.Need-write-surface-requires
 write-surface-requires c κs =
     let c6 = c .before .before .before .before .before .before in
     let c12 = c6 .before .before .before .before .before .before in
-    let start = c12 .before .before in (
-      start .pre .0,
-      c6 .before .before .before .before .feed-all .ensures .ready,
-      c .before .before .before .before .before .empty-grid2 .ensures
-          ∙ bytes-lent,
-      rw (c .before .before .before .enum-told5 .given .1) at (start .pre .1),
-    )
+    let start = c12 .before .before in record {
+      level-is = start .pre .0;
+      ready = c6 .before .before .before .before .feed-all .ensures .ready;
+      work-lent = c .before .before .before .before .before .empty-grid2 .ensures ∙ bytes-lent;
+      out-lent = rw (c .before .before .before .enum-told5 .given .1) at (start .pre .1);
+    }
 
 enum-known-number : tie.Need-enum-known-number
 enum-known-number c = search needs

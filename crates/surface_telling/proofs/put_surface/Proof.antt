@@ -1,8 +1,5 @@
 -- `put_surface`: list_quads, write_stl, the halves and the move back in turn; Surfaces puts their promises together. Assumes nothing.
-use mathlib.Core.Path.{_≡_, sym, ap, _∙_}
-use Prim.Native.Nat.{_+_, _*_, _≤_}
 use native.Mathlib.Omega.{arith}
-use lib.ListN.{length}
 use mir.Syntax.{w32}
 use mir.ValLaws.{toZ-ofZ}
 use Rattle.lattice.proofs.LevelFacts.{cells-most}
@@ -17,7 +14,7 @@ cells-requires c κs = search needs
 list-quads-requires : tie.Need-list-quads-requires
 list-quads-requires c κs =
     let c6 = c .before .before .before .before .before .before in
-    let s = c6 in rw (c .before .cells .ensures) (cells-most (s .args .l), s .pre .0 .3, s .pre .0 .4)
+    let s = c6 in rw (c .before .cells .ensures) (record { small = cells-most (s .args .l); long = s .pre .grid-long }, s .pre .is-grid)
 
 enum-known-count : tie.Need-enum-known-count
 enum-known-count c = search needs
@@ -45,8 +42,8 @@ put-halves-requires c κs =
     let c22 = c17 .before .before .before .before .before in
     let s = c22 in
     let e = rw (c11 .count .given .1, c17 .cells .ensures) at (c15 .list-quads .ensures) in
-    let r = room (s .args .l) (s .args .s) (s .args .shift) _ _ (s .args .file .now) _ (s .pre .0 .3) (s .pre .0 .4) (s .pre .1 .0) _ e in
-    (omega (arith, r, c15 .list-quads .kept .1 .1 .0), omega (arith, r, s .pre .1 .1))
+    let r = room (s .args .l) (s .args .s) (s .args .shift) _ _ (s .args .file .now) _ (s .pre .grid-long) (s .pre .is-grid) (s .pre .signs-fit) _ e in
+    (omega (arith, r, c15 .list-quads .kept .1 .1 .0), omega (arith, r, s .pre .quads-room))
 
 cast-move-back : tie.Need-cast-move-back
 cast-move-back c = search needs
@@ -65,15 +62,16 @@ move-back-requires c κs =
     let c26 = c21 .before .before .before .before .before in
     let s = c26 in
     let e = rw (c15 .count .given .1, c21 .cells .ensures) at (c19 .list-quads .ensures) in
-    let f = rw (s .pre .0 .0, c7 .bytes .given .1, toZ-ofZ w32 _ (record { sfits = c13 .exponent .ok }), c13 .exponent .ensures) at
+    let f = rw (s .pre .level-is, c7 .bytes .given .1, toZ-ofZ w32 _ (record { sfits = c13 .exponent .ok }), c13 .exponent .ensures) at
     (c11 .write-stl .ensures) in
-    let m = moves-room (s .args .l) (s .args .s) (s .args .shift) _ _ (s .args .file .now) _ (s .pre .0 .3) (s .pre .0 .4) (s .pre .1 .0) _ e _ _ f in (
-      m,
-      s .pre .0 .1,
-      s .pre .0 .2,
-      moves (s .args .l) (s .args .s) (s .args .shift) _ _ (s .args .file .now) _
-          (s .pre .0 .3) (s .pre .0 .4) (s .pre .1 .0) _ e _ _ f,
-    )
+    let m = moves-room (s .args .l) (s .args .s) (s .args .shift) _ _ (s .args .file .now) _ (s .pre .grid-long) (s .pre .is-grid)
+    (s .pre .signs-fit) _ e _ _ f in record {
+      file-room = m;
+      scale = s .pre .scale;
+      near = s .pre .near;
+      written = moves (s .args .l) (s .args .s) (s .args .shift) _ _ (s .args .file .now) _
+          (s .pre .grid-long) (s .pre .is-grid) (s .pre .signs-fit) _ e _ _ f;
+    }
 
 enum-known-why : tie.Need-enum-known-why
 enum-known-why c = search needs
@@ -109,11 +107,11 @@ returns c =
     let c29 = c24 .before .before .before .before .before in
     let s = c29 in
     let e = rw (c18 .count .given .1, c24 .cells .ensures) at (c22 .list-quads .ensures) in
-    let f = rw (s .pre .0 .0, c10 .bytes .given .1, toZ-ofZ w32 _ (record { sfits = c16 .exponent .ok }), c16 .exponent .ensures) at
+    let f = rw (s .pre .level-is, c10 .bytes .given .1, toZ-ofZ w32 _ (record { sfits = c16 .exponent .ok }), c16 .exponent .ensures) at
     (c14 .write-stl .ensures) in
-    rw (s .pre .0 .0)
-    (whole (s .args .l) (s .args .s) (s .args .shift) _ _ (s .args .file .now) _ (s .pre .0 .3) (s .pre .0 .4) (s .pre .1 .0) _ e _ _ f
-    (s .args .quads .now) _ _ (s .pre .1 .1) (c22 .list-quads .kept .1 .1 .0) (c6 .put-halves .ensures) (c2 .move-back .ensures))
+    rw (s .pre .level-is)
+    (whole (s .args .l) (s .args .s) (s .args .shift) _ _ (s .args .file .now) _ (s .pre .grid-long) (s .pre .is-grid) (s .pre .signs-fit) _ e _ _ f
+    (s .args .quads .now) _ _ (s .pre .quads-room) (c22 .list-quads .kept .1 .1 .0) (c6 .put-halves .ensures) (c2 .move-back .ensures))
 
 same-length-4 : tie.Need-same-length-4
 same-length-4 c = search needs
@@ -132,11 +130,11 @@ returns-2 c =
     let c21 = c16 .before .before .before .before .before in
     let s = c21 in
     let e = rw (c10 .count .given .1, c16 .cells .ensures) at (c14 .list-quads .ensures) in
-    let f = rw (s .pre .0 .0, c2 .why .given .1, toZ-ofZ w32 _ (record { sfits = c8 .exponent .ok }), c8 .exponent .ensures) at
+    let f = rw (s .pre .level-is, c2 .why .given .1, toZ-ofZ w32 _ (record { sfits = c8 .exponent .ok }), c8 .exponent .ensures) at
     (c6 .write-stl .ensures) in
-    rw (s .pre .0 .0)
+    rw (s .pre .level-is)
     (refused-second (s .args .l) (s .args .s) (s .args .shift) _ _ (s .args .file .now) _
-    (s .pre .0 .3) (s .pre .0 .4) (s .pre .1 .0) _ e (c2 .why .given .0 .0) _ _
+    (s .pre .grid-long) (s .pre .is-grid) (s .pre .signs-fit) _ e (c2 .why .given .0 .0) _ _
     (c .number .ensures) f)
 
 same-length-6 : tie.Need-same-length-6
@@ -150,8 +148,9 @@ returns-3 c =
     let c13 = c8 .before .before .before .before .before in
     let s = c13 in
     let e = rw (c2 .why2 .given .1, c8 .cells .ensures) at (c6 .list-quads .ensures) in
-    rw (s .pre .0 .0)
-    (refused-first (s .args .l) (s .args .s) (s .args .shift) _ _ (s .args .file .now) _ (s .pre .0 .3) (s .pre .0 .4) (s .pre .1 .0) (c2 .why2 .given .0 .0) _
+    rw (s .pre .level-is)
+    (refused-first (s .args .l) (s .args .s) (s .args .shift) _ _ (s .args .file .now) _ (s .pre .grid-long) (s .pre .is-grid) (s .pre .signs-fit)
+    (c2 .why2 .given .0 .0) _
     (c .number2 .ensures) e)
 
 pub put-surface-spec : {M : Type 1} → statement M

@@ -1,16 +1,12 @@
 -- `any_mark` gives the first row that applies, and asks where none does. Assumes nothing.
-use mathlib.Core.Path.{_≡_, sym, ap, _∙_}
-use mathlib.Core.Bool.{Bool, true, false}
-use Prim.Native.Nat.{_/_, _≤_}
+use mathlib.Core.Path.{sym, ap, _∙_}
 use native.Mathlib.Omega.{arith}
 use borrow.Author.Needs.{needs}
 use borrow.Author.Tests.{lt-ltb, le-ltb}
-use lib.ListN.{length}
-use Rattle.lattice.specs.Levels.{cellsOf, pointsOf}
+use Rattle.lattice.specs.Levels.{cellsOf}
 use Rattle.lattice.proofs.LevelFacts.{cells-most}
-use Rattle.refusals.specs.Columns.{badLevel, levelAt}
 use Rattle.refusals.proofs.Levels.{read-unknown, read-known}
-use Rattle.asking.specs.Call.{said, badBox, anyRows, anyCall}
+use Rattle.asking.specs.Call.{said, anyRows, anyCall}
 use Rattle.asking.proofs.Boxes.{good-box}
 use Rattle.table_calls.proofs.any_mark.Statement.{statement}
 use Rattle.table_calls.proofs.any_mark.Tie as tie
@@ -82,12 +78,11 @@ table-says-requires c κs =
     let l = c .before .before .before .before .before .before .before .before .l in
     let s = c .before .before .before .before .before .before .before .before .before .before .before .before .before in
     let b = sym (rw (cells .ensures) at (c .before .before .before .is-bad .ensures)) ∙ c .before .before .if2 .left in
-    rw (cells .ensures) (
-      cells-most (l .given .0 .0),
-      rw (points .ensures) at (if1 .left),
-      rw (c .before .point-count .ensures .0, cells .ensures) at (c .if3 .left),
-      good-box (cellsOf (l .given .0 .0)) (s .args .low) (s .args .high) b,
-    )
+    rw (cells .ensures) (record {
+      sized = record { small = cells-most (l .given .0 .0); long = rw (points .ensures) at (if1 .left) };
+      totals-long = rw (c .before .point-count .ensures .0, cells .ensures) at (c .if3 .left);
+      on-grid = good-box (cellsOf (l .given .0 .0)) (s .args .low) (s .args .high) b;
+    })
 
 answer-requires : tie.Need-answer-requires
 answer-requires c κs = search needs

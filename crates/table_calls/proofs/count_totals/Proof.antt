@@ -1,12 +1,10 @@
 -- `count_totals` gives the first row that applies, and counts where none does. Assumes nothing.
-use mathlib.Core.Path.{_≡_, sym, ap, _∙_}
+use mathlib.Core.Path.{sym, ap, _∙_}
 use mathlib.Core.List.{List}
-use Prim.Native.Nat.{ℕ, _/_, _≤_}
+use Prim.Native.Nat.{ℕ}
 use native.Mathlib.Omega.{arith}
 use borrow.Author.Needs.{needs}
 use borrow.Author.Tests.{lt-ltb, le-ltb}
-use lib.ListN.{length}
-use Rattle.lattice.specs.Levels.{cellsOf, pointsOf}
 use Rattle.lattice.proofs.LevelFacts.{cells-most}
 use Rattle.refusals.specs.declared.Answer.the-variants.{Done}
 use Rattle.refusals.proofs.Levels.{read-unknown, read-known}
@@ -59,8 +57,7 @@ count-held-requires c κs =
     let cells = c .before .before .before .before .before .cells in
     let l-told = c .before .before .before .before .before .before .before .l in
     rw (cells .ensures) (
-      cells-most (l-told .given .0 .0),
-      rw (points .ensures) at (c .before .before .before .if1 .left),
+      record { small = cells-most (l-told .given .0 .0); long = rw (points .ensures) at (c .before .before .before .if1 .left) },
       rw (c .before .before .point-count .ensures .0, cells .ensures) at (c .before .if2 .left),
     )
 

@@ -1,16 +1,14 @@
 -- `is_true` meets its contract. The loop's invariant: the blocks from c on decide. Assumes nothing.
 use mathlib.Core.Path.{_≡_, refl, sym, ap, _∙_}
-use mathlib.Core.Bool.{Bool, true, false, not}
+use mathlib.Core.Bool.{Bool}
 use mathlib.Core.List.{List}
 use Prim.Native.Nat.{ℕ, _-_, _/_, _≤_, _<_}
 use native.Mathlib.Numerals.{add-one}
 use native.Mathlib.Omega.{arith}
 use borrow.Author.Tests.{eq-eqb, ne-eqb}
 use lib.Dec.{eqb}
-use lib.ListN.{getD}
 use Rattle.rules.specs.declared.Point.{Point}
 use Rattle.rules.specs.Lists.{allOf}
-use Rattle.rules.specs.Lattice.{pointCount, points, pointNumber}
 use Rattle.grids.proofs.Points.{pointsFrom, At, at-start, at-grid, at-next, all-start, all-more, all-fails, all-end}
 use Rattle.totals.specs.Totals.{blockCount, marksIn, totalOf}
 use Rattle.totals.proofs.Blocks.{block-small}
@@ -43,13 +41,13 @@ mul-if1 : tie.Need-mul-if1 Inv-loop μ-loop
 mul-if1 c = omega arith
 
 shared-slice-read-if1 : tie.Need-shared-slice-read-if1 Inv-loop μ-loop
-shared-slice-read-if1 c = omega (arith, c .before .before .loop .inv .0, c .before .loop-test .taken, c .before .before .before .before .before .before .pre .2)
+shared-slice-read-if1 c = omega (arith, c .before .before .loop .inv .0, c .before .loop-test .taken, c .before .before .before .before .before .before .pre .1)
 
 block-box-requires : tie.Need-block-box-requires Inv-loop μ-loop
 block-box-requires c κs =
     let s = c .before .before .before .before .before .before in
     let h : c .before .before .loop .q < blockCount (s .args .n) = omega (arith, c .before .before .loop .inv .0, c .before .loop-test .taken) in
-    (s .pre .0, at-grid (s .args .n / 4) (c .before .before .loop .q) (c .before .before .loop .c) (c .before .before .loop .inv .3) h)
+    (s .pre .0 .small, at-grid (s .args .n / 4) (c .before .before .loop .q) (c .before .before .loop .c) (c .before .before .loop .inv .3) h)
 
 box-marks-requires : tie.Need-box-marks-requires Inv-loop μ-loop
 box-marks-requires c κs =
@@ -57,7 +55,7 @@ box-marks-requires c κs =
     let s = c .before .before .before .before .before .before .before in
     let h : loop-told .q < blockCount (s .args .n) = omega (arith, loop-told .inv .0, c .before .before .loop-test .taken) in
     let o = at-grid (s .args .n / 4) (loop-told .q) (loop-told .c) (loop-told .inv .3) h in
-    (s .pre .0, s .pre .1, rw (c .block-box .ensures) (block-small (s .args .n) (loop-told .c) o))
+    (s .pre .0, rw (c .block-box .ensures) (block-small (s .args .n) (loop-told .c) o))
 
 returns : tie.Need-returns Inv-loop μ-loop
 returns c =
@@ -75,7 +73,7 @@ next-point-requires c κs =
     let loop-told = c .before .before .before .before .before .loop in
     let s = c .before .before .before .before .before .before .before .before .before in
     let h : loop-told .q < blockCount (s .args .n) = omega (arith, loop-told .inv .0, loop-test .taken) in
-    (omega (arith, s .pre .0), at-grid (s .args .n / 4) (loop-told .q) (loop-told .c) (loop-told .inv .3) h)
+    (omega (arith, s .pre .0 .small), at-grid (s .args .n / 4) (loop-told .q) (loop-told .c) (loop-told .inv .3) h)
 
 add-q : tie.Need-add-q Inv-loop μ-loop
 add-q c =

@@ -1,11 +1,8 @@
 -- `totals_true` gives the first row that applies, and looks where none does. Assumes nothing.
-use mathlib.Core.Path.{_≡_, sym, ap, _∙_}
-use Prim.Native.Nat.{_/_, _≤_}
+use mathlib.Core.Path.{sym, ap, _∙_}
 use native.Mathlib.Omega.{arith}
 use borrow.Author.Needs.{needs}
 use borrow.Author.Tests.{lt-ltb, le-ltb}
-use lib.ListN.{length}
-use Rattle.lattice.specs.Levels.{cellsOf, pointsOf}
 use Rattle.lattice.proofs.LevelFacts.{cells-most}
 use Rattle.refusals.proofs.Levels.{read-unknown, read-known}
 use Rattle.asking.specs.Call.{said, tableRows, trueCall}
@@ -56,8 +53,7 @@ is-true-requires c κs =
     let cells = c .before .before .before .before .cells in
     let l = c .before .before .before .before .before .before .l in
     rw (cells .ensures) (
-      cells-most (l .given .0 .0),
-      rw (c .before .before .before .points .ensures) at (c .before .before .if1 .left),
+      record { small = cells-most (l .given .0 .0); long = rw (c .before .before .before .points .ensures) at (c .before .before .if1 .left) },
       rw (c .before .point-count .ensures .0, cells .ensures) at (c .if2 .left),
     )
 

@@ -1,5 +1,5 @@
 -- `head_of`: field by field the definition's record. Assumes nothing.
-use mathlib.Core.Path.{_≡_, _∙_}
+use mathlib.Core.Path.{_∙_}
 use mir.Syntax.{w32}
 use mir.ValLaws.{toZ-ofZ}
 use Rattle.meeting.proofs.Positive.{Plain}

@@ -17,7 +17,15 @@ put-surface-requires c κs =
     let c3 = c .before .before .before in
     let c7 = c3 .before .before .before .before in
     let list = c3 .empty-list .ensures ∙ list-lent in
-    (c7 .pre .0, (c7 .pre .1 .0, rw list (omega (arith, list-long, c7 .pre .1 .1 .0))))
+    let p = c7 .pre in record {
+      level-is = p .level-is;
+      scale = p .scale;
+      near = p .near;
+      grid-long = p .grid-long;
+      is-grid = p .is-grid;
+      signs-fit = p .signs-fit;
+      quads-room = rw list (omega (arith, list-long, p .quads-room));
+    }
 
 same-length : tie.Need-same-length
 same-length c = search needs
@@ -30,7 +38,7 @@ returns c =
     let c5 = c .before .before .before .before .before in
     let c9 = c5 .before .before .before .before in
     let c13 = c9 .before .before .before .before in
-    rw (c9 .empty-list .ensures ∙ list-lent, c13 .pre .1 .1 .1, c13 .pre .0 .0) at (c5 .put-surface .ensures)
+    rw (c9 .empty-list .ensures ∙ list-lent, c13 .pre .file-lent, c13 .pre .level-is) at (c5 .put-surface .ensures)
 
 pub put-quads-spec : {M : Type 1} → statement M
 put-quads-spec =

@@ -18,7 +18,11 @@ put-picture-requires : tie.Need-put-picture-requires
 put-picture-requires c κs =
     let c1 = c .before in
     let c5 = c1 .before .before .before .before in
-    rw (c1 .cells .ensures) (cells-most (c5 .args .l), c5 .pre .0, omega (arith, points-most (c5 .args .l), c5 .pre .2), c5 .pre .1)
+    rw (c1 .cells .ensures) (record {
+      sized = record { small = cells-most (c5 .args .l); long = c5 .pre .grid-long };
+      out-room = omega (arith, points-most (c5 .args .l), c5 .pre .layers-room);
+      is-grid = c5 .pre .is-grid;
+    })
 
 add-put-masks : tie.Need-add-put-masks
 add-put-masks c = search needs
@@ -29,7 +33,11 @@ put-masks-requires c κs =
     let c9 = c5 .before .before .before .before in
     let n = cellsOf (c9 .args .l) in
     let small : suc n ≤ 33 = omega (arith, cells-most (c9 .args .l)) in
-    rw (c5 .cells .ensures, add-one n) (small, c9 .pre .0, omega (arith, pictures-most (suc n) small, c9 .pre .3))
+    rw (c5 .cells .ensures, add-one n) (record {
+      small = small;
+      grid-room = c9 .pre .grid-long;
+      out-room = omega (arith, pictures-most (suc n) small, c9 .pre .masks-room);
+    })
 
 count-inside-requires : tie.Need-count-inside-requires
 count-inside-requires c κs = search needs
@@ -56,8 +64,8 @@ returns c =
       layers-are = p .0 .holds;
       masks-are = m .holds;
       inside-is = c .count-inside .ensures;
-      in-layers = omega (arith, points-most l, c13 .pre .2, p .1, c7 .put-picture .kept .0);
-      in-masks = omega (arith, m .place, masks-length n h, pictures-most (suc n) small, c13 .pre .3, c3 .put-masks .kept .0);
+      in-layers = omega (arith, points-most l, c13 .pre .layers-room, p .1, c7 .put-picture .kept .0);
+      in-masks = omega (arith, m .place, masks-length n h, pictures-most (suc n) small, c13 .pre .masks-room, c3 .put-masks .kept .0);
     }
 
 pub put-views-spec : {M : Type 1} → statement M

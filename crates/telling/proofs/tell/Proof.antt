@@ -24,7 +24,12 @@ put-views-requires c κs =
     let c29 = c17 .before .before .before .before .before .before .before .before .before .before .before .before in
     let c31 = c29 .before .before in
     let k = c17 .close-marks .ensures .closed in
-    (k .long, k .grid, c31 .pre .1 .0 .2, c31 .pre .1 .0 .3)
+    record {
+      grid-long = k .long;
+      is-grid = k .grid;
+      layers-room = c31 .pre .layers-room;
+      masks-room = c31 .pre .masks-room;
+    }
 
 put-lines-requires : tie.Need-put-lines-requires
 put-lines-requires c κs =
@@ -32,7 +37,7 @@ put-lines-requires c κs =
     let c24 = c12 .before .before .before .before .before .before .before .before .before .before .before .before in
     let c36 = c24 .before .before .before .before .before .before .before .before .before .before .before .before in
     let c37 = c36 .before in
-    (c37 .pre .0 .1, c37 .pre .1 .0 .0)
+    (c37 .pre .scale, c37 .pre .head-room)
 
 cast-t42 : tie.Need-cast-t42
 cast-t42 c = search needs
@@ -48,7 +53,7 @@ put-refusal-requires c κs =
     let c12 = c .before .before .before .before .before .before .before .before .before .before .before .before in
     let c24 = c12 .before .before .before .before .before .before .before .before .before .before .before .before in
     let c29 = c24 .before .before .before .before .before in
-    omega (arith, c29 .pre .1 .0 .0)
+    omega (arith, c29 .pre .head-room)
 
 alone-requires : tie.Need-alone-requires
 alone-requires c κs = search needs
@@ -91,7 +96,7 @@ returns c =
     let w = rw (c13 .count .given .1) at (c19 .put-quads .ensures) in
     let f = c30 .show-faces .ensures in
     tells-done (c40 .args .l) (c40 .args .triangles) (c40 .args .at) (c40 .args .grid .now) k _ _ _ _ _ _ _ _ _ _ _
-    w (rw (c40 .pre .0 .0) at (c2 .put-lines .ensures)) (f .0 .holds) (f .1)
+    w (rw (c40 .pre .level-is) at (c2 .put-lines .ensures)) (f .0 .holds) (f .1)
     (c8 .put-views .ensures)
 
 same-length-8 : tie.Need-same-length-8

@@ -1,17 +1,14 @@
 -- `put_signed` puts a minus sign and the number's opposite where it is negative; else the number is its own size, which fits in 32 bits. Assumes nothing.
 use borrow.Author.Needs.{needs}
-use mathlib.Core.Path.{_≡_, sym, ap, _∙_, subst}
-use mathlib.Core.Bool.{true, false}
-use mathlib.Core.List.{List, _++_}
-use Prim.Native.Nat.{ℕ}
+use mathlib.Core.Path.{_≡_, sym, ap, _∙_}
+use mathlib.Core.Bool.{true}
 use native.Mathlib.Omega.{arith}
-use lib.IntN.{ℤ, pos, natAbs}
-use lib.ListN.{length}
+use lib.IntN.{pos, natAbs}
 use lib.Signed.{ltZ, natAbs-le}
 use mir.Syntax.{w32}
 use mir.Val.{toZ, ofZ}
 use mir.ValLaws.{toZ-ofZ}
-use Rattle.text.specs.Text.{ascii, decimal, signedDecimal, Put}
+use Rattle.text.specs.Text.{decimal, signedDecimal}
 use Rattle.text.proofs.Signs.{signed-minus, signed-plus}
 use Rattle.text.proofs.put_signed.Statement.{statement}
 use Rattle.text.proofs.put_signed.Tie as tie

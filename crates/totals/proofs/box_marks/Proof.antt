@@ -1,6 +1,6 @@
 -- `box_marks` meets its contract. The loop's invariant: what is held, and the layers from k on, come to the box. Assumes nothing.
-use mathlib.Core.Path.{_≡_, refl, sym, ap, _∙_}
-use Prim.Native.Nat.{ℕ, _+_, _*_, _-_, _≤_, _<_}
+use mathlib.Core.Path.{_≡_, sym, _∙_}
+use Prim.Native.Nat.{_+_, _*_, _-_, _≤_}
 use native.Mathlib.Nat.{zero-add}
 use native.Mathlib.Omega.{arith}
 use Rattle.rules.specs.Lists.{upto, sumOf}
@@ -19,19 +19,19 @@ abbrev μ-loop : tie.MeasureT-loop
 μ-loop n grid b hi held₀ k₀ held k = hi .k - k
 
 loop-holds : tie.Need-loop-holds Inv-loop μ-loop
-loop-holds c = let f = c .before .before .pre .2 in (omega arith, f .zs, omega arith, zero-add _ ∙ sym (by-layers _ _ _))
+loop-holds c = let f = c .before .before .pre .1 in (omega arith, f .zs, omega arith, zero-add _ ∙ sym (by-layers _ _ _))
 
 layer-marks-requires : tie.Need-layer-marks-requires Inv-loop μ-loop
 layer-marks-requires c κs =
     let s = c .before .before .before .before .before in
-    (s .pre .0, s .pre .1, s .pre .2, omega (arith, c .if1 .taken, s .pre .2 .ze))
+    record { sized = s .pre .0; box-small = s .pre .1; layer = omega (arith, c .if1 .taken, s .pre .1 .ze) }
 
 add-held : tie.Need-add-held Inv-loop μ-loop
-add-held c = let f = c .before .before .before .before .before .before .pre .2 in omega (arith, c .layer-marks .ensures .1, f .z4, c .before .if1 .taken)
+add-held c = let f = c .before .before .before .before .before .before .pre .1 in omega (arith, c .layer-marks .ensures .1, f .z4, c .before .if1 .taken)
 
 add-k : tie.Need-add-k Inv-loop μ-loop
-add-k c = let f = c .before .before .before .before .before .before .pre .2 in omega
-    (arith, c .before .if1 .taken, c .before .before .before .before .before .before .pre .0, f .ze)
+add-k c = let f = c .before .before .before .before .before .before .pre .1 in omega
+    (arith, c .before .if1 .taken, c .before .before .before .before .before .before .pre .0 .small, f .ze)
 
 loop-less : tie.Need-loop-less Inv-loop μ-loop
 loop-less c = omega (arith, c .before .if1 .taken)
@@ -52,7 +52,7 @@ returns : tie.Need-returns Inv-loop μ-loop
 returns c =
     let q = c .before .before .loop in
     let s = c .before .before .before .before .before in
-    let f = s .pre .2 in (
+    let f = s .pre .1 in (
       sum-end (layerMarks (s .args .n) (s .args .grid .now) (s .args .b)) (s .args .b .hi .k) (q .held) (q .k) _ (c .if1 .left) (q .inv .3),
       omega
           (arith, f .z4),

@@ -1,15 +1,13 @@
 -- `count_held` meets its contract. The loop's invariant: what is held, and the marks of the points from p on, come to the totals. Assumes nothing.
 use mathlib.Core.Path.{_≡_, sym, ap, _∙_}
-use mathlib.Core.List.{List}
-use Prim.Native.Nat.{ℕ, suc, _+_, _-_, _≤_, _<_}
+use Prim.Native.Nat.{ℕ, _-_, _≤_, _<_}
 use native.Mathlib.Numerals.{add-one}
 use native.Mathlib.Omega.{arith}
-use borrow.Author.Needs.{needs}
-use lib.ListN.{length, getD}
+use lib.ListN.{getD}
 use Rattle.rules.specs.Lattice.{pointCount}
 use Rattle.rules.specs.Grid.{byteMarks}
 use Rattle.grids.proofs.Points.{pointsFrom, At, at-start, at-grid, at-next}
-use Rattle.totals.specs.Totals.{marksAt, blockCount, trued}
+use Rattle.totals.specs.Totals.{marksAt, trued}
 use Rattle.totals.specs.Counting.{Held}
 use Rattle.totals.proofs.Held.{at-most, scan-start, scan-trued, scan-room, scan-on, scan-end}
 use Rattle.totals.proofs.count_held.Statement.{statement}
@@ -23,10 +21,10 @@ abbrev μ-loop : tie.MeasureT-loop
 μ-loop n grid table₀ count q₀ p₀ table q p = count - p
 
 clear-totals-requires : tie.Need-clear-totals-requires Inv-loop μ-loop
-clear-totals-requires c κs = (c .before .before .before .pre .0, c .before .before .before .pre .2)
+clear-totals-requires c κs = (c .before .before .before .pre .0 .small, c .before .before .before .pre .1)
 
 point-count-requires : tie.Need-point-count-requires Inv-loop μ-loop
-point-count-requires c κs = c .before .before .before .before .before .before .pre .0
+point-count-requires c κs = c .before .before .before .before .before .before .pre .0 .small
 
 loop-holds : tie.Need-loop-holds Inv-loop μ-loop
 loop-holds c =
@@ -35,13 +33,13 @@ loop-holds c =
       omega arith,
       at-start _,
       rw (c .before .before .before .clear-totals .ensures)
-          (scan-start (s .args .n) (s .args .table .now) (s .pre .2) _),
+          (scan-start (s .args .n) (s .args .table .now) (s .pre .1) _),
     )
 
 shared-slice-read-hold : tie.Need-shared-slice-read-hold Inv-loop μ-loop
 shared-slice-read-hold c = omega (
   arith,
-  c .before .before .before .before .before .before .before .before .before .before .before .pre .1,
+  c .before .before .before .before .before .before .before .before .before .before .before .pre .0 .long,
   c .before .before .before .loop .inv .0,
   c .before .before .loop-test .taken,
 )
@@ -51,14 +49,14 @@ hold-requires c κs =
     let s = c .before .before .before .before .before .before .before .before .before .before .before in
     let l = c .before .before .before .loop in
     let h : l .p < pointCount (s .args .n) = omega (arith, l .inv .0, c .before .before .loop-test .taken) in
-    let e = ap (λ (i : ℕ). byteMarks (getD (s .args .grid .now) i 0)) (sym (l .inv .2 .is)) in (
-      s .pre .0,
-      at-grid _ (l .p) (l .q) (l .inv .2) h,
-      omega (arith, l .inv .3 .long, c .before .before .before .before .before .before .before .clear-totals .kept .1 .0, s .pre .2),
-      scan-room (s .args .n) _ _ (l .table) (l .p) (l .inv .3)
-          (omega (arith, c .before .before .before .before .before .before .before .clear-totals .kept .1 .0, s .pre .2)) (l .q) (l .inv .2) h _ e
-          (at-most (s .args .n) (s .args .grid .now)),
-    )
+    let e = ap (λ (i : ℕ). byteMarks (getD (s .args .grid .now) i 0)) (sym (l .inv .2 .is)) in record {
+      small = s .pre .0 .small;
+      on-grid = at-grid _ (l .p) (l .q) (l .inv .2) h;
+      table-long = omega (arith, l .inv .3 .long, c .before .before .before .before .before .before .before .clear-totals .kept .1 .0, s .pre .1);
+      total-room = scan-room (s .args .n) _ _ (l .table) (l .p) (l .inv .3)
+          (omega (arith, c .before .before .before .before .before .before .before .clear-totals .kept .1 .0, s .pre .1)) (l .q) (l .inv .2) h _ e
+          (at-most (s .args .n) (s .args .grid .now));
+    }
 
 next-point-requires : tie.Need-next-point-requires Inv-loop μ-loop
 next-point-requires c κs =
@@ -66,7 +64,7 @@ next-point-requires c κs =
     let h : l .p < pointCount
     (c .before .before .before .before .before .before .before .before .before .before .before .before .before .before .args .n) = omega
     (arith, l .inv .0, c .before .before .before .before .before .loop-test .taken) in (
-      c .before .before .before .before .before .before .before .before .before .before .before .before .before .before .pre .0,
+      c .before .before .before .before .before .before .before .before .before .before .before .before .before .before .pre .0 .small,
       at-grid _ (l .p) (l .q)
           (l .inv .2) h,
     )
@@ -95,7 +93,7 @@ loop-again c =
           (omega (
             arith,
             c .before .before .before .before .before .before .before .before .before .before .before .clear-totals .kept .1 .0,
-            s .pre .2,
+            s .pre .1,
           )) (l .q) (l .inv .2) h _ e),
     )
 
@@ -107,10 +105,10 @@ returns c =
     let s = c .before .before .before .before .before .before .before .before .before in
     let l = c .before .loop in
     let g = s .args .grid .now in
-    scan-end (s .args .n) g _ (l .table) (l .p) (omega (arith, c .before .before .before .before .before .clear-totals .kept .1 .0, s .pre .2))
+    scan-end (s .args .n) g _ (l .table) (l .p) (omega (arith, c .before .before .before .before .before .clear-totals .kept .1 .0, s .pre .1))
     (omega (arith, l .inv .0, c .loop-test .left)) (l .inv .3)
     ∙ ap (trued (s .args .n) g) (c .before .before .before .before .before .clear-totals .ensures) ∙ scan-trued (s .args .n) (s .args .table .now)
-    (s .pre .2) g
+    (s .pre .1) g
 
 pub count-held-spec : {M : Type 1} → statement M
 count-held-spec =

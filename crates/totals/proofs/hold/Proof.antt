@@ -1,15 +1,13 @@
 -- `hold` adds to the total of the block that the point's quarters number; a byte of 0 has no mark to add. Assumes nothing.
-use mathlib.Core.Path.{_≡_, sym, ap, _∙_}
-use Prim.Native.Nat.{ℕ, _+_, _≤_, _<_}
+use mathlib.Core.Path.{sym, ap, _∙_}
+use Prim.Native.Nat.{ℕ, _+_}
 use native.Mathlib.Nat.{add-zero}
 use native.Mathlib.Omega.{arith}
 use borrow.Author.Needs.{needs}
-use lib.ListN.{length, getD, set}
+use lib.ListN.{getD, set}
 use lib.Seq.{set-getD}
 use Rattle.rules.specs.Grid.{byteMarks}
-use Rattle.totals.specs.Totals.{blockCount}
 use Rattle.totals.specs.Counting.{blockAt, heldWith}
-use Rattle.totals.proofs.Held.{block-below}
 use Rattle.totals.proofs.hold.Statement.{statement}
 use Rattle.totals.proofs.hold.Tie as tie
 
@@ -36,7 +34,7 @@ add-table : tie.Need-add-table
 add-table c =
     let e = ap (λ (i : ℕ). getD (c .before .before .before .before .before .before .before .before .args .table .now) i 0)
     (c .before .before .number-of .ensures .0) in
-    omega (arith, e, c .before .before .before .before .before .before .before .before .pre .3, c .before .marks-of .ensures .0)
+    omega (arith, e, c .before .before .before .before .before .before .before .before .pre .total-room, c .before .marks-of .ensures .0)
 
 slice-write-table : tie.Need-slice-write-table
 slice-write-table c = search needs

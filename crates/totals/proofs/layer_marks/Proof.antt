@@ -1,13 +1,12 @@
 -- `layer_marks` meets its contract. The loop's invariant: what is held, and the rows from j on, come to the layer. Assumes nothing.
-use mathlib.Core.Path.{_≡_, refl, sym, ap, _∙_}
-use Prim.Native.Nat.{ℕ, _+_, _*_, _-_, _≤_, _<_}
+use mathlib.Core.Path.{_≡_, ap, _∙_}
+use Prim.Native.Nat.{ℕ, _+_, _*_, _-_, _≤_}
 use native.Mathlib.Nat.{zero-add}
 use native.Mathlib.Omega.{arith}
 use borrow.Author.Needs.{needs}
-use lib.ListN.{length}
-use Rattle.rules.specs.declared.Axis.the-variants.{X, Y}
+use Rattle.rules.specs.declared.Axis.the-variants.{X}
 use Rattle.rules.specs.Lists.{upto, sumOf}
-use Rattle.rules.specs.Patch.{side, extent}
+use Rattle.rules.specs.Patch.{side}
 use Rattle.totals.specs.Counting.{rowMarks, boxRow, layerMarks}
 use Rattle.totals.proofs.Sums.{sum-on, sum-end, row-fits}
 use Rattle.totals.proofs.layer_marks.Statement.{statement}
@@ -23,13 +22,13 @@ abbrev μ-loop : tie.MeasureT-loop
 
 loop-holds : tie.Need-loop-holds Inv-loop μ-loop
 unfolding layerMarks
-loop-holds c = let f = c .before .before .before .pre .2 in (omega arith, f .ys, omega arith, zero-add _)
+loop-holds c = let f = c .before .before .before .pre .box-small in (omega arith, f .ys, omega arith, zero-add _)
 
 number-of-requires : tie.Need-number-of-requires Inv-loop μ-loop
 number-of-requires c κs =
     let s = c .before .before .before .before .before .before in
-    let f = s .pre .2 in
-    (s .pre .0, omega (arith, c .if1 .taken, s .pre .3, f .xl, f .ye))
+    let f = s .pre .box-small in
+    (s .pre .sized .small, omega (arith, c .if1 .taken, s .pre .layer, f .xl, f .ye))
 
 sub-row-marks : tie.Need-sub-row-marks Inv-loop μ-loop
 sub-row-marks c = search needs
@@ -37,18 +36,26 @@ sub-row-marks c = search needs
 row-marks-requires : tie.Need-row-marks-requires Inv-loop μ-loop
 row-marks-requires c κs =
     let s = c .before .before .before .before .before .before .before .before .before in
-    let f = s .pre .2 in
-    let r = row-fits (s .args .n) (s .args .b) (s .args .grid .now) (c .before .before .before .before .before .loop .j) (s .args .k) (s .pre .0)
-    (s .pre .1) f (c .before .before .before .if1 .taken) (s .pre .3) in
-    (omega (arith, f .x4, f .xs), rw (c .before .before .number-of .ensures .0) (r .0), rw (c .before .before .number-of .ensures .0) (r .1))
+    let f = s .pre .box-small in
+    let r = row-fits (s .args .n) (s .args .b) (s .args .grid .now) (c .before .before .before .before .before .loop .j) (s .args .k) (s .pre .sized .small)
+    (s .pre .sized .long) f (c .before .before .before .if1 .taken) (s .pre .layer) in
+    record {
+      count-most = omega (arith, f .x4, f .xs);
+      from-most = rw (c .before .before .number-of .ensures .0) (r .0);
+      grid-room = rw (c .before .before .number-of .ensures .0) (r .1);
+    }
 
 add-held : tie.Need-add-held Inv-loop μ-loop
-add-held c = let f = c .before .before .before .before .before .before .before .before .before .before .pre .2 in omega
-    (arith, c .row-marks .ensures .1, f .y4, c .before .before .before .before .if1 .taken)
+add-held c =
+    let tested = c .before .before .before .before in
+    let start = tested .before .before .before .before .before .before in
+    omega (arith, c .row-marks .ensures .1, start .pre .box-small .y4, tested .if1 .taken)
 
 add-j : tie.Need-add-j Inv-loop μ-loop
-add-j c = let f = c .before .before .before .before .before .before .before .before .before .before .pre .2 in omega
-    (arith, c .before .before .before .before .if1 .taken, c .before .before .before .before .before .before .before .before .before .before .pre .0, f .ye)
+add-j c =
+    let tested = c .before .before .before .before in
+    let start = tested .before .before .before .before .before .before in
+    omega (arith, tested .if1 .taken, start .pre .sized .small, start .pre .box-small .ye)
 
 loop-less : tie.Need-loop-less Inv-loop μ-loop
 loop-less c = omega (arith, c .before .before .before .before .if1 .taken)
@@ -70,7 +77,7 @@ returns : tie.Need-returns Inv-loop μ-loop
 returns c =
     let q = c .before .before .loop in
     let s = c .before .before .before .before .before .before in
-    let f = s .pre .2 in (
+    let f = s .pre .box-small in (
       sum-end (boxRow (s .args .n) (s .args .grid .now) (s .args .b) (s .args .k)) (s .args .b .hi .j) (q .held) (q .j) _ (c .if1 .left) (q .inv .3),
       omega
           (arith, f .y4),

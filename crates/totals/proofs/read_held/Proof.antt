@@ -7,7 +7,7 @@ use Prim.Native.Nat.{ℕ, suc, _+_, _-_, _≤_, _<_}
 use native.Mathlib.Numerals.{add-one}
 use native.Mathlib.Omega.{arith}
 use borrow.Author.Needs.{needs}
-use lib.ListN.{length, getD}
+use lib.ListN.{getD}
 use Rattle.rules.specs.declared.Point.{Point}
 use Rattle.rules.specs.Lists.{allOf, count}
 use Rattle.rules.specs.Lattice.{pointCount}
@@ -17,7 +17,7 @@ use Rattle.grids.specs.declared.GridRead.the-variants.{NoGrid, Grid}
 use Rattle.grids.specs.Scans.{insideCount}
 use Rattle.grids.proofs.Points.{pointsFrom, At, at-start, at-grid, at-next, all-start, all-more, all-fails, all-end}
 use Rattle.grids.proofs.Unsigning.{inside-start, inside-more, inside-end}
-use Rattle.totals.specs.Totals.{marksAt, blockCount, trued}
+use Rattle.totals.specs.Totals.{marksAt, trued}
 use Rattle.totals.specs.Counting.{Held}
 use Rattle.totals.proofs.Held.{at-most, scan-start, scan-trued, scan-room, scan-on, scan-end}
 use Rattle.totals.proofs.read_held.Statement.{statement}
@@ -37,10 +37,10 @@ abbrev μ-loop : tie.MeasureT-loop
 μ-loop n grid table₀ count₀ q₀ found₀ p₀ table q found p = count₀ - p
 
 clear-totals-requires : tie.Need-clear-totals-requires Inv-loop μ-loop
-clear-totals-requires c κs = (c .before .before .before .pre .0, c .before .before .before .pre .2)
+clear-totals-requires c κs = (c .before .before .before .pre .0 .small, c .before .before .before .pre .1)
 
 point-count-requires : tie.Need-point-count-requires Inv-loop μ-loop
-point-count-requires c κs = c .before .before .before .before .before .before .pre .0
+point-count-requires c κs = c .before .before .before .before .before .before .pre .0 .small
 
 loop-holds : tie.Need-loop-holds Inv-loop μ-loop
 unfolding isGrid
@@ -54,13 +54,13 @@ loop-holds c =
       omega arith,
       omega arith,
       rw (c .before .before .before .clear-totals .ensures)
-          (scan-start (s .args .n) (s .args .table .now) (s .pre .2) _),
+          (scan-start (s .args .n) (s .args .table .now) (s .pre .1) _),
     )
 
 shared-slice-read-byte-fits : tie.Need-shared-slice-read-byte-fits Inv-loop μ-loop
 shared-slice-read-byte-fits c = omega (
   arith,
-  c .before .before .before .before .before .before .before .before .before .before .pre .1,
+  c .before .before .before .before .before .before .before .before .before .before .pre .0 .long,
   c .before .before .loop .inv .0,
   c .before .loop-test .taken,
 )
@@ -89,7 +89,7 @@ returns c =
 shared-slice-read-one-inside : tie.Need-shared-slice-read-one-inside Inv-loop μ-loop
 shared-slice-read-one-inside c = omega (
   arith,
-  c .before .before .before .before .before .before .before .before .before .before .before .before .before .pre .1,
+  c .before .before .before .before .before .before .before .before .before .before .before .before .before .pre .0 .long,
   c .before .before .before .before .before .loop .inv .0,
   c .before .before .before .before .loop-test .taken,
 )
@@ -109,7 +109,7 @@ add-found c = omega (
 shared-slice-read-hold : tie.Need-shared-slice-read-hold Inv-loop μ-loop
 shared-slice-read-hold c = omega (
   arith,
-  c .before .before .before .before .before .before .before .before .before .before .before .before .before .before .before .before .pre .1,
+  c .before .before .before .before .before .before .before .before .before .before .before .before .before .before .before .before .pre .0 .long,
   c .before .before .before .before .before .before .before .before .loop .inv .0,
   c .before .before .before .before .before .before .before .loop-test .taken,
 )
@@ -119,22 +119,22 @@ hold-requires c κs =
     let s = c .before .before .before .before .before .before .before .before .before .before .before .before .before .before .before .before in
     let l = c .before .before .before .before .before .before .before .before .loop in
     let h : l .p < pointCount (s .args .n) = omega (arith, l .inv .0, c .before .before .before .before .before .before .before .loop-test .taken) in
-    let e = ap (λ (i : ℕ). byteMarks (getD (s .args .grid .now) i 0)) (sym (l .inv .2 .is)) in (
-      s .pre .0,
-      at-grid _ (l .p) (l .q) (l .inv .2) h,
-      omega (
+    let e = ap (λ (i : ℕ). byteMarks (getD (s .args .grid .now) i 0)) (sym (l .inv .2 .is)) in record {
+      small = s .pre .0 .small;
+      on-grid = at-grid _ (l .p) (l .q) (l .inv .2) h;
+      table-long = omega (
         arith,
         l .inv .6 .long,
         c .before .before .before .before .before .before .before .before .before .before .before .before .clear-totals .kept .1 .0,
-        s .pre .2,
-      ),
-      scan-room (s .args .n) _ _ (l .table) (l .p) (l .inv .6)
+        s .pre .1,
+      );
+      total-room = scan-room (s .args .n) _ _ (l .table) (l .p) (l .inv .6)
           (omega (
             arith,
             c .before .before .before .before .before .before .before .before .before .before .before .before .clear-totals .kept .1 .0,
-            s .pre .2,
-          )) (l .q) (l .inv .2) h _ e (at-most (s .args .n) (s .args .grid .now)),
-    )
+            s .pre .1,
+          )) (l .q) (l .inv .2) h _ e (at-most (s .args .n) (s .args .grid .now));
+    }
 
 next-point-requires : tie.Need-next-point-requires Inv-loop μ-loop
 next-point-requires c κs =
@@ -142,7 +142,7 @@ next-point-requires c κs =
     let l = far .before .loop in
     let h : l .p < pointCount
     (far .before .before .before .before .before .before .before .before .before .args .n) = omega (arith, l .inv .0, far .loop-test .taken) in
-    (far .before .before .before .before .before .before .before .before .before .pre .0, at-grid _ (l .p) (l .q) (l .inv .2) h)
+    (far .before .before .before .before .before .before .before .before .before .pre .0 .small, at-grid _ (l .p) (l .q) (l .inv .2) h)
 
 add-p : tie.Need-add-p Inv-loop μ-loop
 add-p c = omega (
@@ -183,7 +183,7 @@ loop-again c =
           (pointsFrom n (suc (l .p))) ≡ insideCount n g = omega (arith, o, i, l .inv .5) in r),
       rw (add-one, c .before .before .before .hold .ensures)
           (scan-on n _ _ (l .table) (l .p) (l .inv .6) (omega
-          (arith, far .before .before .before .before .before .before .clear-totals .kept .1 .0, s .pre .2)) (l .q) (l .inv .2) h _ b),
+          (arith, far .before .before .before .before .before .before .clear-totals .kept .1 .0, s .pre .1)) (l .q) (l .inv .2) h _ b),
     )
 
 same-length-2 : tie.Need-same-length-2 Inv-loop μ-loop
@@ -200,8 +200,8 @@ returns-2 c =
     let f : l .found ≡ insideCount n g = omega (arith, z, l .inv .5) in
     let some : isGrid n g ≡ true = sym (l .inv .3) ∙ all-end (goodByte _ g) _ (l .p) h in (
       ap Grid f ∙ ap (λ (x : Bool). cond x (Grid (insideCount n g)) NoGrid) (sym some),
-      λ _. scan-end n g _ (l .table) (l .p) (omega (arith, c .before .before .before .before .before .clear-totals .kept .1 .0, s .pre .2)) h (l .inv .6)
-          ∙ ap (trued n g) (c .before .before .before .before .before .clear-totals .ensures) ∙ scan-trued n (s .args .table .now) (s .pre .2) g,
+      λ _. scan-end n g _ (l .table) (l .p) (omega (arith, c .before .before .before .before .before .clear-totals .kept .1 .0, s .pre .1)) h (l .inv .6)
+          ∙ ap (trued n g) (c .before .before .before .before .before .clear-totals .ensures) ∙ scan-trued n (s .args .table .now) (s .pre .1) g,
     )
 
 pub read-held-spec : {M : Type 1} → statement M

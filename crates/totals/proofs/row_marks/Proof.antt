@@ -1,6 +1,6 @@
 -- `row_marks` meets its contract. The loop's invariant: what is held, and the bytes from p on, come to the row. Assumes nothing.
 use mathlib.Core.Path.{_≡_, refl, ap, _∙_}
-use Prim.Native.Nat.{ℕ, _+_, _*_, _-_, _≤_, _<_}
+use Prim.Native.Nat.{ℕ, _+_, _*_, _-_, _≤_}
 use native.Mathlib.Nat.{zero-add}
 use native.Mathlib.Omega.{arith}
 use lib.ListN.{getD}
@@ -20,7 +20,7 @@ abbrev μ-loop : tie.MeasureT-loop
 μ-loop grid from count end held₀ p₀ held p = end - p
 
 four-marks-requires : tie.Need-four-marks-requires Inv-loop μ-loop
-four-marks-requires c κs = let s = c .before .before in (s .pre .1, omega (arith, s .pre .2, c .if1 .taken))
+four-marks-requires c κs = let s = c .before .before in (s .pre .from-most, omega (arith, s .pre .grid-room, c .if1 .taken))
 
 returns : tie.Need-returns Inv-loop μ-loop
 returns c = rw (c .before .if1 .taken) (c .four-marks .ensures)

@@ -1,10 +1,10 @@
 -- `store`: the loop's invariant is that with the totals from q on written the table is as with all of them written. Assumes nothing.
 use mathlib.Core.Path.{_≡_, refl, sym, ap, _∙_}
-use mathlib.Core.List.{List, map, _++_}
+use mathlib.Core.List.{List, map}
 use Prim.Native.Nat.{ℕ, _-_, _≤_, _<_}
 use native.Mathlib.Omega.{arith}
 use borrow.Author.Needs.{needs}
-use lib.ListN.{length, getD, take, drop, length-set, length-take}
+use lib.ListN.{length, getD, take, length-set, length-take}
 use lib.Seq.{sets}
 use Rattle.rules.specs.Lists.{upto}
 use Rattle.rules.proofs.Numbers.{take-upto}
@@ -36,7 +36,7 @@ mul-table c = search needs
 shared-slice-read-table : tie.Need-shared-slice-read-table Inv-loop μ-loop
 shared-slice-read-table c = omega (
   arith,
-  c .before .before .before .before .before .before .pre .1,
+  c .before .before .before .before .before .before .pre .held-long,
   c .before .before .loop .inv .0,
   c .before .loop-test .taken,
 )
@@ -47,7 +47,7 @@ mul-table-2 c = search needs
 slice-write-table : tie.Need-slice-write-table Inv-loop μ-loop
 slice-write-table c = omega (
   arith,
-  c .before .before .before .before .before .before .pre .2,
+  c .before .before .before .before .before .before .pre .table-long,
   c .before .before .loop .inv .0,
   c .before .before .loop .inv .2,
   c .before .loop-test .taken,
@@ -81,8 +81,8 @@ returns c =
     let held = s .args .held .now in
     sym (write-end (entry held) (l .table) (l .q) B (omega (arith, l .inv .0, c .loop-test .left))) ∙ l .inv .3
     ∙ ap (λ (j : ℕ). sets (s .args .table .now) 0 (map (entry held) (upto 0 j))) (let r : B - 0 ≡ B = omega arith in r)
-    ∙ ap (sets (s .args .table .now) 0) (take-upto held B (s .pre .1))
-    ∙ written (s .args .table .now) (take B held) B (length-take B held ∙ omega (arith, s .pre .1)) (s .pre .2)
+    ∙ ap (sets (s .args .table .now) 0) (take-upto held B (s .pre .held-long))
+    ∙ written (s .args .table .now) (take B held) B (length-take B held ∙ omega (arith, s .pre .held-long)) (s .pre .table-long)
 
 pub store-spec : {M : Type 1} → statement M
 store-spec =

@@ -13,26 +13,39 @@ two : (c : tie.After-crossed-on2) → c .crossed-on2 .result ≡ crossedOn Y (c 
 two c = c .crossed-on2 .ensures ∙ ap (crossedOn Y (c .before .before .args .f)) (c .before .crossed-on .ensures)
 
 crossed-on-requires : tie.Need-crossed-on-requires
-crossed-on-requires c κs = (c .pre .0, cell-grid _ _ (c .pre .1), crossed-fits (c .args .n) _ _ X (c .pre .3))
+crossed-on-requires c κs = record {
+  small = c .pre .small;
+  on-grid = cell-grid _ _ (c .pre .cell);
+  back-most = crossed-fits (c .args .n) _ _ X (c .pre .between);
+}
 
 crossed-on-requires-2 : tie.Need-crossed-on-requires-2
 crossed-on-requires-2 c κs =
     let s = c .before in
-    let g = crossed-grid (s .args .n) (s .args .f) (s .args .c) X (cell-grid _ _ (s .pre .1)) (s .pre .1 .i) in
-    rw (c .crossed-on .ensures) (s .pre .0, g, crossed-fits (s .args .n) (s .args .f) (s .args .c) Y (s .pre .3))
+    let g = crossed-grid (s .args .n) (s .args .f) (s .args .c) X (cell-grid _ _ (s .pre .cell)) (s .pre .cell .i) in
+    rw (c .crossed-on .ensures) (record {
+      small = s .pre .small;
+      on-grid = g;
+      back-most = crossed-fits (s .args .n) (s .args .f) (s .args .c) Y (s .pre .between);
+    })
 
 crossed-on-requires-3 : tie.Need-crossed-on-requires-3
 crossed-on-requires-3 c κs =
     let s = c .before .before in
     let p = crossedOn X (s .args .f) (s .args .c) in
     let g = crossed-grid (s .args .n) (s .args .f) p Y
-    (crossed-grid (s .args .n) (s .args .f) (s .args .c) X (cell-grid _ _ (s .pre .1)) (s .pre .1 .i)) (s .pre .1 .j) in
-    rw (two c) (s .pre .0, g, crossed-fits (s .args .n) (s .args .f) (s .args .c) Z (s .pre .3))
+    (crossed-grid (s .args .n) (s .args .f) (s .args .c) X (cell-grid _ _ (s .pre .cell)) (s .pre .cell .i)) (s .pre .cell .j) in
+    rw (two c) (record {
+      small = s .pre .small;
+      on-grid = g;
+      back-most = crossed-fits (s .args .n) (s .args .f) (s .args .c) Z (s .pre .between);
+    })
 
 returns : tie.Need-returns
 returns c =
     let s = c .before .before .before in
-    c .crossed-on3 .ensures ∙ ap (crossedOn Z (s .args .f)) (two (c .before)) ∙ crossed-all (s .args .n) (s .args .f) (s .args .c) (s .pre .2) (s .pre .3)
+    c .crossed-on3 .ensures ∙ ap (crossedOn Z (s .args .f)) (two (c .before)) ∙ crossed-all (s .args .n) (s .args .f) (s .args .c) (s .pre .face)
+    (s .pre .between)
 
 pub across-spec : {M : Type 1} → statement M
 across-spec =

@@ -29,26 +29,41 @@ fits : (c : tie.After-same2) →
     × (c .same2 .result * c .before .before .before .before .upper-face .result .at .k ≤ c .before .before .before .before .before .args .c .k)
 fits c =
     let s = c .before .before .before .before .before in
-    let v : c .same2 .result ≤ coord (s .args .a) (s .args .c) = rw (c .same2 .ensures .0, c .before .before .index .ensures .0) (s .pre .2) in
+    let v : c .same2 .result ≤ coord (s .args .a) (s .args .c) = rw (c .same2 .ensures .0, c .before .before .index .ensures .0) (s .pre .back-most) in
     offset-fits (s .args .a) _ (c .before .before .before .before .upper-face .ensures) (s .args .c) _ v
 
 shifted-requires : tie.Need-shifted-requires
 shifted-requires c κs =
     let s = c .before .before .before .before .before in
     let o = offset-small (s .args .a) _ (c .before .before .before .before .upper-face .ensures) in
-    (omega arith, omega arith, c .before .same .ensures .1, fits c .0)
+    record {
+      small = omega arith;
+      step-most = omega arith;
+      on-most = c .before .same .ensures .1;
+      back-most = fits c .0;
+    }
 
 shifted-requires-2 : tie.Need-shifted-requires-2
 shifted-requires-2 c κs =
     let s = c .before .before .before .before .before .before in
     let o = offset-small (s .args .a) _ (c .before .before .before .before .before .upper-face .ensures) in
-    (omega arith, omega arith, c .before .before .same .ensures .1, fits (c .before) .1)
+    record {
+      small = omega arith;
+      step-most = omega arith;
+      on-most = c .before .before .same .ensures .1;
+      back-most = fits (c .before) .1;
+    }
 
 shifted-requires-3 : tie.Need-shifted-requires-3
 shifted-requires-3 c κs =
     let s = c .before .before .before .before .before .before .before in
     let o = offset-small (s .args .a) _ (c .before .before .before .before .before .before .upper-face .ensures) in
-    (omega arith, omega arith, c .before .before .before .same .ensures .1, fits (c .before .before) .2)
+    record {
+      small = omega arith;
+      step-most = omega arith;
+      on-most = c .before .before .before .same .ensures .1;
+      back-most = fits (c .before .before) .2;
+    }
 
 returns : tie.Need-returns
 returns c =

@@ -20,10 +20,10 @@ abbrev μ-loop : tie.MeasureT-loop
 μ-loop n work₀ s₀ work s = left n (withWork s work)
 
 enter-requires : tie.Need-enter-requires Inv-loop μ-loop
-enter-requires c κs = let s = c .before .before in (s .pre .0, s .pre .1, cell-grid _ _ (s .pre .2), omega arith)
+enter-requires c κs = let s = c .before .before in record { sized = s .pre .sized; on-grid = cell-grid _ _ (s .pre .cell); face = omega arith }
 
 single-requires : tie.Need-single-requires Inv-loop μ-loop
-single-requires c κs = let s = c .before .before .before .before .before in (s .pre .0, cell-grid _ _ (s .pre .2))
+single-requires c κs = let s = c .before .before .before .before .before in (s .pre .sized .small, cell-grid _ _ (s .pre .cell))
 
 loop-holds : tie.Need-loop-holds Inv-loop μ-loop
 loop-holds c = λ w p l f h. h
@@ -33,11 +33,18 @@ walk-on-requires c κs =
     let enter-told = c .before .before .before .before .before .before .enter in
     let s = c .before .before .before .before .before .before .before .before .before in
     let w = s .args .work .now in
-    let h = c .before .before .loop .inv w (s .args .seed) (s .pre .1) (s .pre .3)
-    (start-from (s .args .n) w (s .args .seed) (s .pre .1) (s .pre .3) (s .pre .2) (s .pre .4) _ _ (c .before .before .before .single .ensures)
+    let h = c .before .before .loop .inv w (s .args .seed) (s .pre .sized .long) (s .pre .fine)
+    (start-from (s .args .n) w (s .args .seed) (s .pre .sized .long) (s .pre .fine) (s .pre .cell) (s .pre .unseen) _ _
+    (c .before .before .before .single .ensures)
     (enter-told .ensures)) in
-    let r = ready (s .args .n) w (s .args .seed) (s .pre .1) (s .pre .3) (s .pre .0) _ h (c .before .loop-test .taken) in
-    (s .pre .0, r .0, r .1, r .2, r .3, r .4)
+    let r = ready (s .args .n) w (s .args .seed) (s .pre .sized .long) (s .pre .fine) (s .pre .sized .small) _ h (c .before .loop-test .taken) in
+    record {
+      sized = record { small = s .pre .sized .small; long = r .0 };
+      cell = r .1;
+      fine = r .2;
+      shallow = r .3;
+      way-back = r .4;
+    }
 
 loop-less : tie.Need-loop-less Inv-loop μ-loop
 loop-less c =
@@ -47,9 +54,10 @@ loop-less c =
     let enter-told = c .before .before .before .before .before .before .before .before .before .enter in
     let s = c .before .before .before .before .before .before .before .before .before .before .before .before in
     let w = s .args .work .now in
-    let h = loop-told .inv w (s .args .seed) (s .pre .1) (s .pre .3)
-    (start-from (s .args .n) w (s .args .seed) (s .pre .1) (s .pre .3) (s .pre .2) (s .pre .4) _ _ (single .ensures) (enter-told .ensures)) in
-    step-from (s .args .n) w (s .args .seed) (s .pre .1) (s .pre .3) _ _ (c .before .before .walk-on .ensures) h (loop-test .taken) .1
+    let h = loop-told .inv w (s .args .seed) (s .pre .sized .long) (s .pre .fine)
+    (start-from (s .args .n) w (s .args .seed) (s .pre .sized .long) (s .pre .fine) (s .pre .cell) (s .pre .unseen) _ _ (single .ensures)
+    (enter-told .ensures)) in
+    step-from (s .args .n) w (s .args .seed) (s .pre .sized .long) (s .pre .fine) _ _ (c .before .before .walk-on .ensures) h (loop-test .taken) .1
 
 loop-again : tie.Need-loop-again Inv-loop μ-loop
 loop-again c =
@@ -63,8 +71,9 @@ same-length c =
     let enter-told = c .before .before .before .before .before .before .enter in
     let s = c .before .before .before .before .before .before .before .before .before in
     let w = s .args .work .now in
-    let h = c .before .before .loop .inv w (s .args .seed) (s .pre .1) (s .pre .3)
-    (start-from (s .args .n) w (s .args .seed) (s .pre .1) (s .pre .3) (s .pre .2) (s .pre .4) _ _ (c .before .before .before .single .ensures)
+    let h = c .before .before .loop .inv w (s .args .seed) (s .pre .sized .long) (s .pre .fine)
+    (start-from (s .args .n) w (s .args .seed) (s .pre .sized .long) (s .pre .fine) (s .pre .cell) (s .pre .unseen) _ _
+    (c .before .before .before .single .ensures)
     (enter-told .ensures)) in
     h .long
 
@@ -73,8 +82,9 @@ returns c =
     let enter-told = c .before .before .before .before .before .before .enter in
     let s = c .before .before .before .before .before .before .before .before .before in
     let w = s .args .work .now in
-    let h = c .before .before .loop .inv w (s .args .seed) (s .pre .1) (s .pre .3)
-    (start-from (s .args .n) w (s .args .seed) (s .pre .1) (s .pre .3) (s .pre .2) (s .pre .4) _ _ (c .before .before .before .single .ensures)
+    let h = c .before .before .loop .inv w (s .args .seed) (s .pre .sized .long) (s .pre .fine)
+    (start-from (s .args .n) w (s .args .seed) (s .pre .sized .long) (s .pre .fine) (s .pre .cell) (s .pre .unseen) _ _
+    (c .before .before .before .single .ensures)
     (enter-told .ensures)) in
     h .off (c .before .loop-test .left)
 

@@ -13,16 +13,19 @@ face-rule-requires : tie.Need-face-rule-requires
 face-rule-requires c κs = search needs
 
 number-of-requires : tie.Need-number-of-requires
-number-of-requires c κs = let s = c .before .before in
-    (s .pre .0, offset-grid (s .args .n) (s .args .work .now) (s .args .at) (s .args .f) (s .pre .3) (s .pre .4) (s .pre .5) _ (c .face-rule .ensures))
+number-of-requires c κs = let s = c .before .before in (
+  s .pre .sized .small,
+  offset-grid (s .args .n) (s .args .work .now) (s .args .at) (s .args .f) (s .pre .cell) (s .pre .fine) (s .pre .face) _
+      (c .face-rule .ensures),
+)
 
 add-p : tie.Need-add-p
 add-p c = search needs
 
 shared-slice-read-odd-bit : tie.Need-shared-slice-read-odd-bit
 shared-slice-read-odd-bit c = let s = c .before .before .before .before in let e = c .before .before .face-rule .ensures in let p = face-number
-    (s .args .n) (s .args .work .now) (s .args .at) (s .args .f) (s .pre .3) (s .pre .4) (s .pre .5) _ e _ (c .before .number-of .ensures .0) in let b
-    = face-below (s .args .n) (s .args .work .now) (s .args .at) (s .args .f) (s .pre .3) (s .pre .4) (s .pre .5) in omega (arith, s .pre .1)
+    (s .args .n) (s .args .work .now) (s .args .at) (s .args .f) (s .pre .cell) (s .pre .fine) (s .pre .face) _ e _ (c .before .number-of .ensures .0) in let b
+    = face-below (s .args .n) (s .args .work .now) (s .args .at) (s .args .f) (s .pre .cell) (s .pre .fine) (s .pre .face) in omega (arith, s .pre .sized .long)
 
 odd-bit-requires : tie.Need-odd-bit-requires
 odd-bit-requires c κs = search needs
@@ -32,17 +35,18 @@ cast-q c = search needs
 
 step-requires : tie.Need-step-requires
 step-requires c κs = let s = c .before .before .before .before .before .before in
-    (some-cells (s .args .n) (s .args .work .now) (s .args .at) (s .args .f) (s .pre .3) (s .pre .4) (s .pre .5), s .pre .0)
+    (some-cells (s .args .n) (s .args .work .now) (s .args .at) (s .args .f) (s .pre .cell) (s .pre .fine) (s .pre .face), s .pre .sized .small)
 
 mul-q : tie.Need-mul-q
 mul-q c =
     let number-of = c .before .before .before .before .number-of in
     let s = c .before .before .before .before .before .before .before in
     let e = c .before .before .before .before .before .face-rule .ensures in
-    let p = face-number (s .args .n) (s .args .work .now) (s .args .at) (s .args .f) (s .pre .3) (s .pre .4) (s .pre .5) _ e _ (number-of .ensures .0) in
+    let p = face-number (s .args .n) (s .args .work .now) (s .args .at) (s .args .f) (s .pre .cell) (s .pre .fine) (s .pre .face) _ e _
+    (number-of .ensures .0) in
     let o = c .before .before .odd-bit .ensures .0 ∙ ap (λ (x : Bool). value x 1)
-    (odd-is (s .args .n) (s .args .work .now) (s .args .at) (s .args .f) (s .pre .3) (s .pre .4) (s .pre .5) _ e _ p) in
-    let h = lower-fits (s .args .n) (s .args .work .now) (s .args .at) (s .args .f) (s .pre .3) (s .pre .4) (s .pre .5) _ e (c .before .if1 .taken) _
+    (odd-is (s .args .n) (s .args .work .now) (s .args .at) (s .args .f) (s .pre .cell) (s .pre .fine) (s .pre .face) _ e _ p) in
+    let h = lower-fits (s .args .n) (s .args .work .now) (s .args .at) (s .args .f) (s .pre .cell) (s .pre .fine) (s .pre .face) _ e (c .before .if1 .taken) _
     _ o (c .step .ensures) in
     omega arith
 
@@ -51,10 +55,11 @@ sub-q c =
     let number-of = c .before .before .before .before .number-of in
     let s = c .before .before .before .before .before .before .before in
     let e = c .before .before .before .before .before .face-rule .ensures in
-    let p = face-number (s .args .n) (s .args .work .now) (s .args .at) (s .args .f) (s .pre .3) (s .pre .4) (s .pre .5) _ e _ (number-of .ensures .0) in
+    let p = face-number (s .args .n) (s .args .work .now) (s .args .at) (s .args .f) (s .pre .cell) (s .pre .fine) (s .pre .face) _ e _
+    (number-of .ensures .0) in
     let o = c .before .before .odd-bit .ensures .0 ∙ ap (λ (x : Bool). value x 1)
-    (odd-is (s .args .n) (s .args .work .now) (s .args .at) (s .args .f) (s .pre .3) (s .pre .4) (s .pre .5) _ e _ p) in
-    lower-fits (s .args .n) (s .args .work .now) (s .args .at) (s .args .f) (s .pre .3) (s .pre .4) (s .pre .5) _ e (c .before .if1 .taken) _ _ o
+    (odd-is (s .args .n) (s .args .work .now) (s .args .at) (s .args .f) (s .pre .cell) (s .pre .fine) (s .pre .face) _ e _ p) in
+    lower-fits (s .args .n) (s .args .work .now) (s .args .at) (s .args .f) (s .pre .cell) (s .pre .fine) (s .pre .face) _ e (c .before .if1 .taken) _ _ o
     (c .step .ensures)
 
 shared-slice-read-seen-bit : tie.Need-shared-slice-read-seen-bit
@@ -69,18 +74,20 @@ returns c =
     let number-of = c .before .before .before .before .before .before .number-of in
     let s = c .before .before .before .before .before .before .before .before .before in
     let e = c .before .before .before .before .before .before .before .face-rule .ensures in
-    let p = face-number (s .args .n) (s .args .work .now) (s .args .at) (s .args .f) (s .pre .3) (s .pre .4) (s .pre .5) _ e _ (number-of .ensures .0) in
+    let p = face-number (s .args .n) (s .args .work .now) (s .args .at) (s .args .f) (s .pre .cell) (s .pre .fine) (s .pre .face) _ e _
+    (number-of .ensures .0) in
     let o = odd-bit .ensures .0 ∙ ap (λ (x : Bool). value x 1)
-    (odd-is (s .args .n) (s .args .work .now) (s .args .at) (s .args .f) (s .pre .3) (s .pre .4) (s .pre .5) _ e _ p) in
-    open-lower (s .args .n) (s .args .work .now) (s .args .at) (s .args .f) (s .pre .3) (s .pre .4) (s .pre .5) _ e
+    (odd-is (s .args .n) (s .args .work .now) (s .args .at) (s .args .f) (s .pre .cell) (s .pre .fine) (s .pre .face) _ e _ p) in
+    open-lower (s .args .n) (s .args .work .now) (s .args .at) (s .args .f) (s .pre .cell) (s .pre .fine) (s .pre .face) _ e
     (c .before .before .before .if1 .taken) _ _ _ _ o (c .before .before .step .ensures) refl (c .seen-bit .ensures)
 
 shared-slice-read-seen-bit-2 : tie.Need-shared-slice-read-seen-bit-2
 shared-slice-read-seen-bit-2 c =
     let number-of = c .before .before .before .before .number-of in
     let s = c .before .before .before .before .before .before .before in let e = c .before .before .before .before .before .face-rule .ensures in let
-    p = face-number (s .args .n) (s .args .work .now) (s .args .at) (s .args .f) (s .pre .3) (s .pre .4) (s .pre .5) _ e _ (number-of .ensures .0)
-    in let b = face-below (s .args .n) (s .args .work .now) (s .args .at) (s .args .f) (s .pre .3) (s .pre .4) (s .pre .5) in omega (arith, s .pre .1)
+    p = face-number (s .args .n) (s .args .work .now) (s .args .at) (s .args .f) (s .pre .cell) (s .pre .fine) (s .pre .face) _ e _ (number-of .ensures .0)
+    in let b = face-below (s .args .n) (s .args .work .now) (s .args .at) (s .args .f) (s .pre .cell) (s .pre .fine) (s .pre .face) in omega
+    (arith, s .pre .sized .long)
 
 seen-bit-requires-2 : tie.Need-seen-bit-requires-2
 seen-bit-requires-2 c κs = search needs
@@ -90,10 +97,11 @@ returns-2 c =
     let number-of = c .before .before .before .before .before .number-of in
     let s = c .before .before .before .before .before .before .before .before in
     let e = c .before .before .before .before .before .before .face-rule .ensures in
-    let p = face-number (s .args .n) (s .args .work .now) (s .args .at) (s .args .f) (s .pre .3) (s .pre .4) (s .pre .5) _ e _ (number-of .ensures .0) in
+    let p = face-number (s .args .n) (s .args .work .now) (s .args .at) (s .args .f) (s .pre .cell) (s .pre .fine) (s .pre .face) _ e _
+    (number-of .ensures .0) in
     let o = c .before .before .before .odd-bit .ensures .0 ∙ ap (λ (x : Bool). value x 1)
-    (odd-is (s .args .n) (s .args .work .now) (s .args .at) (s .args .f) (s .pre .3) (s .pre .4) (s .pre .5) _ e _ p) in
-    open-upper (s .args .n) (s .args .work .now) (s .args .at) (s .args .f) (s .pre .3) (s .pre .4) (s .pre .5) (c .before .before .if1 .left) _ _ _ o
+    (odd-is (s .args .n) (s .args .work .now) (s .args .at) (s .args .f) (s .pre .cell) (s .pre .fine) (s .pre .face) _ e _ p) in
+    open-upper (s .args .n) (s .args .work .now) (s .args .at) (s .args .f) (s .pre .cell) (s .pre .fine) (s .pre .face) (c .before .before .if1 .left) _ _ _ o
     p (c .seen-bit2 .ensures)
 
 pub is-open-spec : {M : Type 1} → statement M

@@ -18,7 +18,13 @@ loop-holds : tie.Need-loop-holds Inv-loop μ-loop
 loop-holds c = (omega arith, refl)
 
 is-open-requires : tie.Need-is-open-requires Inv-loop μ-loop
-is-open-requires c κs = let s = c .before .before .before in (s .pre .0, s .pre .1, s .pre .2, s .pre .3, s .pre .4, c .loop-test .taken)
+is-open-requires c κs = let s = c .before .before .before in record {
+  sized = s .pre .sized;
+  below = s .pre .below;
+  cell = s .pre .cell;
+  fine = s .pre .fine;
+  face = c .loop-test .taken;
+}
 
 returns : tie.Need-returns Inv-loop μ-loop
 returns c = first-at _ _ _ _ _ (c .before .before .loop-test .taken) (sym (c .before .is-open .ensures) ∙ c .if1 .taken) ∙

@@ -7,13 +7,13 @@ use Rattle.walking.proofs.shifted.Statement.{statement}
 use Rattle.walking.proofs.shifted.Tie as tie
 
 small : (s : tie.Start) → s .args .on * s .args .o ≤ 1 * 1
-small s = mul-le-mul (s .pre .2) (s .pre .1)
+small s = mul-le-mul (s .pre .on-most) (s .pre .step-most)
 
 mul-result : tie.Need-mul-result
 mul-result c = let m = small c in omega arith
 
 add-result : tie.Need-add-result
-add-result c = let m = small c in let k = c .pre .0 in omega arith
+add-result c = let m = small c in let k = c .pre .small in omega arith
 
 mul-result-2 : tie.Need-mul-result-2
 mul-result-2 c = search needs

@@ -14,28 +14,35 @@ number-of-requires c κs = search needs
 
 next-face-requires : tie.Need-next-face-requires
 next-face-requires c κs =
-    let s = c .before .before .before .before .before in (
-      s .pre .0,
-      s .pre .1,
-      c .number-of .ensures .1,
-      subst (Cell (s .args .n)) (sym (cell-at _ _ _ (s .pre .2) (c .number-of .ensures .0)))
-          (s .pre .2),
-      s .pre .3,
-    )
+    let s = c .before .before .before .before .before in record {
+      sized = s .pre .sized;
+      below = c .number-of .ensures .1;
+      cell = subst (Cell (s .args .n)) (sym (cell-at _ _ _ (s .pre .cell) (c .number-of .ensures .0))) (s .pre .cell);
+      fine = s .pre .fine;
+    }
 
 across-requires : tie.Need-across-requires
 across-requires c κs =
     let s = c .before .before .before .before .before .before .before in
-    let f = first-of _ _ _ _ _ (s .pre .2) (c .before .before .number-of .ensures .0) (c .before .next-face .ensures) in
-    (s .pre .0, s .pre .2, c .if1 .taken, open-inside _ _ _ _ f (c .if1 .taken))
+    let f = first-of _ _ _ _ _ (s .pre .cell) (c .before .before .number-of .ensures .0) (c .before .next-face .ensures) in
+    record {
+      small = s .pre .sized .small;
+      cell = s .pre .cell;
+      face = c .if1 .taken;
+      between = open-inside _ _ _ _ f (c .if1 .taken);
+    }
 
 enter-requires : tie.Need-enter-requires
 enter-requires c κs =
     let if1 = c .before .before .if1 in
     let number-of = c .before .before .before .before .number-of in
     let s = c .before .before .before .before .before .before .before .before .before in
-    let f = first-of _ _ _ _ _ (s .pre .2) (number-of .ensures .0) (c .before .before .before .next-face .ensures) in
-    (s .pre .0, s .pre .1, across-grid _ _ _ _ (if1 .taken) (s .pre .2) (open-inside _ _ _ _ f (if1 .taken)) (c .before .across .ensures), if1 .taken)
+    let f = first-of _ _ _ _ _ (s .pre .cell) (number-of .ensures .0) (c .before .before .before .next-face .ensures) in
+    record {
+      sized = s .pre .sized;
+      on-grid = across-grid _ _ _ _ (if1 .taken) (s .pre .cell) (open-inside _ _ _ _ f (if1 .taken)) (c .before .across .ensures);
+      face = if1 .taken;
+    }
 
 widen-requires : tie.Need-widen-requires
 widen-requires c κs =
@@ -44,8 +51,8 @@ widen-requires c κs =
     let next-face = c .before .before .before .before .before .before .next-face in
     let number-of = c .before .before .before .before .before .before .before .number-of in
     let s = c .before .before .before .before .before .before .before .before .before .before .before .before in
-    let f = first-of _ _ _ _ _ (s .pre .2) (number-of .ensures .0) (next-face .ensures) in
-    (s .pre .0, across-grid _ _ _ _ (if1 .taken) (s .pre .2) (open-inside _ _ _ _ f (if1 .taken)) (across .ensures))
+    let f = first-of _ _ _ _ _ (s .pre .cell) (number-of .ensures .0) (next-face .ensures) in
+    (s .pre .sized .small, across-grid _ _ _ _ (if1 .taken) (s .pre .cell) (open-inside _ _ _ _ f (if1 .taken)) (across .ensures))
 
 add-t19 : tie.Need-add-t19
 add-t19 c = search needs
@@ -60,13 +67,13 @@ returns c =
     let next-face = c .before .before .before .before .before .before .before .next-face in
     let number-of = c .before .before .before .before .before .before .before .before .number-of in
     let s = c .before .before .before .before .before .before .before .before .before .before .before .before .before in
-    let f = first-of _ _ _ _ _ (s .pre .2) (number-of .ensures .0) (next-face .ensures) in
+    let f = first-of _ _ _ _ _ (s .pre .cell) (number-of .ensures .0) (next-face .ensures) in
     step-push _ _ _ _ _ f _ _ _ (if1 .taken) (across .ensures) (c .before .before .before .enter .ensures) (c .widen .ensures)
 
 leave-requires : tie.Need-leave-requires
 leave-requires c κs =
     let s = c .before .before .before .before .before .before .before .before in
-    (s .pre .0, s .pre .1, cell-grid _ _ (s .pre .2))
+    (s .pre .sized, cell-grid _ _ (s .pre .cell))
 
 same-length-2 : tie.Need-same-length-2
 same-length-2 c = search needs
@@ -77,24 +84,24 @@ returns-2 c =
     let next-face = c .before .before .before .before .before .before .next-face in
     let number-of = c .before .before .before .before .before .before .before .number-of in
     let s = c .before .before .before .before .before .before .before .before .before .before .before .before in
-    let f = first-of _ _ _ _ _ (s .pre .2) (number-of .ensures .0) (next-face .ensures) in
+    let f = first-of _ _ _ _ _ (s .pre .cell) (number-of .ensures .0) (next-face .ensures) in
     step-stop _ _ _ _ _ f _ (if1 .left) (c .if2 .taken) (c .before .before .before .leave .ensures .1)
 
 opposite-face-requires : tie.Need-opposite-face-requires
 opposite-face-requires c κs =
     let start = c .before .before .before .before .before .before .before .before .before .before .before .before in
-    subst (λ (k : ℕ). k < 6) (sym (c .before .before .before .leave .ensures .0)) (start .pre .5 (c .if2 .left) .0)
+    subst (λ (k : ℕ). k < 6) (sym (c .before .before .before .leave .ensures .0)) (start .pre .way-back (c .if2 .left) .0)
 
 across-requires-2 : tie.Need-across-requires-2
 across-requires-2 c κs =
     let leave = c .before .before .before .before .leave in
-    let s = c .before .before .before .before .before .before .before .before .before .before .before .before .before in (
-      s .pre .0,
-      s .pre .2,
-      c .opposite-face .ensures .1,
-      subst (λ (k : ℕ). BetweenCells (s .args .n) k (s .args .s .cell)) (sym (c .opposite-face .ensures .0 ∙ ap opposite (leave .ensures .0)))
-          (s .pre .5 (c .before .if2 .left) .1),
-    )
+    let s = c .before .before .before .before .before .before .before .before .before .before .before .before .before in record {
+      small = s .pre .sized .small;
+      cell = s .pre .cell;
+      face = c .opposite-face .ensures .1;
+      between = subst (λ (k : ℕ). BetweenCells (s .args .n) k (s .args .s .cell)) (sym (c .opposite-face .ensures .0 ∙ ap opposite (leave .ensures .0)))
+          (s .pre .way-back (c .before .if2 .left) .1);
+    }
 
 sub-t14 : tie.Need-sub-t14
 sub-t14 c = search needs
@@ -109,7 +116,7 @@ returns-3 c =
     let next-face = c .before .before .before .before .before .before .before .before .next-face in
     let number-of = c .before .before .before .before .before .before .before .before .before .number-of in
     let s = c .before .before .before .before .before .before .before .before .before .before .before .before .before .before in
-    let f = first-of _ _ _ _ _ (s .pre .2) (number-of .ensures .0) (next-face .ensures) in
+    let f = first-of _ _ _ _ _ (s .pre .cell) (number-of .ensures .0) (next-face .ensures) in
     step-pop _ _ _ _ _ f _ _ (if1 .left) (c .before .before .if2 .left)
     (c .across2 .ensures ∙ ap (λ (k : ℕ). acrossOf k (s .args .s .cell)) (c .before .opposite-face .ensures .0 ∙ ap opposite (leave .ensures .0)))
     (leave .ensures .1)

@@ -1,7 +1,4 @@
 -- `read_scale`: two digits below ten give at most 99, so that no sum is lost, and 40 is the last that is taken. Assumes nothing.
-use mathlib.Core.Path.{_≡_, refl}
-use Prim.Native.Nat.{_+_, _*_}
-use native.Mathlib.Omega.{arith}
 use borrow.Author.Tests.{lt-ltb, le-ltb}
 use Rattle.wording.specs.Word.{scaleOf}
 use borrow.Author.Needs.{needs}

@@ -1,5 +1,5 @@
 -- `read_word`: the definition's tests in its order; each character lies within the five that there are. Assumes nothing.
-use mathlib.Core.Path.{_≡_, refl, sym, ap, _∙_}
+use mathlib.Core.Path.{refl, sym, ap, _∙_}
 use mathlib.Core.Bool.{true, false}
 use Prim.Native.Nat.{ℕ}
 use lib.ListN.{getD}
@@ -7,7 +7,6 @@ use borrow.Author.Tests.{not-true, not-false}
 use Rattle.lattice.specs.Levels.{levelOf}
 use Rattle.lattice.specs.declared.level.LevelRead.the-variants.{Known, Unknown}
 use Rattle.rounding.specs.declared.Scale.the-variants.{Known as At, Bad as NoScale}
-use Rattle.wording.specs.declared.Word.{Word}
 use Rattle.wording.specs.declared.Word.the-variants.{Known as Asks}
 use Rattle.wording.proofs.Words.{word-long, word-at}
 use borrow.Author.Needs.{needs}

@@ -11,12 +11,7 @@ use Rattle.accept_call.proofs.placing.place.Statement.{statement}
 use Rattle.accept_call.proofs.placing.place.Tie as tie
 
 member-requires : tie.Need-member-requires
-member-requires c κs = let start = c .before .before in (
-  start .pre .0,
-  start .pre .1,
-  inner-grid (start .args .n) (start .args .a) (start .args .p) (start
-      .pre .2) .0,
-)
+member-requires c κs = let start = c .before .before in (start .pre .0, inner-grid (start .args .n) (start .args .a) (start .args .p) (start .pre .1) .0)
 
 same-length : tie.Need-same-length
 same-length c = search needs
@@ -28,9 +23,9 @@ returns c =
 
 number-of-requires : tie.Need-number-of-requires
 number-of-requires c κs = let start = c .before .before .before .before in (
-  start .pre .0,
+  start .pre .0 .small,
   inner-grid (start .args .n) (start .args .a) (start .args .p)
-      (start .pre .2) .0,
+      (start .pre .1) .0,
 )
 
 turn-requires : tie.Need-turn-requires
@@ -39,17 +34,19 @@ turn-requires c κs = search needs
 inside-end-requires : tie.Need-inside-end-requires
 inside-end-requires c κs =
     let start = c .before .before .before .before .before .before .before .before .before in
-    omega (arith, inner-grid (start .args .n) (start .args .a) (start .args .p) (start .pre .2) .1, start .pre .0)
+    omega (arith, inner-grid (start .args .n) (start .args .a) (start .args .p) (start .pre .1) .1, start .pre .0 .small)
 
 say-inside-requires : tie.Need-say-inside-requires
 say-inside-requires c κs =
     let start = c .before .before .before .before .before .before .before .before .before .before .before in
     let n = start .args .n in
-    let e = end-grid n (start .args .inside) (start .args .a) (start .args .p) (start .pre .2) in (
-      start .pre .0,
-      subst (λ (k : ℕ). pointCount n ≤ k) (sym (c .before .before .before .before .turn .kept .0)) (start .pre .1),
-      subst (OfGrid n) (sym (c
-          .before .inside-end .ensures)) e,
+    let e = end-grid n (start .args .inside) (start .args .a) (start .args .p) (start .pre .1) in (
+      record {
+        small = start .pre .0 .small;
+        long = subst (λ (k : ℕ). pointCount n ≤ k) (sym (c .before .before .before .before .turn .kept .0))
+            (start .pre .0 .long);
+      },
+      subst (OfGrid n) (sym (c .before .inside-end .ensures)) e,
     )
 
 same-length-2 : tie.Need-same-length-2

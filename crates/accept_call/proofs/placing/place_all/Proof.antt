@@ -2,15 +2,15 @@
 -- of them gave at the start. Assumes nothing.
 use Rattle.accepting.proofs.Loops.{room, fourAt, fours-step, fours-end, placing-on, placing-off, placing-end}
 use Rattle.accepting.specs.Placing.{placing}
-use Rattle.quad_reading.specs.Read.{Fits}
+use Rattle.quad_reading.specs.Read.{InnerOrNothing}
 use Rattle.quad_reading.proofs.OneEdge.{fits-read}
 use Rattle.surfacing.specs.Sides.{Four, fours}
-use Rattle.rules.specs.Lattice.{pointCount}
+use Rattle.lattice.proofs.Buffers.{sized-kept}
 use mathlib.Core.List.{List}
 use borrow.Author.Tests.{not-true, not-false}
 use mathlib.Core.Path.{_≡_, refl, sym, ap, subst, _∙_}
 use lib.ListN.{length, drop}
-use Prim.Native.Nat.{ℕ, _+_, _-_, _≤_, _%_}
+use Prim.Native.Nat.{_+_, _-_, _≤_, _%_}
 use borrow.Author.Needs.{needs}
 use native.Mathlib.Omega.{arith}
 use Rattle.accept_call.proofs.placing.place_all.Statement.{statement}
@@ -33,14 +33,14 @@ shared-slice-read-read : tie.Need-shared-slice-read-read Inv-loop μ-loop
 shared-slice-read-read c =
     let start = c .before .before .before .before .before in
     let l = c .before .before .loop in
-    let h : l .at + 4 ≤ length (start .args .list .now) = room _ _ (c .before .loop-test .taken) (l .inv .1) (start .pre .3) in
+    let h : l .at + 4 ≤ length (start .args .list .now) = room _ _ (c .before .loop-test .taken) (l .inv .1) (start .pre .fours) in
     omega arith
 
 add-read : tie.Need-add-read Inv-loop μ-loop
 add-read c =
     let start = c .before .before .before .before .before in
     let l = c .before .before .loop in
-    let h : l .at + 4 ≤ length (start .args .list .now) = room _ _ (c .before .loop-test .taken) (l .inv .1) (start .pre .3) in
+    let h : l .at + 4 ≤ length (start .args .list .now) = room _ _ (c .before .loop-test .taken) (l .inv .1) (start .pre .fours) in
     omega arith
 
 mul-read-2 : tie.Need-mul-read-2 Inv-loop μ-loop
@@ -50,14 +50,14 @@ shared-slice-read-read-2 : tie.Need-shared-slice-read-read-2 Inv-loop μ-loop
 shared-slice-read-read-2 c =
     let start = c .before .before .before .before .before .before in
     let l = c .before .before .before .loop in
-    let h : l .at + 4 ≤ length (start .args .list .now) = room _ _ (c .before .before .loop-test .taken) (l .inv .1) (start .pre .3) in
+    let h : l .at + 4 ≤ length (start .args .list .now) = room _ _ (c .before .before .loop-test .taken) (l .inv .1) (start .pre .fours) in
     omega arith
 
 add-read-2 : tie.Need-add-read-2 Inv-loop μ-loop
 add-read-2 c =
     let start = c .before .before .before .before .before .before in
     let l = c .before .before .before .loop in
-    let h : l .at + 4 ≤ length (start .args .list .now) = room _ _ (c .before .before .loop-test .taken) (l .inv .1) (start .pre .3) in
+    let h : l .at + 4 ≤ length (start .args .list .now) = room _ _ (c .before .before .loop-test .taken) (l .inv .1) (start .pre .fours) in
     omega arith
 
 mul-read-3 : tie.Need-mul-read-3 Inv-loop μ-loop
@@ -67,14 +67,14 @@ shared-slice-read-read-3 : tie.Need-shared-slice-read-read-3 Inv-loop μ-loop
 shared-slice-read-read-3 c =
     let start = c .before .before .before .before .before .before .before in
     let l = c .before .before .before .before .loop in
-    let h : l .at + 4 ≤ length (start .args .list .now) = room _ _ (c .before .before .before .loop-test .taken) (l .inv .1) (start .pre .3) in
+    let h : l .at + 4 ≤ length (start .args .list .now) = room _ _ (c .before .before .before .loop-test .taken) (l .inv .1) (start .pre .fours) in
     omega arith
 
 add-read-3 : tie.Need-add-read-3 Inv-loop μ-loop
 add-read-3 c =
     let start = c .before .before .before .before .before .before .before in
     let l = c .before .before .before .before .loop in
-    let h : l .at + 4 ≤ length (start .args .list .now) = room _ _ (c .before .before .before .loop-test .taken) (l .inv .1) (start .pre .3) in
+    let h : l .at + 4 ≤ length (start .args .list .now) = room _ _ (c .before .before .before .loop-test .taken) (l .inv .1) (start .pre .fours) in
     omega arith
 
 mul-read-4 : tie.Need-mul-read-4 Inv-loop μ-loop
@@ -84,19 +84,18 @@ shared-slice-read-read-4 : tie.Need-shared-slice-read-read-4 Inv-loop μ-loop
 shared-slice-read-read-4 c =
     let start = c .before .before .before .before .before .before .before .before in
     let l = c .before .before .before .before .before .loop in
-    let h : l .at + 4 ≤ length (start .args .list .now) = room _ _ (c .before .before .before .before .loop-test .taken) (l .inv .1) (start .pre .3) in
+    let h : l .at + 4 ≤ length (start .args .list .now) = room _ _ (c .before .before .before .before .loop-test .taken) (l .inv .1) (start .pre .fours) in
     omega arith
 
 read-requires : tie.Need-read-requires Inv-loop μ-loop
-read-requires c κs = let start = c .before .before .before .before .before .before .before .before in (start .pre .0, start .pre .1)
+read-requires c κs = let start = c .before .before .before .before .before .before .before .before in (start .pre .some, start .pre .sized .small)
 
 put-requires : tie.Need-put-requires Inv-loop μ-loop
 put-requires c κs =
     let start = c .before .before .before .before .before .before .before .before .before .before in
     let l = c .before .before .before .before .before .before .before .loop in (
-      start .pre .1,
-      subst (λ (k : ℕ). pointCount (start .args .n) ≤ k) (sym (l .inv .2)) (start .pre .2),
-      subst (Fits (start .args .n)) (sym (c .before .read .ensures)) (fits-read (start .args .n) (fourAt (start .args .list .now) (l .at))),
+      sized-kept (l .inv .2) (start .pre .sized),
+      subst (InnerOrNothing (start .args .n)) (sym (c .before .read .ensures)) (fits-read (start .args .n) (fourAt (start .args .list .now) (l .at))),
     )
 
 same-length : tie.Need-same-length Inv-loop μ-loop
@@ -112,7 +111,7 @@ returns c =
     let start = c .before .before .before .before .before .before .before .before .before .before .before .before .before .before in
     let l = c .before .before .before .before .before .before .before .before .before .before .before .loop in
     let h : l .at + 4 ≤ length (start .args .list .now) =
-    room _ _ (loop-test .taken) (l .inv .1) (start .pre .3) in
+    room _ _ (loop-test .taken) (l .inv .1) (start .pre .fours) in
     placing-off (start .args .n) (fourAt (start .args .list .now) (l .at)) (fours (drop (l .at + 4) (start .args .list .now))) _ _ _ _
     (read .ensures) (c .before .before .before .put .ensures) (not-true _ (c .if1 .taken))
     ∙ ap (λ (m : List Four). placing (start .args .n) m (l .work)) (sym (fours-step (start .args .list .now) (l .at) h))
@@ -124,7 +123,7 @@ add-at c =
     let start = c .before .before .before .before .before .before .before .before .before .before .before .before .before .before in
     let l = c .before .before .before .before .before .before .before .before .before .before .before .loop in
     let h : l .at + 4 ≤ length (start .args .list .now) =
-    room _ _ (loop-test .taken) (l .inv .1) (start .pre .3) in
+    room _ _ (loop-test .taken) (l .inv .1) (start .pre .fours) in
     omega arith
 
 loop-less : tie.Need-loop-less Inv-loop μ-loop
@@ -133,7 +132,7 @@ loop-less c =
     let start = c .before .before .before .before .before .before .before .before .before .before .before .before .before .before in
     let l = c .before .before .before .before .before .before .before .before .before .before .before .loop in
     let h : l .at + 4 ≤ length (start .args .list .now) =
-    room _ _ (loop-test .taken) (l .inv .1) (start .pre .3) in
+    room _ _ (loop-test .taken) (l .inv .1) (start .pre .fours) in
     omega arith
 
 loop-again : tie.Need-loop-again Inv-loop μ-loop
@@ -144,7 +143,7 @@ loop-again c =
     let start = c .before .before .before .before .before .before .before .before .before .before .before .before .before .before in
     let l = c .before .before .before .before .before .before .before .before .before .before .before .loop in
     let h : l .at + 4 ≤ length (start .args .list .now) =
-    room _ _ (loop-test .taken) (l .inv .1) (start .pre .3) in (
+    room _ _ (loop-test .taken) (l .inv .1) (start .pre .fours) in (
       h,
       omega (arith, l .inv .1),
       put .kept .1 .1 .0

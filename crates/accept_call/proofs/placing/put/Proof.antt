@@ -14,12 +14,8 @@ enum-known-r : tie.Need-enum-known-r
 enum-known-r c = search needs
 
 place-requires : tie.Need-place-requires
-place-requires c κs = let start = c .before .before .before .before .before in (
-  start .pre .0,
-  start .pre .1,
-  fits-of _ _ _ _ _ (start .pre .2) (c .before
-      .before .r .given .1),
-)
+place-requires c κs = let start = c .before .before .before .before .before in
+    (start .pre .0, fits-of _ _ _ _ _ (start .pre .1) (c .before .before .r .given .1))
 
 returns : tie.Need-returns
 unfolding putOne

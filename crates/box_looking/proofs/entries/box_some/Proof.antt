@@ -1,11 +1,10 @@
 -- `box_some` meets its contract. The loop's invariant: the layers from k on decide. Assumes nothing.
-use mathlib.Core.Path.{_≡_, refl, sym, ap, _∙_}
-use Prim.Native.Nat.{ℕ, _+_, _-_, _≤_, _<_, _/_}
+use mathlib.Core.Path.{_≡_, refl, sym, _∙_}
+use Prim.Native.Nat.{_-_}
 use native.Mathlib.Omega.{arith}
-use Rattle.rules.specs.declared.Point.{Point}
 use Rattle.rules.specs.Lists.{upto, anyOf}
 use Rattle.asking.specs.Ask.{entrySome}
-use Rattle.asking.specs.Walk.{rowAny, layerAny}
+use Rattle.asking.specs.Walk.{layerAny}
 use Rattle.asking.proofs.Some.{some-more, some-hit, some-end, in-turn}
 use Rattle.box_looking.proofs.entries.box_some.Statement.{statement}
 use Rattle.box_looking.proofs.entries.box_some.Tie as tie
@@ -21,8 +20,12 @@ loop-holds c = refl
 
 layer-some-requires : tie.Need-layer-some-requires Inv-loop μ-loop
 layer-some-requires c κs =
-    let f = c .before .before .before .pre .2 in
-    (c .before .before .before .pre .0, c .before .before .before .pre .1, c .before .before .before .pre .2, omega (arith, f .z, c .loop-test .taken))
+    let f = c .before .before .before .pre .1 in
+    record {
+      sized = c .before .before .before .pre .0;
+      fits = c .before .before .before .pre .1;
+      layer = omega (arith, f .z, c .loop-test .taken);
+    }
 
 returns : tie.Need-returns Inv-loop μ-loop
 returns c =
@@ -35,7 +38,7 @@ returns c =
 add-k : tie.Need-add-k Inv-loop μ-loop
 add-k c =
     let start = c .before .before .before .before .before in
-    let f = start .pre .2 in omega (arith, f .z, c .before .before .loop-test .taken, start .pre .0)
+    let f = start .pre .1 in omega (arith, f .z, c .before .before .loop-test .taken, start .pre .0 .small)
 
 loop-less : tie.Need-loop-less Inv-loop μ-loop
 loop-less c = omega (arith, c .before .before .loop-test .taken)

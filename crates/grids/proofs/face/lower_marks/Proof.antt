@@ -33,14 +33,13 @@ face-marks-requires c κs =
     let s = c .before .before .before .before .before .before .before in
     let n = s .args .n in
     let p = s .args .at in
-    let h = s .pre .3 in (
-      s .pre .0,
-      s .pre .1,
-      reach (c .before .before .before .edge-rule .ensures) (reached-here n p h Y),
-      reach (c .before .before .edge-rule2 .ensures) (reached-next n p h Y Z),
-      reach (c .before .edge-rule3 .ensures) (reached-here n p h Z),
-      reach (c .edge-rule4 .ensures) (reached-next n p h Z Y),
-    )
+    let h = s .pre .layer in record {
+      sized = s .pre .sized;
+      e-reached = reach (c .before .before .before .edge-rule .ensures) (reached-here n p h Y);
+      f-reached = reach (c .before .before .edge-rule2 .ensures) (reached-next n p h Y Z);
+      g-reached = reach (c .before .edge-rule3 .ensures) (reached-here n p h Z);
+      h-reached = reach (c .edge-rule4 .ensures) (reached-next n p h Z Y);
+    }
 
 enum-told-2 : tie.Need-enum-told-2
 enum-told-2 c = search needs
@@ -63,14 +62,13 @@ face-marks-requires-2 c κs =
     let s = c .before .before .before .before .before .before .before in
     let n = s .args .n in
     let p = s .args .at in
-    let h = s .pre .3 in (
-      s .pre .0,
-      s .pre .1,
-      reach (c .before .before .before .edge-rule5 .ensures) (reached-here n p h X),
-      reach (c .before .before .edge-rule6 .ensures) (reached-next n p h X Z),
-      reach (c .before .edge-rule7 .ensures) (reached-here n p h Z),
-      reach (c .edge-rule8 .ensures) (reached-next n p h Z X),
-    )
+    let h = s .pre .layer in record {
+      sized = s .pre .sized;
+      e-reached = reach (c .before .before .before .edge-rule5 .ensures) (reached-here n p h X);
+      f-reached = reach (c .before .before .edge-rule6 .ensures) (reached-next n p h X Z);
+      g-reached = reach (c .before .edge-rule7 .ensures) (reached-here n p h Z);
+      h-reached = reach (c .edge-rule8 .ensures) (reached-next n p h Z X);
+    }
 
 enum-told-3 : tie.Need-enum-told-3
 enum-told-3 c = search needs
@@ -93,14 +91,13 @@ face-marks-requires-3 c κs =
     let s = c .before .before .before .before .before .before .before in
     let n = s .args .n in
     let p = s .args .at in
-    let h = s .pre .3 in (
-      s .pre .0,
-      s .pre .1,
-      reach (c .before .before .before .edge-rule9 .ensures) (reached-here n p h X),
-      reach (c .before .before .edge-rule10 .ensures) (reached-next n p h X Y),
-      reach (c .before .edge-rule11 .ensures) (reached-here n p h Y),
-      reach (c .edge-rule12 .ensures) (reached-next n p h Y X),
-    )
+    let h = s .pre .layer in record {
+      sized = s .pre .sized;
+      e-reached = reach (c .before .before .before .edge-rule9 .ensures) (reached-here n p h X);
+      f-reached = reach (c .before .before .edge-rule10 .ensures) (reached-next n p h X Y);
+      g-reached = reach (c .before .edge-rule11 .ensures) (reached-here n p h Y);
+      h-reached = reach (c .edge-rule12 .ensures) (reached-next n p h Y X);
+    }
 
 returns : tie.Need-returns
 unfolding edgeRule
@@ -108,7 +105,7 @@ returns c =
     let edge-rule = c .before .before .before .before .edge-rule in
     let enum-told-told = c .before .before .before .before .before .enum-told in
     let s = c .before .before .before .before .before .before .before .before in
-    face-told (s .args .n) (s .args .grid .now) (s .pre .1) (s .pre .2) X (s .args .at) (s .pre .3) (edge-rule .ensures)
+    face-told (s .args .n) (s .args .grid .now) (s .pre .sized .long) (s .pre .is-grid) X (s .args .at) (s .pre .layer) (edge-rule .ensures)
     (c .before .before .before .edge-rule2 .ensures) (c .before .before .edge-rule3 .ensures) (c .before .edge-rule4 .ensures) (c .face-marks .ensures)
     ∙ ap (λ (a : Axis). faceMarks (marks (s .args .n) (s .args .grid .now)) a (pointOf (s .args .n) (s .args .at))) (sym (enum-told-told .given .1))
 
@@ -118,7 +115,7 @@ returns-2 c =
     let edge-rule5 = c .before .before .before .before .edge-rule5 in
     let enum-told2 = c .before .before .before .before .before .enum-told2 in
     let s = c .before .before .before .before .before .before .before .before in
-    face-told (s .args .n) (s .args .grid .now) (s .pre .1) (s .pre .2) Y (s .args .at) (s .pre .3) (edge-rule5 .ensures)
+    face-told (s .args .n) (s .args .grid .now) (s .pre .sized .long) (s .pre .is-grid) Y (s .args .at) (s .pre .layer) (edge-rule5 .ensures)
     (c .before .before .before .edge-rule6 .ensures) (c .before .before .edge-rule7 .ensures) (c .before .edge-rule8 .ensures) (c .face-marks2 .ensures)
     ∙ ap (λ (a : Axis). faceMarks (marks (s .args .n) (s .args .grid .now)) a (pointOf (s .args .n) (s .args .at))) (sym (enum-told2 .given .1))
 
@@ -128,7 +125,7 @@ returns-3 c =
     let edge-rule9 = c .before .before .before .before .edge-rule9 in
     let enum-told3 = c .before .before .before .before .before .enum-told3 in
     let s = c .before .before .before .before .before .before .before .before in
-    face-told (s .args .n) (s .args .grid .now) (s .pre .1) (s .pre .2) Z (s .args .at) (s .pre .3) (edge-rule9 .ensures)
+    face-told (s .args .n) (s .args .grid .now) (s .pre .sized .long) (s .pre .is-grid) Z (s .args .at) (s .pre .layer) (edge-rule9 .ensures)
     (c .before .before .before .edge-rule10 .ensures) (c .before .before .edge-rule11 .ensures) (c .before .edge-rule12 .ensures) (c .face-marks3 .ensures)
     ∙ ap (λ (a : Axis). faceMarks (marks (s .args .n) (s .args .grid .now)) a (pointOf (s .args .n) (s .args .at))) (sym (enum-told3 .given .1))
 

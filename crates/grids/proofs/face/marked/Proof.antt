@@ -14,14 +14,14 @@ number-of-requires c κs = search needs
 add-p : tie.Need-add-p
 add-p c =
     let s = c .before .before in
-    let b = s .pre .2 .below in
+    let b = s .pre .1 .below in
     let e = c .number-of .ensures .0 in
     search needs
 
 shared-slice-read-mark-bit : tie.Need-shared-slice-read-mark-bit
 shared-slice-read-mark-bit c =
     let s = c .before .before .before in
-    let b = s .pre .2 .below in
+    let b = s .pre .1 .below in
     let e = c .before .number-of .ensures .0 in
     omega arith
 

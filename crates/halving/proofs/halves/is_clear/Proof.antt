@@ -23,7 +23,7 @@ loop-holds c = refl
 layer-is-clear-requires : tie.Need-layer-is-clear-requires Inv-loop μ-loop
 layer-is-clear-requires c κs =
     let s = c .before .before .before .before .before .before in
-    (s .pre .0, s .pre .1, s .pre .2, omega (arith, c .if1 .taken, s .pre .2 .hz))
+    record { sized = s .pre .0; fits = s .pre .1; layer = omega (arith, c .if1 .taken, s .pre .1 .hz) }
 
 returns : tie.Need-returns Inv-loop μ-loop
 returns c =
@@ -36,7 +36,7 @@ returns c =
 add-k : tie.Need-add-k Inv-loop μ-loop
 add-k c =
     let s = c .before .before .before .before .before .before .before .before in
-    omega (arith, c .before .before .if1 .taken, s .pre .0, s .pre .2 .hz)
+    omega (arith, c .before .before .if1 .taken, s .pre .0 .small, s .pre .1 .hz)
 
 loop-less : tie.Need-loop-less Inv-loop μ-loop
 loop-less c = omega (arith, c .before .before .if1 .taken)

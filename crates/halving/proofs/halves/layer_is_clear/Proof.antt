@@ -29,8 +29,8 @@ loop-holds c = refl
 number-of-requires : tie.Need-number-of-requires Inv-loop μ-loop
 number-of-requires c κs =
     let s = c .before .before .before .before .before .before in
-    let f = s .pre .2 in
-    (s .pre .0, omega (arith, c .if1 .taken, s .pre .3, f .i, f .hx, f .hy))
+    let f = s .pre .fits in
+    (s .pre .sized .small, omega (arith, c .if1 .taken, s .pre .layer, f .i, f .hx, f .hy))
 
 sub-row-is-clear : tie.Need-sub-row-is-clear Inv-loop μ-loop
 sub-row-is-clear c = search needs
@@ -40,11 +40,11 @@ row-is-clear-requires c κs =
     let number-of = c .before .before .number-of in
     let loop-told = c .before .before .before .before .before .loop in
     let s = c .before .before .before .before .before .before .before .before .before in
-    let f = s .pre .2 in
+    let f = s .pre .fits in
     let e : number-of .result + side (s .args .b) X ≤ length (s .args .work .now) = rw (number-of .ensures .0)
-    (row-fits (s .args .n) (s .args .b) (s .args .work .now) (loop-told .j) (s .args .k) (s .pre .1) f (c .before .before .before .if1 .taken)
-    (s .pre .3)) in
-    (omega (arith, s .pre .0, f .hx), e)
+    (row-fits (s .args .n) (s .args .b) (s .args .work .now) (loop-told .j) (s .args .k) (s .pre .sized .long) f (c .before .before .before .if1 .taken)
+    (s .pre .layer)) in
+    (omega (arith, s .pre .sized .small, f .hx), e)
 
 returns : tie.Need-returns Inv-loop μ-loop
 returns c =
@@ -60,7 +60,7 @@ returns c =
 add-j : tie.Need-add-j Inv-loop μ-loop
 add-j c =
     let s = c .before .before .before .before .before .before .before .before .before .before .before in
-    omega (arith, c .before .before .before .before .before .if1 .taken, s .pre .0, s .pre .2 .hy)
+    omega (arith, c .before .before .before .before .before .if1 .taken, s .pre .sized .small, s .pre .fits .hy)
 
 loop-less : tie.Need-loop-less Inv-loop μ-loop
 loop-less c = omega (arith, c .before .before .before .before .before .if1 .taken)

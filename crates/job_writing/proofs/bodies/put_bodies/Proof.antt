@@ -1,7 +1,7 @@
 -- `put_bodies` meets its contract: three bodies one behind another. Assumes nothing.
 use mathlib.Core.Path.{ap, _∙_}
 use native.Mathlib.Omega.{arith}
-use Prim.Native.Nat.{ℕ, _+_}
+use Prim.Native.Nat.{ℕ}
 use mathlib.Core.List.{_++_}
 use Rattle.job_writing.specs.Write.{keep, endFrom}
 use Rattle.job_writing.proofs.Follow.{end-append, end-grows}
@@ -14,14 +14,14 @@ use Rattle.job_writing.proofs.bodies.put_bodies.Tie as tie
 behind-requires : tie.Need-behind-requires
 behind-requires c κs =
     let start = c .before .before .before .before in
-    (omega arith, start .pre .0 .1 .first)
+    (omega arith, start .pre .sizes .first)
 
 behind-requires-2 : tie.Need-behind-requires-2
 behind-requires-2 c κs =
     let start = c .before .before .before .before .before in
     let s = second-fits (start .args .start) (start .args .w) (start .args .grid .now) (start .args .triangles .now) (start .args .quads .now)
-    (start .pre .0 .1) (c .behind .result) (c .behind .ensures) in
-    (omega (arith, s .0, start .pre .0 .0), s .1)
+    (start .pre .sizes) (c .behind .result) (c .behind .ensures) in
+    (omega (arith, s .0, start .pre .start-most), s .1)
 
 put-body-requires : tie.Need-put-body-requires
 put-body-requires c κs =
@@ -33,7 +33,7 @@ put-body-requires c κs =
     let z = (keep (w .quads) 3 (start .args .quads .now)) in
     let e = end-append begin x (y ++ z) in
     let m = end-grows (endFrom begin x) (y ++ z) in
-    omega (arith, start .pre .1, e, m)
+    omega (arith, start .pre .out-room, e, m)
 
 put-body-requires-2 : tie.Need-put-body-requires-2
 put-body-requires-2 c κs =
@@ -47,7 +47,7 @@ put-body-requires-2 c κs =
     let e = end-append begin x (y ++ z) ∙ end-append (endFrom begin x) y z in
     let m = end-grows (endFrom (endFrom begin x) y) z in
     let k = ap (λ (n : ℕ). endFrom n y) (behind .ensures) in
-    omega (arith, start .pre .1, e, m, k, c .before .before .before .put-body .kept)
+    omega (arith, start .pre .out-room, e, m, k, c .before .before .before .put-body .kept)
 
 put-body-requires-3 : tie.Need-put-body-requires-3
 put-body-requires-3 c κs =
@@ -62,7 +62,7 @@ put-body-requires-3 c κs =
     let z = (keep (w .quads) 3 (start .args .quads .now)) in
     let e = end-append begin x (y ++ z) ∙ end-append (endFrom begin x) y z in
     let k = ap (λ (n : ℕ). endFrom n z) (behind2 .ensures ∙ ap (λ (n : ℕ). endFrom n y) (behind .ensures)) in
-    omega (arith, start .pre .1, e, k, put-body .kept, c .before .before .before .put-body2 .kept)
+    omega (arith, start .pre .out-room, e, k, put-body .kept, c .before .before .before .put-body2 .kept)
 
 same-length : tie.Need-same-length
 same-length c = search needs

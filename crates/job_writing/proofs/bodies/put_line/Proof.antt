@@ -38,21 +38,21 @@ slice-write-out : tie.Need-slice-write-out
 slice-write-out c =
     let start = c .before .before .before in
     let e = line-bytes start (not-false _ (c .if1 .left)) in
-    omega (arith, e, start .pre .1)
+    omega (arith, e, start .pre .out-room)
 
 add-put-word : tie.Need-add-put-word
 add-put-word c = search needs
 
 cast-put-word : tie.Need-cast-put-word
 cast-put-word c =
-    let h = c .before .before .before .before .pre .0 .1 (not-false _ (c .before .if1 .left)) in
+    let h = c .before .before .before .before .pre .bytes-small (not-false _ (c .before .if1 .left)) in
     omega (arith, h .0)
 
 put-word-requires : tie.Need-put-word-requires
 put-word-requires c κs =
     let start = c .before .before .before .before in
     let e = line-bytes start (not-false _ (c .before .if1 .left)) in
-    simp length-set (omega (arith, e, start .pre .1))
+    simp length-set (omega (arith, e, start .pre .out-room))
 
 add-put-word-2 : tie.Need-add-put-word-2
 add-put-word-2 c = search needs
@@ -60,7 +60,7 @@ add-put-word-2 c = search needs
 cast-put-word-2 : tie.Need-cast-put-word-2
 cast-put-word-2 c =
     let test = c .before .before .before .before .before in
-    let h = test .before .before .before .pre .0 .1 (not-false _ (test .if1 .left)) in
+    let h = test .before .before .before .pre .bytes-small (not-false _ (test .if1 .left)) in
     omega (arith, h .1)
 
 put-word-requires-2 : tie.Need-put-word-requires-2
@@ -69,7 +69,7 @@ put-word-requires-2 c κs =
     let start = test .before .before .before in
     let e = line-bytes start (not-false _ (test .if1 .left)) in
     let kept = length-set (start .args .out .now) (start .args .p) (start .args .kind) in
-    omega (arith, e, start .pre .1, c .before .before .before .put-word .kept, kept)
+    omega (arith, e, start .pre .out-room, c .before .before .before .put-word .kept, kept)
 
 add-result : tie.Need-add-result
 add-result c = search needs

@@ -11,14 +11,14 @@ use Rattle.job_writing.proofs.bodies.put_lines.Tie as tie
 behind-requires : tie.Need-behind-requires
 behind-requires c κs =
     let start = c .before .before .before .before in
-    (omega arith, start .pre .0 .1 .first)
+    (omega arith, start .pre .sizes .first)
 
 behind-requires-2 : tie.Need-behind-requires-2
 behind-requires-2 c κs =
     let start = c .before .before .before .before .before in
     let s = second-fits (start .args .start) (start .args .w) (start .args .grid .now) (start .args .triangles .now) (start .args .quads .now)
-    (start .pre .0 .1) (c .behind .result) (c .behind .ensures) in
-    (omega (arith, s .0, start .pre .0 .0), s .1)
+    (start .pre .sizes) (c .behind .result) (c .behind .ensures) in
+    (omega (arith, s .0, start .pre .start-most), s .1)
 
 put-line-requires : tie.Need-put-line-requires
 put-line-requires c κs =
@@ -26,7 +26,11 @@ put-line-requires c κs =
     let w = start .args .w in
     let g = start .args .grid .now in
     let n = chosen-length (keep (w .grid) 1 g) (keep (w .triangles) 2 (start .args .triangles .now)) (keep (w .quads) 3 (start .args .quads .now)) in
-    ((omega arith, start .pre .0 .1 .first), omega (arith, start .pre .1, n, lines-length (start .args .start) (keep (w .grid) 1 g)))
+    record {
+      place-most = omega arith;
+      bytes-small = start .pre .sizes .first;
+      out-room = omega (arith, start .pre .out-room, n, lines-length (start .args .start) (keep (w .grid) 1 g));
+    }
 
 put-line-requires-2 : tie.Need-put-line-requires-2
 put-line-requires-2 c κs =
@@ -38,12 +42,16 @@ put-line-requires-2 c κs =
     let begin = start .args .start in
     let behind = c .before .before .before .before .before .before .behind in
     let put-line = c .before .before .before .put-line in
-    let s = second-fits begin w g t q (start .pre .0 .1) (behind .result) (behind .ensures) in
+    let s = second-fits begin w g t q (start .pre .sizes) (behind .result) (behind .ensures) in
     let n = chosen-length (keep (w .grid) 1 g) (keep (w .triangles) 2 t) (keep (w .quads) 3 q) in
     let p = lines-length begin (keep (w .grid) 1 g) in
     let o = keep-one (w .grid) g 1 in
     let r = lines-length (behind .result) (keep (w .triangles) 2 t) in
-    ((omega (arith, put-line .ensures .0, p, o), s .1), omega (arith, start .pre .1, n, p, r, put-line .ensures .0, put-line .kept))
+    record {
+      place-most = omega (arith, put-line .ensures .0, p, o);
+      bytes-small = s .1;
+      out-room = omega (arith, start .pre .out-room, n, p, r, put-line .ensures .0, put-line .kept);
+    }
 
 put-line-requires-3 : tie.Need-put-line-requires-3
 put-line-requires-3 c κs =
@@ -57,16 +65,17 @@ put-line-requires-3 c κs =
     let behind2 = c .before .before .before .before .before .before .before .before .before .behind2 in
     let put-line = c .before .before .before .before .before .before .before .put-line in
     let put-line2 = c .before .before .before .put-line2 in
-    let u = third-fits begin w g t q (start .pre .0 .1) (behind .result) (behind .ensures) (behind2 .result) (behind2 .ensures) in
+    let u = third-fits begin w g t q (start .pre .sizes) (behind .result) (behind .ensures) (behind2 .result) (behind2 .ensures) in
     let n = chosen-length (keep (w .grid) 1 g) (keep (w .triangles) 2 t) (keep (w .quads) 3 q) in
     let p = lines-length begin (keep (w .grid) 1 g) in
     let r = lines-length (behind .result) (keep (w .triangles) 2 t) in
     let o = keep-one (w .grid) g 1 in
     let k = keep-one (w .triangles) t 2 in
-    let v = lines-length (behind2 .result) (keep (w .quads) 3 q) in (
-      (omega (arith, put-line .ensures .0, put-line2 .ensures .0, p, r, o, k), u .1),
-      omega (arith, start .pre .1, n, p, r, v, put-line .ensures .0, put-line .kept, put-line2 .ensures .0, put-line2 .kept),
-    )
+    let v = lines-length (behind2 .result) (keep (w .quads) 3 q) in record {
+      place-most = omega (arith, put-line .ensures .0, put-line2 .ensures .0, p, r, o, k);
+      bytes-small = u .1;
+      out-room = omega (arith, start .pre .out-room, n, p, r, v, put-line .ensures .0, put-line .kept, put-line2 .ensures .0, put-line2 .kept);
+    }
 
 same-length : tie.Need-same-length
 same-length c = search needs

@@ -1,10 +1,8 @@
 -- `is_finite_record`: the three vertices in turn; the first that is not finite decides, as in the definition. Assumes nothing.
-use mathlib.Core.Path.{_≡_, sym, _∙_}
-use mathlib.Core.Bool.{true, false}
+use mathlib.Core.Path.{sym, _∙_}
 use native.Mathlib.Omega.{arith}
 use borrow.Author.Tests.{not-true, not-false}
-use Rattle.stl_reading.specs.File.{vertexAt}
-use Rattle.stl_feeding.specs.Measured.{finiteOf, finiteRecord}
+use Rattle.stl_feeding.specs.Measured.{finiteRecord}
 use Rattle.stl_feeding.proofs.measure.is_finite_record.Statement.{statement}
 use Rattle.stl_feeding.proofs.measure.is_finite_record.Tie as tie
 

@@ -1,12 +1,12 @@
 -- `measure_records` meets its contract. The loop's invariant: what is left from here comes to the whole. Assumes nothing.
-use mathlib.Core.Path.{_≡_, refl, sym, ap, _∙_}
+use mathlib.Core.Path.{_≡_, refl, ap, _∙_}
 use mathlib.Core.List.{List, [], _++_}
 use Prim.Native.Nat.{ℕ, _+_, _-_, _/_, _%_, _≤_, _<_}
 use native.Mathlib.Omega.{arith}
 use lib.ListN.{length, take, drop, drop-of-length-le, length-drop}
 use lib.Seq.{length-take-le}
 use borrow.Author.Needs.{needs}
-use Rattle.stl_feeding.specs.Feed.{Whole}
+use Rattle.stl_feeding.specs.Feed.{UncutRecords}
 use Rattle.stl_feeding.specs.Measured.{measured}
 use Rattle.stl_feeding.proofs.Measured.{seen-all, seen-short, seen-not, seen-next}
 use Rattle.stl_feeding.proofs.measure.measure_records.Statement.{statement}
@@ -18,7 +18,7 @@ Inv-loop all count block extent₀ triangles₀ at₀ extent triangles at =
     × (at % 50 ≡ 0)
     × (triangles ≡ count + at / 50)
     × (triangles ≤ all)
-    × ((rest : List ℕ) → Whole block rest
+    × ((rest : List ℕ) → UncutRecords block rest
     → measured (all - count) (block ++ rest) count extent₀ ≡ measured (all - triangles) (drop at block ++ rest) triangles extent)
 
 abbrev μ-loop : tie.MeasureT-loop

@@ -22,7 +22,8 @@ enum-told-3 c = search needs
 placed-numbers-requires : tie.Need-placed-numbers-requires
 placed-numbers-requires c κs =
     let s = c .before .before .before .before .before .before in
-    (omega (arith, s .pre .0), s .pre .1, sym (c .before .before .before .triangle-fault .ensures) ∙ c .before .enum-told3 .given .1)
+    let clear = sym (c .before .before .before .triangle-fault .ensures) ∙ c .before .enum-told3 .given .1 in
+    record { bytes-room = omega (arith, s .pre .bytes-long); scale = s .pre .scale; clear = clear }
 
 slice-aggregate-put-numbers : tie.Need-slice-aggregate-put-numbers
 slice-aggregate-put-numbers c = search needs

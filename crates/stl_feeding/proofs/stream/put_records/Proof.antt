@@ -5,7 +5,6 @@ use Prim.Native.Nat.{ℕ, suc, _+_, _*_, _-_, _/_, _≤_, _<_}
 use native.Mathlib.Omega.{arith}
 use lib.ListN.{length, take, drop, length-drop}
 use lib.Seq.{length-take-le}
-use borrow.Author.Needs.{needs}
 use Rattle.octets.specs.Octets.{puts}
 use Rattle.octets.proofs.Puts.{puts-none}
 use Rattle.rounding.specs.Scales.{exponentOf}
@@ -46,7 +45,7 @@ loop-holds c =
       omega arith,
       rw none refl,
       omega arith,
-      c .before .before .pre .0,
+      c .before .before .pre .count-most,
       rw none refl,
       refl,
       rw none (sym (ap (puts (a .out .now) 0) (stream-none (exponentOf (a .s)) (a .shift) (a .block .now)) ∙ puts-none (a .out .now) 0)),
@@ -66,9 +65,10 @@ returns c =
       most = omega arith;
       more = λ n f. f;
       whole = λ f. absurd (self f);
-      no-fewer = c .before .before .before .before .before .pre .0;
+      no-fewer = c .before .before .before .before .before .pre .count-most;
       bytes-is = l .inv .4 ∙ ap (λ (u : ℕ). 36 * (u - a .count)) e;
-      within = room _ _ (l .at) (l .bytes) _ (rw (sym (l .inv .5)) at (c .before .before .before .before .before .pre .2)) (l .inv .0) (l .inv .1) (l .inv .4);
+      within = room _ _ (l .at) (l .bytes) _ (rw (sym (l .inv .5)) at (c .before .before .before .before .before .pre .out-room)) (l .inv .0)
+          (l .inv .1) (l .inv .4);
       none-refused = ap (λ (u : ℕ). refusalOf (exponentOf (a .s)) (u - a .count) (a .block .now)) (sym e) ∙ l .inv .7;
       put-is = l .inv .6 ∙ ap (λ (u : ℕ). puts (a .out .now) 0 (streamOf (exponentOf (a .s)) (a .shift) (u - a .count) (a .block .now))) e;
     }
@@ -110,7 +110,11 @@ put-record-requires c κs =
     let h = c .before .before .if2 .left in
     let t = c .before .before .before .before .loop-test .taken in
     let p = c .before .before .before .before .before .before .before .before .pre in
-    (lent (l .at) (a .block .now) h, p .1, omega (arith, p .2, l .inv .1, l .inv .4, l .inv .5, h, t))
+    record {
+      bytes-long = lent (l .at) (a .block .now) h;
+      scale = p .scale;
+      out-room = omega (arith, p .out-room, l .inv .1, l .inv .4, l .inv .5, h, t);
+    }
 
 same-length-3 : tie.Need-same-length-3 Inv-loop μ-loop
 same-length-3 c =
@@ -187,7 +191,7 @@ returns-4 c =
       whole = λ f. omega (arith, l .inv .0, l .inv .1, c .loop-test .left);
       no-fewer = l .inv .2;
       bytes-is = l .inv .4;
-      within = room _ _ (l .at) (l .bytes) _ (rw (sym (l .inv .5)) at (c .before .before .before .before .pre .2)) (l .inv .0) (l .inv .1) (l .inv .4);
+      within = room _ _ (l .at) (l .bytes) _ (rw (sym (l .inv .5)) at (c .before .before .before .before .pre .out-room)) (l .inv .0) (l .inv .1) (l .inv .4);
       none-refused = l .inv .7;
       put-is = l .inv .6;
     }

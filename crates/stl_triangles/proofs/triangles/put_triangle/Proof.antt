@@ -16,11 +16,12 @@ use Rattle.stl_reading.proofs.Numbers.{three-vertices}
 
 put-vertex-requires : tie.Need-put-vertex-requires
 put-vertex-requires c κs =
-    let start = c .before .before in (
-      (omega arith, start .pre .0 .1, omega arith),
-      triangle-clear (isNear (exponentOf (start .args .s))) (start .args .file .now) (start .args .from)
-          (start .pre .1) .0,
-    )
+    let start = c .before .before in record {
+      file-room = omega arith;
+      scale = start .pre .scale;
+      list-room = omega arith;
+      clear = triangle-clear (isNear (exponentOf (start .args .s))) (start .args .file .now) (start .args .from) (start .pre .clear) .0;
+    }
 
 add-put-vertex : tie.Need-add-put-vertex
 add-put-vertex c = search needs
@@ -31,11 +32,12 @@ add-put-vertex-2 c = search needs
 put-vertex-requires-2 : tie.Need-put-vertex-requires-2
 put-vertex-requires-2 c κs =
     let start = c .before .before .before .before .before in
-    let put-vertex = c .before .before .put-vertex in (
-      (omega arith, start .pre .0 .1, omega (arith, put-vertex .kept)),
-      triangle-clear (isNear (exponentOf (start .args .s))) (start .args .file .now)
-          (start .args .from) (start .pre .1) .1,
-    )
+    let put-vertex = c .before .before .put-vertex in record {
+      file-room = omega arith;
+      scale = start .pre .scale;
+      list-room = omega (arith, put-vertex .kept);
+      clear = triangle-clear (isNear (exponentOf (start .args .s))) (start .args .file .now) (start .args .from) (start .pre .clear) .1;
+    }
 
 add-put-vertex-3 : tie.Need-add-put-vertex-3
 add-put-vertex-3 c = search needs
@@ -47,11 +49,12 @@ put-vertex-requires-3 : tie.Need-put-vertex-requires-3
 put-vertex-requires-3 c κs =
     let start = c .before .before .before .before .before .before .before .before in
     let put-vertex = c .before .before .before .before .before .put-vertex in
-    let put-vertex2 = c .before .before .put-vertex2 in (
-      (omega arith, start .pre .0 .1, omega (arith, put-vertex .kept, put-vertex2 .kept)),
-      triangle-clear (isNear (exponentOf (start .args .s)))
-          (start .args .file .now) (start .args .from) (start .pre .1) .2,
-    )
+    let put-vertex2 = c .before .before .put-vertex2 in record {
+      file-room = omega arith;
+      scale = start .pre .scale;
+      list-room = omega (arith, put-vertex .kept, put-vertex2 .kept);
+      clear = triangle-clear (isNear (exponentOf (start .args .s))) (start .args .file .now) (start .args .from) (start .pre .clear) .2;
+    }
 
 same-length : tie.Need-same-length
 same-length c = search needs

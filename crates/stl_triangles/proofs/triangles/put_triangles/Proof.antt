@@ -43,11 +43,13 @@ mul-put-triangle-2 c = omega arith
 put-triangle-requires : tie.Need-put-triangle-requires Inv-loop μ-loop
 put-triangle-requires c κs =
     let start = c .before .before .before .before in
-    let loop = c .before .before .loop in (
-      (omega arith, start .pre .0 .1, omega (arith, loop .inv .1)),
-      first-clear (isNear (exponentOf (start .args .s))) (start .args .file .now)
-          (loop .t) (start .args .count) (start .pre .1) (omega arith),
-    )
+    let loop = c .before .before .loop in record {
+      file-room = omega arith;
+      scale = start .pre .scale;
+      list-room = omega (arith, loop .inv .1);
+      clear = first-clear (isNear (exponentOf (start .args .s))) (start .args .file .now)
+          (loop .t) (start .args .count) (start .pre .clear) (omega arith);
+    }
 
 add-t : tie.Need-add-t Inv-loop μ-loop
 add-t c = omega arith
@@ -80,7 +82,7 @@ returns c =
     let s = start .args .file .now in
     sym (numbers-end number s (loop .list) (loop .t) (start .args .count) (omega arith))
     ∙ loop .inv .2
-    ∙ numbers-written number s (start .args .list .now) (start .args .count) (start .pre .0 .2)
+    ∙ numbers-written number s (start .args .list .now) (start .args .count) (start .pre .list-room)
 
 pub put-triangles-spec : {M : Type 1} → statement M
 put-triangles-spec =

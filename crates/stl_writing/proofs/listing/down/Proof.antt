@@ -2,7 +2,7 @@
 use borrow.Author.Needs.{needs}
 use Rattle.stl_writing.proofs.listing.down.Statement.{statement}
 use Rattle.stl_writing.proofs.listing.down.Tie as tie
-use mathlib.Core.Path.{_≡_, sym, ap, _∙_}
+use mathlib.Core.Path.{sym, ap, _∙_}
 use native.Mathlib.Omega.{arith}
 use Rattle.rules.specs.declared.Axis.{Axis}
 use Rattle.rules.specs.Lattice.{down}

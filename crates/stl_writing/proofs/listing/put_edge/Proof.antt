@@ -4,8 +4,8 @@ use Rattle.stl_writing.proofs.listing.put_edge.Statement.{statement}
 use Rattle.stl_writing.proofs.listing.put_edge.Tie as tie
 use mathlib.Core.Path.{_≡_, refl, sym, ap, _∙_}
 use mathlib.Core.Bool.{Bool, cond}
-use mathlib.Core.List.{List, []}
-use Prim.Native.Nat.{ℕ, _*_}
+use mathlib.Core.List.{[]}
+use Prim.Native.Nat.{_*_}
 use native.Mathlib.Nat.{add-zero}
 use native.Mathlib.Omega.{arith}
 use lib.ListN.{length}
@@ -30,7 +30,12 @@ put-quad-requires c κs =
     let h = holds (c .before .before .bit .ensures) (c .before .if1 .left) in
     let l : length (byteEdge (s .args .side) (exponentOf (s .args .s)) (s .args .b) (s .args .upward) (s .args .a) (s .args .q)) ≡ 100 =
     edge-long (s .args .side) (exponentOf (s .args .s)) (s .args .b) (s .args .upward) (s .args .a) (s .args .q) ∙ ap (λ (t : Bool). 100 * value t 1) h in
-    (s .pre .0, s .pre .1, s .pre .2 h, omega (arith, l, s .pre .3))
+    record {
+      side-least = s .pre .side-least;
+      scale = s .pre .scale;
+      surrounded = s .pre .surrounded h;
+      out-room = omega (arith, l, s .pre .out-room);
+    }
 
 add-result : tie.Need-add-result
 add-result c = search needs

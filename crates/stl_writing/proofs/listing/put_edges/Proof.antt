@@ -37,25 +37,40 @@ long : (s : tie.Start) (a : Axis) →
 long s a = edge-long (s .args .side) (exponentOf (s .args .s)) (s .args .b) (s .args .upward) a (s .args .q)
 
 room : (s : tie.Start) → s .args .at + 100 * byteMarks (s .args .b) ≤ length (s .args .out .now)
-room s = rw (edges-long (s .args .side) (exponentOf (s .args .s)) (s .args .b) (s .args .upward) (s .args .q)) at (s .pre .3)
+room s = rw (edges-long (s .args .side) (exponentOf (s .args .s)) (s .args .b) (s .args .upward) (s .args .q)) at (s .pre .out-room)
 
 put-edge-requires : tie.Need-put-edge-requires
 put-edge-requires c κs =
     let s = c .before .before .before .before in
     let f = long s in
-    (s .pre .0, s .pre .1, search (needs, s .pre .2), omega (arith, f X, f Y, f Z, room s))
+    record {
+      side-least = s .pre .side-least;
+      scale = s .pre .scale;
+      surrounded = search (needs, s .pre .surrounded);
+      out-room = omega (arith, f X, f Y, f Z, room s);
+    }
 
 put-edge-requires-2 : tie.Need-put-edge-requires-2
 put-edge-requires-2 c κs =
     let s = c .before .before .before .before .before .before .before .before in
     let f = long s in
-    (s .pre .0, s .pre .1, search (needs, s .pre .2), omega (arith, f X, f Y, f Z, room s))
+    record {
+      side-least = s .pre .side-least;
+      scale = s .pre .scale;
+      surrounded = search (needs, s .pre .surrounded);
+      out-room = omega (arith, f X, f Y, f Z, room s);
+    }
 
 put-edge-requires-3 : tie.Need-put-edge-requires-3
 put-edge-requires-3 c κs =
     let s = c .before .before .before .before .before .before .before .before .before .before .before .before in
     let f = long s in
-    (s .pre .0, s .pre .1, search (needs, s .pre .2), omega (arith, f X, f Y, f Z, room s))
+    record {
+      side-least = s .pre .side-least;
+      scale = s .pre .scale;
+      surrounded = search (needs, s .pre .surrounded);
+      out-room = omega (arith, f X, f Y, f Z, room s);
+    }
 
 same-length : tie.Need-same-length
 same-length c = search needs

@@ -2,12 +2,12 @@
 use borrow.Author.Needs.{needs}
 use Rattle.stl_writing.proofs.listing.put_quad.Statement.{statement}
 use Rattle.stl_writing.proofs.listing.put_quad.Tie as tie
-use mathlib.Core.Path.{_≡_, refl, sym, ap, subst, _∙_}
+use mathlib.Core.Path.{refl, sym, ap, subst, _∙_}
 use Rattle.rules.specs.declared.Axis.{Axis}
 use Rattle.rules.specs.Lattice.{down}
 use Rattle.octets.specs.Octets.{puts}
 use Rattle.rounding.specs.Scales.{exponentOf}
-use Rattle.stl_records.specs.Records.{Placed, cornerOf}
+use Rattle.stl_records.specs.Records.{CellInLattice, cornerOf}
 use Rattle.stl_writing.proofs.Corners.{down-placed, first-is, second-is, on-last, on-next, on-first, below-placed, quad-upward, quad-downward}
 
 next-requires : tie.Need-next-requires
@@ -20,43 +20,47 @@ down-requires : tie.Need-down-requires
 down-requires c κs =
     let start = c .before .before .before in
     on-last (start .args .a) (c .before .next .result) (c .next2 .result) (start .args .q) _ (c .before .next .ensures) (c .next2 .ensures) refl
-    (start .args .side) (start .pre .2)
+    (start .args .side) (start .pre .surrounded)
 
 down-requires-2 : tie.Need-down-requires-2
 down-requires-2 c κs =
     let next = c .before .before .next in
     let s = c .before .before .before .before in on-first (s .args .a) (next .result) (c .before .next2 .result) (s .args .q) (c .down .result)
-    (next .ensures) (c .before .next2 .ensures) (c .down .ensures) (s .args .side) (s .pre .2)
+    (next .ensures) (c .before .next2 .ensures) (c .down .ensures) (s .args .side) (s .pre .surrounded)
 
 corner-requires : tie.Need-corner-requires
 corner-requires c κs =
     let next2 = c .before .before .next2 in
     let next = c .before .before .before .next in
-    let s = c .before .before .before .before .before in (
-      s .pre .0,
-      s .pre .1,
-      subst (Placed (s .args .side)) (sym (c .down2 .ensures))
+    let s = c .before .before .before .before .before in record {
+      side-least = s .pre .side-least;
+      scale = s .pre .scale;
+      placed = subst (CellInLattice (s .args .side)) (sym (c .down2 .ensures))
           (down-placed (s .args .side) (next .result) (c .before .down .result)
           (below-placed (s .args .a) (next .result) (next2 .result) (s .args .q) (c .before .down .result) (next .ensures) (next2 .ensures)
-          (c .before .down .ensures) (s .args .side) (s .pre .2))),
-    )
+          (c .before .down .ensures) (s .args .side) (s .pre .surrounded)));
+    }
 
 corner-requires-2 : tie.Need-corner-requires-2
 corner-requires-2 c κs =
     let down-told = c .before .before .down in
     let next2 = c .before .before .before .next2 in
     let next = c .before .before .before .before .next in
-    let s = c .before .before .before .before .before .before in (
-      s .pre .0,
-      s .pre .1,
-      below-placed (s .args .a) (next .result) (next2 .result) (s .args .q) (down-told .result) (next .ensures)
-          (next2 .ensures) (down-told .ensures) (s .args .side) (s .pre .2),
-    )
+    let s = c .before .before .before .before .before .before in record {
+      side-least = s .pre .side-least;
+      scale = s .pre .scale;
+      placed = below-placed (s .args .a) (next .result) (next2 .result) (s .args .q) (down-told .result) (next .ensures)
+          (next2 .ensures) (down-told .ensures) (s .args .side) (s .pre .surrounded);
+    }
 
 corner-requires-3 : tie.Need-corner-requires-3
 corner-requires-3 c κs =
     let start = c .before .before .before .before .before .before .before in
-    (start .pre .0, start .pre .1, start .pre .2 .cell)
+    record {
+      side-least = start .pre .side-least;
+      scale = start .pre .scale;
+      placed = start .pre .surrounded .cell;
+    }
 
 down-requires-3 : tie.Need-down-requires-3
 down-requires-3 c κs =
@@ -64,13 +68,18 @@ down-requires-3 c κs =
     let next2 = c .before .before .before .before .before .next2 in
     let next = c .before .before .before .before .before .before .next in
     let s = c .before .before .before .before .before .before .before .before in on-next (s .args .a) (next .result) (next2 .result) (s .args .q)
-    (down-told .result) (next .ensures) (next2 .ensures) (down-told .ensures) (s .args .side) (s .pre .2)
+    (down-told .result) (next .ensures) (next2 .ensures) (down-told .ensures) (s .args .side) (s .pre .surrounded)
 
 corner-requires-4 : tie.Need-corner-requires-4
 corner-requires-4 c κs =
     let next = c .before .before .before .before .before .before .before .next in
     let s = c .before .before .before .before .before .before .before .before .before in
-    (s .pre .0, s .pre .1, subst (Placed (s .args .side)) (sym (c .down3 .ensures)) (down-placed (s .args .side) (next .result) (s .args .q) (s .pre .2 .cell)))
+    record {
+      side-least = s .pre .side-least;
+      scale = s .pre .scale;
+      placed = subst (CellInLattice (s .args .side)) (sym (c .down3 .ensures))
+          (down-placed (s .args .side) (next .result) (s .args .q) (s .pre .surrounded .cell));
+    }
 
 normal-requires : tie.Need-normal-requires
 normal-requires c κs = search needs
@@ -80,14 +89,14 @@ put-pair-requires c κs =
     let corner3 = c .before .before .before .before .before .corner3 in
     let corner2 = c .before .before .before .before .before .before .corner2 in
     let corner = c .before .before .before .before .before .before .before .corner in
-    let start = c .before .before .before .before .before .before .before .before .before .before .before .before .before in (
-      start .pre .3,
-      c .before .before .normal .ensures .1,
-      corner .ensures .1,
-      corner2 .ensures .1,
-      corner3 .ensures .1,
-      c .before .before .before .corner4 .ensures .1,
-    )
+    let start = c .before .before .before .before .before .before .before .before .before .before .before .before .before in record {
+      out-room = start .pre .out-room;
+      normal-held = c .before .before .normal .ensures .1;
+      a-held = corner .ensures .1;
+      b-held = corner2 .ensures .1;
+      c-held = corner3 .ensures .1;
+      d-held = c .before .before .before .corner4 .ensures .1;
+    }
 
 same-length : tie.Need-same-length
 same-length c = search needs
@@ -124,14 +133,14 @@ put-pair-requires-2 c κs =
     let corner3 = c .before .before .before .before .before .corner3 in
     let corner2 = c .before .before .before .before .before .before .corner2 in
     let corner = c .before .before .before .before .before .before .before .corner in
-    let start = c .before .before .before .before .before .before .before .before .before .before .before .before .before in (
-      start .pre .3,
-      c .before .before .normal .ensures .1,
-      corner .ensures .1,
-      c .before .before .before .corner4 .ensures .1,
-      corner3 .ensures .1,
-      corner2 .ensures .1,
-    )
+    let start = c .before .before .before .before .before .before .before .before .before .before .before .before .before in record {
+      out-room = start .pre .out-room;
+      normal-held = c .before .before .normal .ensures .1;
+      a-held = corner .ensures .1;
+      b-held = c .before .before .before .corner4 .ensures .1;
+      c-held = corner3 .ensures .1;
+      d-held = corner2 .ensures .1;
+    }
 
 same-length-2 : tie.Need-same-length-2
 same-length-2 c = search needs

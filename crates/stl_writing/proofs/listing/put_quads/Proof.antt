@@ -2,7 +2,7 @@
 -- `at` the buffer is as with all of them put. Assumes nothing.
 use mathlib.Core.Path.{_≡_, refl, sym, ap, _∙_}
 use mathlib.Core.List.{List}
-use Prim.Native.Nat.{ℕ, _+_, _*_, _-_, _≤_, _<_}
+use Prim.Native.Nat.{ℕ, _+_, _-_, _≤_, _<_}
 use native.Mathlib.Numerals.{add-one}
 use native.Mathlib.Omega.{arith}
 use lib.ListN.{length}
@@ -39,7 +39,7 @@ abbrev μ-loop : tie.MeasureT-loop
 μ-loop n side s grid out₀ count q₀ p₀ at₀ out q p at = count - p
 
 point-count-requires : tie.Need-point-count-requires Inv-loop μ-loop
-point-count-requires c κs = c .before .before .pre .0 .0
+point-count-requires c κs = c .before .before .pre .sized .small
 
 loop-holds : tie.Need-loop-holds Inv-loop μ-loop
 loop-holds c =
@@ -49,14 +49,21 @@ loop-holds c =
     let E = marks n (start .args .grid .now) in
     let s = inside n (start .args .grid .now) in
     let all = bytes-start (start .args .side) e n E s in
-    let m = ap length all ∙ quads-length (start .args .side) e (facings n E s) in
-    (c .point-count .ensures .0, omega arith, at-start _, refl, omega (arith, m, facings-count n E s, start .pre .1), ap (puts (start .args .out .now) 84) all)
+    let m = ap length all ∙ quads-length (start .args .side) e (facings n E s) in (
+      c .point-count .ensures .0,
+      omega arith,
+      at-start _,
+      refl,
+      omega (arith, m, facings-count n E s, start .pre .out-room),
+      ap
+          (puts (start .args .out .now) 84) all,
+    )
 
 shared-slice-read-put-edges : tie.Need-shared-slice-read-put-edges Inv-loop μ-loop
-shared-slice-read-put-edges c = omega (arith, c .before .before .before .before .before .before .pre .0)
+shared-slice-read-put-edges c = omega (arith, c .before .before .before .before .before .before .pre .sized .long)
 
 shared-slice-read-is-inside : tie.Need-shared-slice-read-is-inside Inv-loop μ-loop
-shared-slice-read-is-inside c = omega (arith, c .before .before .before .before .before .before .before .pre .0)
+shared-slice-read-is-inside c = omega (arith, c .before .before .before .before .before .before .before .pre .sized .long)
 
 is-inside-requires : tie.Need-is-inside-requires Inv-loop μ-loop
 is-inside-requires c κs = tt
@@ -69,14 +76,14 @@ put-edges-requires c κs =
     let n = start .args .n in
     let side = start .args .side in
     let g = start .args .grid .now in
-    let pre = start .pre .0 in
-    let h : l .p < pointCount n = omega (arith, l .inv .0, loop-test .taken) in (
-      side-wide n side (pre .0) (pre .1),
-      pre .2,
-      marks-surrounded n side g (l .p) (l .q) (pre .1) (pre .3) (pre .4) (l .inv .2) h,
-      bytes-room side (exponentOf (start .args .s)) n g (l .p) (l .q) _ (l .at) (l .out) (pre .3) (pre .4) (l .inv .2) h
-          (c .before .is-inside .ensures) (l .inv .4),
-    )
+    let pre = start .pre in
+    let h : l .p < pointCount n = omega (arith, l .inv .0, loop-test .taken) in record {
+      side-least = side-wide n side (pre .sized .small) (pre .side-is);
+      scale = pre .scale;
+      surrounded = marks-surrounded n side g (l .p) (l .q) (pre .side-is) (pre .sized .long) (pre .is-grid) (l .inv .2) h;
+      out-room = bytes-room side (exponentOf (start .args .s)) n g (l .p) (l .q) _ (l .at) (l .out) (pre .sized .long) (pre .is-grid) (l .inv .2) h
+          (c .before .is-inside .ensures) (l .inv .4);
+    }
 
 next-point-requires : tie.Need-next-point-requires Inv-loop μ-loop
 next-point-requires c κs =
@@ -84,7 +91,7 @@ next-point-requires c κs =
     let start = c .before .before .before .before .before .before .before .before .before .before .before .before in
     let l = c .before .before .before .before .before .before .before .before .loop in
     let h : l .p < pointCount (start .args .n) = omega (arith, l .inv .0, loop-test .taken) in
-    (start .pre .0 .0, at-grid _ (l .p) (l .q) (l .inv .2) h)
+    (start .pre .sized .small, at-grid _ (l .p) (l .q) (l .inv .2) h)
 
 add-p : tie.Need-add-p Inv-loop μ-loop
 add-p c =
@@ -106,9 +113,9 @@ loop-again c =
     let side = start .args .side in
     let e = exponentOf (start .args .s) in
     let g = start .args .grid .now in
-    let pre = start .pre .0 in
+    let pre = start .pre in
     let h : l .p < pointCount n = omega (arith, l .inv .0, loop-test .taken) in
-    let put = rw (bytes-byte side e n g (l .p) (l .q) _ (pre .3) (pre .4) (l .inv .2) h (is-inside .ensures)) at
+    let put = rw (bytes-byte side e n g (l .p) (l .q) _ (pre .sized .long) (pre .is-grid) (l .inv .2) h (is-inside .ensures)) at
     (c .before .before .before .put-edges .ensures) in
     let w = given-written n (marks n g) (bytesOf side e (inside n g)) (l .p) (l .q) (l .inv .2) h (l .at) _ (l .out) _ put (l .inv .4) in (
       l .inv .0,

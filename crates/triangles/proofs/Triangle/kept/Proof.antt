@@ -14,10 +14,14 @@ axis-requires : tie.Need-axis-requires
 axis-requires c κs = search needs
 
 times-requires : tie.Need-times-requires
-times-requires c κs = let s = c .before in (rw (c .axis .ensures) (later-size _ (s .pre .0)), rw (plain (s .args .s) (s .fits .s .sfits)) (s .pre .1 .1))
+times-requires c κs = let s = c .before in (
+  rw (c .axis .ensures) (later-size _ (s .pre .inside)),
+  rw (plain (s .args .s) (s .fits .s .sfits))
+      (s .pre .side-fits),
+)
 
 span-requires : tie.Need-span-requires
-span-requires c κs = let s = c .before .before in (s .pre .0, rw (c .before .axis .ensures) (later-size _ (s .pre .0)))
+span-requires c κs = let s = c .before .before in (s .pre .inside, rw (c .before .axis .ensures) (later-size _ (s .pre .inside)))
 
 returns : tie.Need-returns
 unfolding keptOf
