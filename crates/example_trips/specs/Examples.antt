@@ -51,13 +51,13 @@ pub record Example : Type 0 where
   pub stated : List Stated
 
 -- the triangle of nine numbers
-abbrev pub nine : ℕ → ℕ → ℕ → ℕ → ℕ → ℕ → ℕ → ℕ → ℕ → BeginsWith
-nine a b c d e f g h i =
+abbrev pub fromNine : ℕ → ℕ → ℕ → ℕ → ℕ → ℕ → ℕ → ℕ → ℕ → BeginsWith
+fromNine a b c d e f g h i =
     triangle (pos a ∷ (pos b ∷ (pos c ∷ (pos d ∷ (pos e ∷ (pos f ∷ (pos g ∷ (pos h ∷ (pos i ∷ [])))))))))
 
 -- the triangle of example 9: v = 262144 three times
 abbrev pub ninth : BeginsWith
-ninth = nine 262144 262144 262144 262144 262144 262144 262144 262144 262144
+ninth = fromNine 262144 262144 262144 262144 262144 262144 262144 262144 262144
 
 -- the nine examples that are proved
 unfoldable pub examples : List Example
@@ -82,7 +82,7 @@ examples =
           ∷ (flips 2 ∷ (result (edge Y 2 2 2 ∷ (edge Y 3 2 2 ∷ Drawn.pair)) ∷ (inside (point 2 2 2 ∷ (point 3 2 2 ∷ [])) ∷ []))));
     }
     -- 8. triangle (196608,200000,200000), (196608,350000,200000), (196608,200000,350000) marks x(1,2,2) only
-    ∷ (record { given = nine 196608 200000 200000 196608 350000 200000 196608 200000 350000; stated = marked (edge X 1 2 2 ∷ []) ∷ [] }
+    ∷ (record { given = fromNine 196608 200000 200000 196608 350000 200000 196608 200000 350000; stated = marked (edge X 1 2 2 ∷ []) ∷ [] }
     -- 9. v = 262144 three times marks nothing, and the listing's second line
     ∷ (record { given = ninth; stated = marked [] ∷ (rims 0 ∷ (flips 0 ∷ (inside [] ∷ (quads 0 ∷ [])))) }
     ∷ []))))))))

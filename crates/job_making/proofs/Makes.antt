@@ -52,8 +52,8 @@ front-grid n g long grid =
     ∙ ap (isGrid n) (take-append-drop (pointCount n) g)
     ∙ grid
 
-eight : (k : ℕ) → 2 * (4 * k) ≡ 8 * k
-eight k = omega arith
+two-fours : (k : ℕ) → 2 * (4 * k) ≡ 8 * k
+two-fours k = omega arith
 
 -- ---- write_job of a grid, t triangles and q quads
 module _ (l : Level) (g list : List ℕ) (t q : ℕ) (long : pointsOf l ≤ length g) (grid : isGrid (cellsOf l) g ≡ true) (few : 4 * q ≤ length list) where
@@ -82,7 +82,7 @@ module _ (l : Level) (g list : List ℕ) (t q : ℕ) (long : pointsOf l ≤ leng
         let wide = room near in
         sym (
         ap fileOr
-        (write-whole (levelNumber l) body s quads file (known l .0) (n ∙ ap pointsOf (sym (known l .1))) t q triangles (quads-long ∙ eight q)
+        (write-whole (levelNumber l) body s quads file (known l .0) (n ∙ ap pointsOf (sym (known l .1))) t q triangles (quads-long ∙ two-fours q)
         (omega (arith, n)) (omega arith) (ap (λ (x : Level). isGrid (cellsOf x) body) (known l .1) ∙ front-grid (cellsOf l) g long grid)
         (omega (arith, n, wide)))
         ∙ take-at whole (drop (length whole) file) (length whole) refl
@@ -92,7 +92,7 @@ module _ (l : Level) (g list : List ℕ) (t q : ℕ) (long : pointsOf l ≤ leng
     file-far : 4294967296 ≤ 29 + pointsOf l + 36 * t → refusedLine 20 ≡ fileOr (writeCall (levelNumber l) 7 body s quads file)
     file-far far =
         let n = body-long in
-        sym (ap fileOr (write-far (levelNumber l) body s quads file (known l .0) (n ∙ ap pointsOf (sym (known l .1))) t q triangles (quads-long ∙ eight q)
+        sym (ap fileOr (write-far (levelNumber l) body s quads file (known l .0) (n ∙ ap pointsOf (sym (known l .1))) t q triangles (quads-long ∙ two-fours q)
         (omega (arith, n))))
 
   -- both by the buffers that they were put into
@@ -109,7 +109,7 @@ module _ (l : Level) (g list : List ℕ) (t q : ℕ) (long : pointsOf l ≤ leng
         whole = inl refl;
         text = λ file s wider m.
             (λ i. take before front ++ (take-all (36 * t) s (omega (arith, m)) i ++ behind i))
-            ∙ stands s quads m (n ∙ eight q)
+            ∙ stands s quads m (n ∙ two-fours q)
             ∙ (λ i. fileOf (is i) (chosen (wantedOf 7) (take (many i) g) s quads))
             ∙ file-put file s m (omega (arith, many)) small wider;
       }

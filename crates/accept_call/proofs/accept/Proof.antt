@@ -30,39 +30,51 @@ points-requires c κs = search needs
 
 returns-2 : tie.Need-returns-2
 returns-2 c =
-    let l = c .before .before .before .before .l in
-    let read = c .before .before .before .before .before .before .read in
-    let start = c .before .before .before .before .before .before .before .before .before .before in
+    let at-l = c .before .before .before .before in
+    let at-read = at-l .before .before in
+    let start = at-read .before .before .before .before in
+    let l = at-l .l in
+    let read = at-read .read in
     let level = read-known _ _ (sym (read .ensures) ∙ l .given .1) in
     short-grid (start .args .level) (start .args .list .now) (start .args .grid .now) (start .args .work .now) _ level (rw (c .before .points .ensures) at
     (c .if1 .taken))
 
 returns-3 : tie.Need-returns-3
 returns-3 c =
+    let at-l = c .before .before .before .before .before in
+    let at-read = at-l .before .before in
+    let start = at-read .before .before .before .before in
     let points = c .before .before .points in
-    let l = c .before .before .before .before .before .l in
-    let read = c .before .before .before .before .before .before .before .read in
-    let start = c .before .before .before .before .before .before .before .before .before .before .before in
+    let l = at-l .l in
+    let read = at-read .read in
     let level = read-known _ _ (sym (read .ensures) ∙ l .given .1) in
     short-work (start .args .level) (start .args .list .now) (start .args .grid .now) (start .args .work .now) _ level
     (rw (points .ensures) at (c .before .if1 .left)) (rw (points .ensures) at (c .if2 .taken))
 
 returns-4 : tie.Need-returns-4
 returns-4 c =
-    let points = c .before .before .before .points in
-    let l = c .before .before .before .before .before .before .l in
-    let read = c .before .before .before .before .before .before .before .before .read in
-    let start = c .before .before .before .before .before .before .before .before .before .before .before .before in
+    let at-points = c .before .before .before in
+    let at-l = at-points .before .before .before in
+    let at-read = at-l .before .before in
+    let start = at-read .before .before .before .before in
+    let points = at-points .points in
+    let l = at-l .l in
+    let read = at-read .read in
     let level = read-known _ _ (sym (read .ensures) ∙ l .given .1) in
     not-fours (start .args .level) (start .args .list .now) (start .args .grid .now) (start .args .work .now) _ level
     (rw (points .ensures) at (c .before .before .if1 .left)) (rw (points .ensures) at (c .before .if2 .left)) (c .if3 .taken)
 
 decide-requires : tie.Need-decide-requires
 decide-requires c κs =
-    let if1 = c .before .before .before .before .if1 in
-    let points = c .before .before .before .before .before .points in
-    let cells = c .before .before .before .before .before .before .cells in
-    let l = c .before .before .before .before .before .before .before .before .l in
+    let at-if2 = c .before .before .before in
+    let at-if1 = at-if2 .before in
+    let at-points = at-if1 .before in
+    let at-cells = at-points .before in
+    let at-l = at-cells .before .before in
+    let if1 = at-if1 .if1 in
+    let points = at-points .points in
+    let cells = at-cells .cells in
+    let l = at-l .l in
     let v = l .given .0 .0 in
     rw (cells .ensures) (record {
       above-one = cells-more v;
@@ -70,7 +82,7 @@ decide-requires c κs =
         small = cells-most v;
         grid-long = rw (points .ensures) at (if1 .left);
         work-long = rw (points .ensures) at
-            (c .before .before .before .if2 .left);
+            (at-if2 .if2 .left);
       };
       fours = c .before .before .if3 .left;
     })
@@ -83,13 +95,19 @@ same-length-2 c = search needs
 
 returns-5 : tie.Need-returns-5
 returns-5 c =
-    let decide = c .before .before .before .before .decide in
-    let if3 = c .before .before .before .before .before .before .before .if3 in
-    let if2 = c .before .before .before .before .before .before .before .before .if2 in
-    let if1 = c .before .before .before .before .before .before .before .before .before .if1 in
-    let points = c .before .before .before .before .before .before .before .before .before .before .points in
-    let cells = c .before .before .before .before .before .before .before .before .before .before .before .cells in
-    let known = c .before .before .before .before .before .before .before .before .before .before .before .before .before in
+    let at-decide = c .before .before .before .before in
+    let at-if3 = at-decide .before .before .before in
+    let at-if2 = at-if3 .before in
+    let at-if1 = at-if2 .before in
+    let at-points = at-if1 .before in
+    let at-cells = at-points .before in
+    let known = at-cells .before .before in
+    let decide = at-decide .decide in
+    let if3 = at-if3 .if3 in
+    let if2 = at-if2 .if2 in
+    let if1 = at-if1 .if1 in
+    let points = at-points .points in
+    let cells = at-cells .cells in
     let start = known .before .before .before .before .before .before in
     let level = read-known _ _ (sym (known .before .before .read .ensures) ∙ known .l .given .1) in
     rw (cells .ensures) at (decide .ensures)

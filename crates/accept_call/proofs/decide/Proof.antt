@@ -16,9 +16,11 @@ clear-requires c κs = omega (arith, c .before .point-count .ensures .0, c .befo
 
 gather-requires : tie.Need-gather-requires
 gather-requires c κs =
-    let clear = c .before .before .before .clear in
-    let point-count = c .before .before .before .before .before .point-count in
-    let start = c .before .before .before .before .before .before .before .before .before in
+    let at-clear = c .before .before .before in
+    let at-point-count = at-clear .before .before in
+    let start = at-point-count .before .before .before .before in
+    let clear = at-clear .clear in
+    let point-count = at-point-count .point-count in
     let n = start .args .n in
     let w = start .args .work .now in record {
       above-one = start .pre .above-one;
@@ -65,8 +67,9 @@ sign-grid-requires c κs =
 
 copy-requires : tie.Need-copy-requires
 copy-requires c κs =
-    let sign-grid = c .before .before .before .before .sign-grid in
-    let gathered = c .before .before .before .before .before .before .before .before .before in
+    let at-sign-grid = c .before .before .before .before in
+    let gathered = at-sign-grid .before .before .before .before .before in
+    let sign-grid = at-sign-grid .sign-grid in
     let point-count = gathered .before .before .before .before .before .before .point-count in
     let start = gathered .before .before .before .before .before .before .before .before .before .before in (
       omega (
@@ -82,8 +85,9 @@ copy-requires c κs =
 
 clear-requires-3 : tie.Need-clear-requires-3
 clear-requires-3 c κs =
-    let sign-grid = c .before .before .before .before .before .before .before .before .sign-grid in
-    let gathered = c .before .before .before .before .before .before .before .before .before .before .before .before .before in
+    let at-sign-grid = c .before .before .before .before .before .before .before .before in
+    let gathered = at-sign-grid .before .before .before .before .before in
+    let sign-grid = at-sign-grid .sign-grid in
     let point-count = gathered .before .before .before .before .before .before .point-count in
     let start = gathered .before .before .before .before .before .before .before .before .before .before in
     omega (
@@ -103,10 +107,13 @@ same-length-3 c = search needs
 
 returns-2 : tie.Need-returns-2
 returns-2 c =
-    let copy = c .before .before .before .before .before .before .copy in
-    let sign-grid = c .before .before .before .before .before .before .before .before .before .before .before .sign-grid in
-    let if1 = c .before .before .before .before .before .before .before .before .before .before .before .before .before .if1 in
-    let gathered = c .before .before .before .before .before .before .before .before .before .before .before .before .before .before .before .before in
+    let at-copy = c .before .before .before .before .before .before in
+    let at-sign-grid = at-copy .before .before .before .before .before in
+    let at-if1 = at-sign-grid .before .before in
+    let gathered = at-if1 .before .before .before in
+    let copy = at-copy .copy in
+    let sign-grid = at-sign-grid .sign-grid in
+    let if1 = at-if1 .if1 in
     let clear = gathered .before .before .before .before .clear in
     let point-count = gathered .before .before .before .before .before .before .point-count in
     let start = gathered .before .before .before .before .before .before .before .before .before .before in

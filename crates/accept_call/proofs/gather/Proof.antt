@@ -26,17 +26,18 @@ returns c =
 
 all-even-requires : tie.Need-all-even-requires
 all-even-requires c κs =
-    let start = c .before .before .before .before .before .before .before .before in
+    let at-place-all = c .before .before .before .before in
+    let start = at-place-all .before .before .before .before in
     let n = start .args .n in
     let w = start .args .work .now in record {
       some = omega (arith, start .pre .above-one);
       sized = record {
         small = start .pre .sized .small;
         long = subst (λ (k : ℕ). pointCount n ≤ k)
-            (sym (c .before .before .before .before .place-all .kept .1 .1 .0)) (start .pre .sized .long);
+            (sym (at-place-all .place-all .kept .1 .1 .0)) (start .pre .sized .long);
       };
       is-grid = grid-now n (start .args .list .now) w (start .pre .sized .long) (start .pre .blank) _ _
-          (c .before .before .before .before .place-all .ensures) (not-false _ (c
+          (at-place-all .place-all .ensures) (not-false _ (c
           .before .if1 .left));
     }
 
@@ -45,16 +46,20 @@ same-length-2 c = search needs
 
 returns-2 : tie.Need-returns-2
 returns-2 c =
-    let place-all = c .before .before .before .before .before .before .place-all in
-    let start = c .before .before .before .before .before .before .before .before .before .before in
+    let at-if1 = c .before .before .before in
+    let at-place-all = at-if1 .before .before .before in
+    let start = at-place-all .before .before .before .before in
+    let place-all = at-place-all .place-all in
     not-even (start .args .n) (start .args .list .now) (start .args .work .now) (start .pre .sized .long) (start .pre .blank) _ _ (place-all .ensures)
-    (not-false _ (c .before .before .before .if1 .left)) (fails (c .before .all-even .ensures) (c .if2 .taken))
+    (not-false _ (at-if1 .if1 .left)) (fails (c .before .all-even .ensures) (c .if2 .taken))
 
 said-inside-requires : tie.Need-said-inside-requires
 said-inside-requires c κs =
-    let if1 = c .before .before .before .before .if1 in
-    let place-all = c .before .before .before .before .before .before .before .place-all in
-    let start = c .before .before .before .before .before .before .before .before .before .before .before in
+    let at-if1 = c .before .before .before .before in
+    let at-place-all = at-if1 .before .before .before in
+    let start = at-place-all .before .before .before .before in
+    let if1 = at-if1 .if1 in
+    let place-all = at-place-all .place-all in
     let n = start .args .n in
     let w = start .args .work .now in record {
       sized = record {
@@ -71,11 +76,14 @@ same-length-3 c = search needs
 
 returns-3 : tie.Need-returns-3
 returns-3 c =
-    let if1 = c .before .before .before .before .before .if1 in
-    let place-all = c .before .before .before .before .before .before .before .before .place-all in
-    let start = c .before .before .before .before .before .before .before .before .before .before .before .before in
+    let at-all-even = c .before .before .before in
+    let at-if1 = at-all-even .before .before in
+    let at-place-all = at-if1 .before .before .before in
+    let start = at-place-all .before .before .before .before in
+    let if1 = at-if1 .if1 in
+    let place-all = at-place-all .place-all in
     all-said (start .args .n) (start .args .list .now) (start .args .work .now) (start .pre .sized .long) (start .pre .blank) _ _ (place-all .ensures)
-    (not-false _ (if1 .left)) (holds (c .before .before .before .all-even .ensures) (c .before .before .if2 .left)) _ (c .said-inside .ensures)
+    (not-false _ (if1 .left)) (holds (at-all-even .all-even .ensures) (c .before .before .if2 .left)) _ (c .said-inside .ensures)
 
 pub gather-spec : {M : Type 1} → statement M
 gather-spec =

@@ -77,11 +77,13 @@ loop-less c = omega (arith, c .before .before .before .before .loop-test .taken)
 
 loop-again : tie.Need-loop-again Inv-loop μ-loop
 loop-again c =
-    let loop-test = c .before .before .before .before .loop-test in
-    let start = c .before .before .before .before .before .before .before .before in
+    let at-loop-test = c .before .before .before .before in
+    let at-loop = at-loop-test .before in
+    let start = at-loop .before .before .before in
+    let loop-test = at-loop-test .loop-test in
     let n = start .args .n in
     let w = start .args .work .now in
-    let l = c .before .before .before .before .before .loop in
+    let l = at-loop .loop in
     let h : l .p < pointCount n = omega (arith, l .inv .0, loop-test .taken) in
     let e : saidAt n w (l .p) ≡ true = wrong n w (l .p) (l .inside) (l .inv .2)
     (not-false _ (sym (c .before .before .says-wrongly .ensures) ∙ c .before .if1 .left)) in

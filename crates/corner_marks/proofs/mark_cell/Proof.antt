@@ -57,8 +57,9 @@ left-is c a =
 
 returns : tie.Need-returns
 returns c =
-    let number-of = c .before .before .before .before .before .before .number-of in
-    let s = c .before .before .before .before .before .before .before .before in
+    let at-number-of = c .before .before .before .before .before .before in
+    let s = at-number-of .before .before in
+    let number-of = at-number-of .number-of in
     let l = s .args .l in
     let g = s .args .grid .now in
     let at = rw (s .pre .cells-are) at (number-of .ensures .0) in
@@ -79,8 +80,9 @@ left-of-rest-requires c κs =
 
 mark-left-requires : tie.Need-mark-left-requires
 mark-left-requires c κs =
-    let number-of = c .before .before .before .before .before .before .before .before .before .number-of in
-    let s = c .before .before .before .before .before .before .before .before .before .before .before in
+    let at-number-of = c .before .before .before .before .before .before .before .before .before in
+    let s = at-number-of .before .before in
+    let number-of = at-number-of .number-of in
     rw (s .pre .cells-are) (record {
       sized = record { small = cells-most (s .args .l); long = s .pre .grid-long };
       cell = s .pre .cell;

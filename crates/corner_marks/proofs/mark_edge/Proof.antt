@@ -44,11 +44,15 @@ same-length c = search needs
 
 returns-3 : tie.Need-returns-3
 returns-3 c =
-    let if2 = c .before .before .before .before .if2 in
-    let bit2 = c .before .before .before .before .before .bit2 in
-    let if1 = c .before .before .before .before .before .before .if1 in
-    let bit = c .before .before .before .before .before .before .before .bit in
-    let s = c .before .before .before .before .before .before .before .before .before .before in
+    let at-if2 = c .before .before .before .before in
+    let at-bit2 = at-if2 .before in
+    let at-if1 = at-bit2 .before in
+    let at-bit = at-if1 .before in
+    let s = at-bit .before .before .before in
+    let if2 = at-if2 .if2 in
+    let bit2 = at-bit2 .bit2 in
+    let if1 = at-if1 .if1 in
+    let bit = at-bit .bit in
     let m = rw (s .pre .number-is) at (bit .ensures) in
     let clear = sym m ∙ if1 .left in
     let is-left = holds (bit2 .ensures) (if2 .left) in

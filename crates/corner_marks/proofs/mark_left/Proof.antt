@@ -24,8 +24,9 @@ corner-edge-requires-2 c κs =
 
 mark-edge-requires-2 : tie.Need-mark-edge-requires-2
 mark-edge-requires-2 c κs =
-    let s = c .before .before .before .before .before .before .before .before in
-    let long = c .before .before .before .before .mark-edge .kept .1 .0 in
+    let at-mark-edge = c .before .before .before .before in
+    let s = at-mark-edge .before .before .before .before in
+    let long = at-mark-edge .mark-edge .kept .1 .0 in
     rw (c .corner-edge2 .ensures) (record {
       long = rw long (s .pre .sized .long);
       on-grid = corner-grid (s .args .n) (s .args .c) Y (s .pre .cell) .0;
@@ -39,9 +40,11 @@ corner-edge-requires-3 c κs =
 
 mark-edge-requires-3 : tie.Need-mark-edge-requires-3
 mark-edge-requires-3 c κs =
-    let mark-edge2 = c .before .before .before .before .mark-edge2 in
-    let mark-edge = c .before .before .before .before .before .before .before .before .before .mark-edge in
-    let s = c .before .before .before .before .before .before .before .before .before .before .before .before .before in
+    let at-mark-edge2 = c .before .before .before .before in
+    let at-mark-edge = at-mark-edge2 .before .before .before .before .before in
+    let s = at-mark-edge .before .before .before .before in
+    let mark-edge2 = at-mark-edge2 .mark-edge2 in
+    let mark-edge = at-mark-edge .mark-edge in
     let o = corner-grid (s .args .n) (s .args .c) Z (s .pre .cell) .0 in
     rw (c .corner-edge3 .ensures) (record {
       long = rw (mark-edge2 .kept .1 .0, mark-edge .kept .1 .0) (s .pre .sized .long);

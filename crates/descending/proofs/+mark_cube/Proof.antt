@@ -89,9 +89,10 @@ mark-cube-same-length t c = search needs
 
 mark-cube-returns-2 : (t : ℕ) → mark-cube-lts.Need-returns-2 (claims t) (mark-cube-at t) mark-cube.Post mark-cube-Inv-loop mark-cube-μ-loop
 mark-cube-returns-2 t c =
-    let s = c .before .before .before .before .before .before .before .before .before in
-    let one = c .before .before .before .before .if2 .taken in
-    let f = c .before .before .before .before .before .before in
+    let at-if2 = c .before .before .before .before in
+    let f = at-if2 .before .before in
+    let s = f .before .before .before in
+    let one = at-if2 .if2 .taken in
     let t = single-touches (s .args .b) (s .args .c) one (holds (f .before .touches .ensures) (f .if1 .left)) in
     λ u y v.
     let r = covers-reaches (s .args .l) u (s .args .b) v (s .args .c .at) t in
@@ -119,11 +120,13 @@ mark-cube-eighth-requires t c κs =
 
 mark-cube-mark-cube-requires : (t : ℕ) → mark-cube-lts.Need-mark-cube-requires (claims t) (mark-cube-at t) mark-cube.Post mark-cube-Inv-loop mark-cube-μ-loop
 mark-cube-mark-cube-requires t c κs =
-    let s = c .before .before .before .before .before .before .before .before .before .before .before in
-    let two = c .before .before .before .before .before .before .if2 .left in
+    let at-loop = c .before .before .before in
+    let at-if2 = at-loop .before .before .before in
+    let s = at-if2 .before .before .before .before .before in
+    let two = at-if2 .if2 .left in
     let e = eighth-ok (cellsOf (s .args .l)) (s .args .c) (s .pre .1 .cube) two _ t _ (s .pre .0) (c .eighth .ensures) in
     let p = s .pre .1 in
-    let kept = c .before .before .before .loop .inv .1 in
+    let kept = at-loop .loop .inv .1 in
     (e .0, record { cells-are = p .cells-are; grid-long = rw kept (p .grid-long); cube = e .1; loaded = p .loaded })
 
 mark-cube-add-k : (t : ℕ) → mark-cube-lts.Need-add-k (claims t) (mark-cube-at t) mark-cube.Post mark-cube-Inv-loop mark-cube-μ-loop
@@ -134,14 +137,17 @@ mark-cube-loop-less t c = omega arith
 
 mark-cube-loop-again : (t : ℕ) → mark-cube-lts.Need-loop-again (claims t) (mark-cube-at t) mark-cube.Post mark-cube-Inv-loop mark-cube-μ-loop
 mark-cube-loop-again t c =
-    let s = c .before .before .before .before .before .before .before .before .before .before .before .before .before .before in
+    let at-eighth = c .before .before .before in
+    let at-loop = at-eighth .before .before .before in
+    let at-if2 = at-loop .before .before .before in
+    let s = at-if2 .before .before .before .before .before in
     let n = cellsOf (s .args .l) in
-    let l = c .before .before .before .before .before .before .loop in
-    let w = halves n (s .args .c) (s .pre .1 .cube) (c .before .before .before .before .before .before .before .before .before .if2 .left) in (
+    let l = at-loop .loop in
+    let w = halves n (s .args .c) (s .pre .1 .cube) (at-if2 .if2 .left) in (
       omega arith,
       c .before .before .mark-cube .kept .1 .1 .0 ∙ l .inv .1,
       λ u y v.
-          let m = rw (c .before .before .before .eighth .ensures) at (c .before .before .mark-cube .ensures u y v) in
+          let m = rw (at-eighth .eighth .ensures) at (c .before .before .mark-cube .ensures u y v) in
           rw add-one (first-next (s .args .c) (w .even) n (met (s .args .l) u) (l .k) (l .inv .2 u y v) m),
     )
 
@@ -150,10 +156,11 @@ mark-cube-same-length-2 t c = c .before .loop .inv .1
 
 mark-cube-returns-4 : (t : ℕ) → mark-cube-lts.Need-returns-4 (claims t) (mark-cube-at t) mark-cube.Post mark-cube-Inv-loop mark-cube-μ-loop
 mark-cube-returns-4 t c =
-    let s = c .before .before .before .before .before .before .before .before .before in
+    let at-if2 = c .before .before .before .before in
+    let s = at-if2 .before .before .before .before .before in
     let n = cellsOf (s .args .l) in
     let l = c .before .loop in
-    let w = halves n (s .args .c) (s .pre .1 .cube) (c .before .before .before .before .if2 .left) in
+    let w = halves n (s .args .c) (s .pre .1 .cube) (at-if2 .if2 .left) in
     let h : l .k ≡ 8 = omega arith in
     λ u y v. first-all (s .args .c) (w .even) n (met (s .args .l) u) (rw h at (l .inv .2 u y v))
 

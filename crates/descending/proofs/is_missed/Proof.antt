@@ -69,14 +69,18 @@ missed-told c =
 
 returns : tie.Need-returns Inv-loop μ-loop
 returns c =
-    let s = c .before .before .before .before .before .before .before .before in
+    let at-loop-test = c .before .before .before .before in
+    let at-loop = at-loop-test .before in
+    let place = at-loop .before in
+    let at-numbers-of = place .before in
+    let s = at-numbers-of .before in
     let w = s .args .kept .now in
     let r = s .args .reach .now in
-    let k = c .before .before .before .before .before .loop .k in
-    let p = c .before .before .before .before .before .before .before .numbers-of .ensures in
-    let side = side-is (c .before .before .before .before .before .before) in
+    let k = at-loop .loop .k in
+    let p = at-numbers-of .numbers-of .ensures in
+    let side = side-is place in
     let e = sym (λ i. apart (keptAt w k .span) (reachSpan (keptAt w k .axis) (reachAt r k) (p i) (side i))) ∙ sym (missed-told (c .before)) ∙ c .if1 .taken in
-    λ t y. sym (ap not (one-missed (s .args .l) t w r y (s .args .c) k (c .before .before .before .before .loop-test .taken) e))
+    λ t y. sym (ap not (one-missed (s .args .l) t w r y (s .args .c) k (at-loop-test .loop-test .taken) e))
 
 add-k : tie.Need-add-k Inv-loop μ-loop
 add-k c = omega arith
@@ -86,15 +90,19 @@ loop-less c = omega arith
 
 loop-again : tie.Need-loop-again Inv-loop μ-loop
 loop-again c =
-    let s = c .before .before .before .before .before .before .before .before in
+    let at-loop-test = c .before .before .before .before in
+    let at-loop = at-loop-test .before in
+    let at-signed = at-loop .before in
+    let at-numbers-of = at-signed .before in
+    let s = at-numbers-of .before in
     let w = s .args .kept .now in
     let r = s .args .reach .now in
-    let l = c .before .before .before .before .before .loop in
-    let p = c .before .before .before .before .before .before .before .numbers-of .result in
-    let side = held (c .before .before .before .before .before .before .signed .result) in
+    let l = at-loop .loop in
+    let p = at-numbers-of .numbers-of .result in
+    let side = held (at-signed .signed .result) in
     let none : (j : ℕ) → j < l .k + 1 → Dec (j ≡ l .k) → apart (keptAt w j .span) (reachSpan (keptAt w j .axis) (reachAt r j) p side) ≡ false =
     λ j b d. elim d [ yes q ↦ rw q (sym (missed-told (c .before)) ∙ c .if1 .left) | no q ↦ l .inv .1 j (omega arith) ] in
-    (omega arith, λ j b. none j b (ℕ-discrete j (l .k)))
+    (omega (arith, at-loop-test .loop-test .taken), λ j b. none j b (ℕ-discrete j (l .k)))
 
 returns-2 : tie.Need-returns-2 Inv-loop μ-loop
 returns-2 c =

@@ -65,9 +65,11 @@ keep-requires c κs = omega arith
 reach-of-requires : tie.Need-reach-of-requires Inv-loop μ-loop
 unfolding keptOf
 reach-of-requires c κs =
-    let s = c .before .before .before .before .before .before .before .before in
-    let k = c .before .before .before .before .before .before .before .loop .k in
-    rw (axis-is (c .before .before .before)) (kept-size (s .args .l) (getD (laterAxes (s .args .t)) k zeroVector) (later-size k (s .pre .inside)))
+    let place = c .before .before .before in
+    let at-loop = place .before .before .before .before in
+    let s = at-loop .before in
+    let k = at-loop .loop .k in
+    rw (axis-is place) (kept-size (s .args .l) (getD (laterAxes (s .args .t)) k zeroVector) (later-size k (s .pre .inside)))
 
 keep-reach-requires : tie.Need-keep-reach-requires Inv-loop μ-loop
 keep-reach-requires c κs = omega arith
@@ -81,18 +83,21 @@ loop-less c = omega arith
 loop-again : tie.Need-loop-again Inv-loop μ-loop
 unfolding keptOf
 loop-again c =
-    let s = c .before .before .before .before .before .before .before .before .before .before in
-    let l = c .before .before .before .before .before .before .before .before .before .loop in
+    let at-keep = c .before .before .before in
+    let b = at-keep .before .before in
+    let at-loop-test = b .before .before .before in
+    let at-loop = at-loop-test .before in
+    let s = at-loop .before in
+    let l = at-loop .loop in
     let v = s .args .l in
     let t = s .args .t in
-    let b = c .before .before .before .before .before in
     let a = axis-is b in
     let r = c .before .reach-of in
     let reach = r .ensures ∙ ap (λ (x : Kept). reachOf (x .axis)) a in
     let one : l .k + 1 ≡ suc (l .k) = omega arith in
-    let h : l .k < 10 = omega (arith, c .before .before .before .before .before .before .before .before .loop-test .taken) in (
+    let h : l .k < 10 = omega (arith, at-loop-test .loop-test .taken) in (
       rw one h,
-      rw (one, c .before .before .before .keep .ensures) (keeps-more v t (l .kept) (l .k) (b .kept .result) h (l .inv .1) a),
+      rw (one, at-keep .keep .ensures) (keeps-more v t (l .kept) (l .k) (b .kept .result) h (l .inv .1) a),
       rw (one, c .keep-reach .ensures) (spreads-more v t (l .reach) (l .k) (r .result) h (l .inv .2) reach),
     )
 

@@ -12,13 +12,15 @@ cells-requires c κs = search needs
 
 mark-cube-requires : tie.Need-mark-cube-requires
 mark-cube-requires c κs =
-    let s = c .before .before .before .before .before .before .before .before in
-    let e = c .before .before .before .cells .ensures in
+    let at-cells = c .before .before .before in
+    let at-keep-all = at-cells .before in
+    let s = at-keep-all .before .before .before .before in
+    let e = at-cells .cells .ensures in
     record {
       cells-are = e;
       grid-long = s .pre .grid-long;
       cube = whole-cube (s .args .l) _ e;
-      loaded = record { whose = s .args .t; all-kept = c .before .before .before .before .keep-all .ensures };
+      loaded = record { whose = s .args .t; all-kept = at-keep-all .keep-all .ensures };
     }
 
 same-length : tie.Need-same-length
@@ -26,10 +28,12 @@ same-length c = search needs
 
 returns : tie.Need-returns
 returns c =
-    let s = c .before .before .before .before .before .before .before .before .before .before .before in
-    let m = c .before .before .mark-cube .ensures (s .args .t) (c .before .before .before .before .before .before .before .keep-all .ensures)
+    let at-cells = c .before .before .before .before .before .before in
+    let at-keep-all = at-cells .before in
+    let s = at-keep-all .before .before .before .before in
+    let m = c .before .before .mark-cube .ensures (s .args .t) (at-keep-all .keep-all .ensures)
     (s .pre .covers) in
-    whole-all (s .args .l) (s .args .t) (s .args .b) (s .pre .covers) (rw (c .before .before .before .before .before .before .cells .ensures) at m)
+    whole-all (s .args .l) (s .args .t) (s .args .b) (s .pre .covers) (rw (at-cells .cells .ensures) at m)
 
 pub mark-cubes-spec : {M : Type 1} → statement M
 mark-cubes-spec =

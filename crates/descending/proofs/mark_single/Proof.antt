@@ -70,11 +70,12 @@ returns c =
 
 mark-left-requires : tie.Need-mark-left-requires
 mark-left-requires c κs =
-    let s = c .before .before .before .before .before .before .before .before in
+    let at-number-of = c .before .before .before .before .before .before in
+    let s = at-number-of .before .before in
     rw (s .pre .cells-are) (record {
       sized = record { small = cells-most (s .args .l); long = s .pre .grid-long };
       cell = s .pre .cell;
-      number-is = rw (s .pre .cells-are) at (c .before .before .before .before .before .before .number-of .ensures .0);
+      number-is = rw (s .pre .cells-are) at (at-number-of .number-of .ensures .0);
     })
 
 same-length : tie.Need-same-length
@@ -82,14 +83,15 @@ same-length c = search needs
 
 returns-2 : tie.Need-returns-2
 returns-2 c =
-    let s = c .before .before .before .before .before .before .before .before .before .before .before in
+    let f = c .before .before .before .before .before in
+    let at-number-of = f .before .before .before .before in
+    let s = at-number-of .before .before in
     let l = s .args .l in
     let p = s .args .c in
     let w = s .args .kept .now in
-    let n = c .before .before .before .before .before .before .before .before .before .number-of in
+    let n = at-number-of .number-of in
     let at = rw (s .pre .cells-are) at (n .ensures .0) in
     let byte = getD (s .args .grid .now) (n .result) 0 in
-    let f = c .before .before .before .before .before in
     let left = f .left-of-kept .result in
     λ t y r.
     let met-is = left-met l t (s .args .lo) p r (s .pre .cell) 10 w (le-refl 10) (y .keeps) byte left (left-is f) in

@@ -69,18 +69,19 @@ mul-result c = fits (up c) tt
 add-result : tie.Need-add-result
 add-result c = fits (highest c) tt
 
-low : (c : tie.After-struct-told4) →
+low-held : (c : tie.After-struct-told4) →
     let s = c .before .before .before .before .before .before .before .before .before .before in
     held (s .args .a .span .low) ≡ s .args .a .span .low
-low c = search needs
+low-held c = search needs
 
 returns-2 : tie.Need-returns-2
 unfolding apart reachSpan
 returns-2 c =
-    let s = c .before .before .before .before .before .before .before .before .before .before in
-    let u = c .before .before .before .before .before in
-    let f = sym (λ i. ltZ (high u i) (stored (lowest (u .before .before)) tt .is i)) ∙ c .before .before .before .before .if1 .left in
-    (λ i. ltZ (stored (highest (c .before .before)) tt .is i) (low c i))
+    let at-if1 = c .before .before .before .before in
+    let u = at-if1 .before in
+    let s = u .before .before .before .before .before in
+    let f = sym (λ i. ltZ (high u i) (stored (lowest (u .before .before)) tt .is i)) ∙ at-if1 .if1 .left in
+    (λ i. ltZ (stored (highest (c .before .before)) tt .is i) (low-held c i))
     ∙ sym (ap (λ (b : Bool). b || ltZ (dot (s .args .a .axis) (s .args .p) +ℤ s .args .r .high *ℤ s .args .side) (s .args .a .span .low)) f)
 
 pub misses-spec : {M : Type 1} → statement M

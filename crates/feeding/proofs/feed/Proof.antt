@@ -68,16 +68,25 @@ mark-at-requires : tie.Need-mark-at-requires Inv-loop μ-loop
 mark-at-requires c κs = (omega (arith, c .before .before .before .loop-test .taken, c .before .if2 .left), c .before .before .before .before .loop .inv .5)
 
 same-length-3 : tie.Need-same-length-3 Inv-loop μ-loop
-same-length-3 c = c .before .before .before .mark-at .kept .1 .0 ∙ c .before .before .before .before .before .before .before .before .loop .inv .4
+same-length-3 c =
+    let at-mark-at = c .before .before .before in
+    let at-loop = at-mark-at .before .before .before .before .before in
+    at-mark-at .mark-at .kept .1 .0 ∙ at-loop .loop .inv .4
 
 returns-3 : tie.Need-returns-3 Inv-loop μ-loop
 returns-3 c =
-    let m = c .before .before .before .mark-at in
-    let enough = c .before .before .before .before .before .if2 .left in
-    let some = c .before .before .before .before .before .before .before .loop-test .taken in
-    let l = c .before .before .before .before .before .before .before .before .loop in
-    let a = c .before .before .before .before .before .before .before .before .before .before .before .args in
-    let f : l .triangles < 100000 = omega (arith, l .inv .3, c .before .before .before .before .before .before .if1 .left) in
+    let at-mark-at = c .before .before .before in
+    let at-if2 = at-mark-at .before .before in
+    let at-if1 = at-if2 .before in
+    let at-loop-test = at-if1 .before in
+    let at-loop = at-loop-test .before in
+    let start = at-loop .before .before .before in
+    let m = at-mark-at .mark-at in
+    let enough = at-if2 .if2 .left in
+    let some = at-loop-test .loop-test .taken in
+    let l = at-loop .loop in
+    let a = start .args in
+    let f : l .triangles < 100000 = omega (arith, l .inv .3, at-if1 .if1 .left) in
     record {
       ready = m .ensures .ready;
       counted = tt;
@@ -98,12 +107,18 @@ loop-less c = omega (arith, c .before .before .before .before .before .before .b
 
 loop-again : tie.Need-loop-again Inv-loop μ-loop
 loop-again c =
-    let m = c .before .before .before .mark-at in
-    let enough = c .before .before .before .before .before .if2 .left in
-    let some = c .before .before .before .before .before .before .before .loop-test .taken in
-    let l = c .before .before .before .before .before .before .before .before .loop in
-    let a = c .before .before .before .before .before .before .before .before .before .before .before .args in
-    let f : l .triangles < 100000 = omega (arith, l .inv .3, c .before .before .before .before .before .before .if1 .left) in
+    let at-mark-at = c .before .before .before in
+    let at-if2 = at-mark-at .before .before in
+    let at-if1 = at-if2 .before in
+    let at-loop-test = at-if1 .before in
+    let at-loop = at-loop-test .before in
+    let start = at-loop .before .before .before in
+    let m = at-mark-at .mark-at in
+    let enough = at-if2 .if2 .left in
+    let some = at-loop-test .loop-test .taken in
+    let l = at-loop .loop in
+    let a = start .args in
+    let f : l .triangles < 100000 = omega (arith, l .inv .3, at-if1 .if1 .left) in
     let done = sym (m .ensures .number-is) ∙ c .if3 .left in (
       omega (arith, some, enough),
       omega (arith, l .inv .1),

@@ -48,12 +48,17 @@ number-requires c κs = search needs
 
 returns : tie.Need-returns
 returns c =
-    let known = c .before .before .before .before .before .before .before .before .before in
-    let weight = c .before .before .before .before .before .before .before .weight in
-    let weight2 = c .before .before .before .before .before .before .weight2 in
-    let weight3 = c .before .before .before .before .before .weight3 in
-    let place = c .before .before .before .before .place in
-    let place2 = c .before .before .before .place2 in
+    let at-place2 = c .before .before .before in
+    let at-place = at-place2 .before in
+    let at-weight3 = at-place .before in
+    let at-weight2 = at-weight3 .before in
+    let at-weight = at-weight2 .before in
+    let known = at-weight .before .before in
+    let weight = at-weight .weight in
+    let weight2 = at-weight2 .weight2 in
+    let weight3 = at-weight3 .weight3 in
+    let place = at-place .place in
+    let place2 = at-place2 .place2 in
     let size = c .before .before .size in
     let place3 = c .before .place3 in
     (λ i. record {

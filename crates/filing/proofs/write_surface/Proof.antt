@@ -40,10 +40,11 @@ same-length-3 c = search needs
 
 returns : tie.Need-returns
 returns c =
-    let closed = c .before .before .before .before .before .before .before .before .before .before .before .before in
+    let at-write-stl = c .before .before .before .before .before in
+    let closed = at-write-stl .before .before .before .before .before .before .before in
     let s = closed .before .before .before .before .before .before in
     let k = rw (s .pre .work-lent) at (closed .close-grid .ensures) in
-    let e = rw (c .before .bytes .given .1, s .pre .level-is, s .pre .out-lent) at (c .before .before .before .before .before .write-stl .ensures) in
+    let e = rw (c .before .bytes .given .1, s .pre .level-is, s .pre .out-lent) at (at-write-stl .write-stl .ensures) in
     (rw (s .pre .level-is) (filed-done (s .args .l) _ k _ (c .before .bytes .given .0 .0) e), written-within _ _ _ _ (c .before .bytes .given .0 .0) e)
 
 same-length-4 : tie.Need-same-length-4

@@ -73,9 +73,10 @@ lower-marks-requires-2 c κs =
 
 lower-marks-requires-3 : tie.Need-lower-marks-requires-3 Inv-loop μ-loop
 lower-marks-requires-3 c κs =
-    let turn = c .before .before .before .loop in
+    let at-loop = c .before .before .before in
+    let start = at-loop .before .before .before .before .before .before .before .before in
+    let turn = at-loop .loop in
     let test = c .before .before .loop-test in
-    let start = c .before .before .before .before .before .before .before .before .before .before .before in
     record {
       sized = grid-sized (start .pre .0);
       is-grid = start .pre .1;
@@ -96,10 +97,13 @@ odd-put-by-requires c κs = tt
 
 slice-write-work : tie.Need-slice-write-work Inv-loop μ-loop
 slice-write-work c =
-    let clear = c .before .before .before .before .before .before .before .before .before .before .before .clear in
-    let turn = c .before .before .before .before .before .before .before .before .loop in
-    let test = c .before .before .before .before .before .before .before .loop-test in
-    let start = c .before .before .before .before .before .before .before .before .before .before .before .before .before .before .before .before in
+    let at-loop-test = c .before .before .before .before .before .before .before in
+    let at-loop = at-loop-test .before in
+    let at-clear = at-loop .before .before .before in
+    let start = at-clear .before .before .before .before .before in
+    let clear = at-clear .clear in
+    let turn = at-loop .loop in
+    let test = at-loop-test .loop-test in
     let b = point-below (start .args .n) (turn .p) (omega (arith, turn .inv .0, test .taken)) in
     omega (arith, b, turn .inv .1 .long, clear .kept .1 .0, start .pre .0 .work-long)
 
@@ -108,9 +112,11 @@ with-marks-requires c κs = tt
 
 add-ones : tie.Need-add-ones Inv-loop μ-loop
 add-ones c =
-    let start = c .before .before .before .before .before .before .before .before .before .before .before .before .before .before .before .before .before in
-    let turn = c .before .before .before .before .before .before .before .before .before .loop in
-    let test = c .before .before .before .before .before .before .before .before .loop-test in
+    let at-loop-test = c .before .before .before .before .before .before .before .before in
+    let at-loop = at-loop-test .before in
+    let start = at-loop .before .before .before .before .before .before .before .before in
+    let turn = at-loop .loop in
+    let test = at-loop-test .loop-test in
     let m = layers-most (start .args .n) (start .pre .0 .small) in
     omega (arith, turn .inv .1 .few-ones, test .taken, c .with-marks .ensures .1, m)
 
@@ -119,18 +125,20 @@ with-marks-requires-2 c κs = tt
 
 add-threes : tie.Need-add-threes Inv-loop μ-loop
 add-threes c =
-    let entry = c .before .before .before .before .before .before .before .before .before .before in
+    let at-loop-test = c .before .before .before .before .before .before .before .before .before in
+    let entry = at-loop-test .before in
     let start = entry .before .before .before .before .before .before .before .before in
-    let turn = c .before .before .before .before .before .before .before .before .before .before .loop in
-    let test = c .before .before .before .before .before .before .before .before .before .loop-test in
+    let turn = entry .loop in
+    let test = at-loop-test .loop-test in
     let m = layers-most (start .args .n) (start .pre .0 .small) in
     omega (arith, turn .inv .1 .few-threes, test .taken, c .with-marks2 .ensures .1, m)
 
 add-p : tie.Need-add-p Inv-loop μ-loop
 add-p c =
-    let entry = c .before .before .before .before .before .before .before .before .before .before in
+    let at-loop-test = c .before .before .before .before .before .before .before .before .before in
+    let entry = at-loop-test .before in
     let start = entry .before .before .before .before .before .before .before .before in
-    let test = c .before .before .before .before .before .before .before .before .before .loop-test in
+    let test = at-loop-test .loop-test in
     let m = layers-most (start .args .n) (start .pre .0 .small) in omega (arith, test .taken, m)
 
 loop-less : tie.Need-loop-less Inv-loop μ-loop
@@ -138,18 +146,26 @@ loop-less c = omega (arith, c .before .before .before .before .before .before .b
 
 loop-again : tie.Need-loop-again Inv-loop μ-loop
 loop-again c =
-    let clear = c .before .before .before .before .before .before .before .before .before .before .before .before .before .clear in
-    let turn = c .before .before .before .before .before .before .before .before .before .before .loop in
-    let test = c .before .before .before .before .before .before .before .before .before .loop-test in
-    let lower-marks = c .before .before .before .before .before .before .before .before .lower-marks in
-    let lower-marks2 = c .before .before .before .before .before .before .before .lower-marks2 in
-    let lower-marks3 = c .before .before .before .before .before .before .lower-marks3 in
-    let is-odd = c .before .before .before .before .before .is-odd in
-    let is-odd2 = c .before .before .before .before .is-odd2 in
-    let is-odd3 = c .before .before .before .is-odd3 in
+    let at-is-odd3 = c .before .before .before in
+    let at-is-odd2 = at-is-odd3 .before in
+    let at-is-odd = at-is-odd2 .before in
+    let at-lower-marks3 = at-is-odd .before in
+    let at-lower-marks2 = at-lower-marks3 .before in
+    let at-lower-marks = at-lower-marks2 .before in
+    let at-loop-test = at-lower-marks .before in
+    let entry = at-loop-test .before in
+    let at-clear = entry .before .before .before in
+    let clear = at-clear .clear in
+    let turn = entry .loop in
+    let test = at-loop-test .loop-test in
+    let lower-marks = at-lower-marks .lower-marks in
+    let lower-marks2 = at-lower-marks2 .lower-marks2 in
+    let lower-marks3 = at-lower-marks3 .lower-marks3 in
+    let is-odd = at-is-odd .is-odd in
+    let is-odd2 = at-is-odd2 .is-odd2 in
+    let is-odd3 = at-is-odd3 .is-odd3 in
     let odd-put-by = c .before .before .odd-put-by in
     let with-marks = c .before .with-marks in
-    let entry = c .before .before .before .before .before .before .before .before .before .before in
     let start = entry .before .before .before .before .before .before .before .before in (
       turn .inv .0,
       passed-on (start .args .n) (marks (start .args .n) (start .args .grid .now)) _ (turn .p) _ _ _ (turn .inv .1) (omega (arith, turn .inv .0, test .taken))
@@ -163,10 +179,12 @@ same-length c = c .before .loop .inv .1 .long ∙ c .before .before .before .bef
 
 returns : tie.Need-returns Inv-loop μ-loop
 returns c =
-    let point-count = c .before .before .before .before .before .before .point-count in
-    let clear = c .before .before .before .before .clear in
+    let at-clear = c .before .before .before .before in
+    let at-point-count = at-clear .before .before in
+    let start = at-point-count .before .before .before in
+    let point-count = at-point-count .point-count in
+    let clear = at-clear .clear in
     let turn = c .before .loop in
-    let start = c .before .before .before .before .before .before .before .before .before in
     let n = start .args .n in
     let g = start .args .grid .now in
     let h : n * suc n * suc n ≤ turn .p = omega (arith, turn .inv .0, c .loop-test .left) in

@@ -49,22 +49,27 @@ low-requires c κs = tt
 
 slice-write-grid : tie.Need-slice-write-grid Inv-loop μ-loop
 slice-write-grid c =
-    let start = c .before .before .before .before .before .before .before .before in
-    let turn = c .before .before .before .before .before .loop in
-    let test = c .before .before .before .before .loop-test in
+    let at-loop-test = c .before .before .before .before in
+    let at-loop = at-loop-test .before in
+    let start = at-loop .before .before .before in
+    let turn = at-loop .loop in
+    let test = at-loop-test .loop-test in
     paint-room low _ _ _ _ (turn .inv .1) (test .taken) (start .pre .grid-long)
 
 slice-write-work : tie.Need-slice-write-work Inv-loop μ-loop
 slice-write-work c =
-    let start = c .before .before .before .before .before .before .before .before in
-    let turn = c .before .before .before .before .before .loop in
-    let test = c .before .before .before .before .loop-test in
+    let at-loop-test = c .before .before .before .before in
+    let at-loop = at-loop-test .before in
+    let start = at-loop .before .before .before in
+    let turn = at-loop .loop in
+    let test = at-loop-test .loop-test in
     paint-room zeroByte _ _ _ _ (turn .inv .2) (test .taken) (start .pre .work-long)
 
 add-p : tie.Need-add-p Inv-loop μ-loop
 add-p c =
-    let start = c .before .before .before .before .before .before .before .before in
-    let test = c .before .before .before .before .loop-test in
+    let at-loop-test = c .before .before .before .before in
+    let start = at-loop-test .before .before .before .before in
+    let test = at-loop-test .loop-test in
     let f = start .pre .count-most in omega (arith, test .taken)
 
 loop-less : tie.Need-loop-less Inv-loop μ-loop
@@ -72,9 +77,11 @@ loop-less c = omega (arith, c .before .before .before .before .loop-test .taken)
 
 loop-again : tie.Need-loop-again Inv-loop μ-loop
 loop-again c =
-    let start = c .before .before .before .before .before .before .before .before in
-    let turn = c .before .before .before .before .before .loop in
-    let test = c .before .before .before .before .loop-test in
+    let at-loop-test = c .before .before .before .before in
+    let at-loop = at-loop-test .before in
+    let start = at-loop .before .before .before in
+    let turn = at-loop .loop in
+    let test = at-loop-test .loop-test in
     let changes = c .before .before .changes in (
       omega (arith, test .taken),
       paint-more low _ _ _ _ (turn .inv .1) (c .low .ensures .0),

@@ -46,14 +46,15 @@ point-count-requires c κs = c .before .before .before .before .before .before .
 
 loop-holds : tie.Need-loop-holds Inv-loop μ-loop
 loop-holds c =
-    let s = c .before .before .before .before .before .before .before .before in (
+    let at-clear-totals = c .before .before .before in
+    let s = at-clear-totals .before .before .before .before .before in (
       c .point-count .ensures .0,
       omega arith,
       paint-none _ _,
       paint-none _ _,
       changes-none _,
       at-start _,
-      rw (c .before .before .before .clear-totals .ensures) (scan-start (s .args .n) (s .args .totals .now) (s .pre .1) _),
+      rw (at-clear-totals .clear-totals .ensures) (scan-start (s .args .n) (s .args .totals .now) (s .pre .1) _),
     )
 
 slice-read-changes : tie.Need-slice-read-changes Inv-loop μ-loop
@@ -105,12 +106,15 @@ slice-write-work c =
 
 hold-requires : tie.Need-hold-requires Inv-loop μ-loop
 hold-requires c κs =
-    let s = c .before .before .before .before .before .before .before .before .before .before .before .before .before .before .before in
-    let l = c .before .before .before .before .before .before .loop in
+    let at-loop-test = c .before .before .before .before .before in
+    let at-loop = at-loop-test .before in
+    let at-clear-totals = at-loop .before .before .before .before in
+    let s = at-clear-totals .before .before .before .before .before in
+    let l = at-loop .loop in
     let n = s .args .n in
-    let h : l .p < pointCount n = omega (arith, l .inv .0, c .before .before .before .before .before .loop-test .taken) in
+    let h : l .p < pointCount n = omega (arith, l .inv .0, at-loop-test .loop-test .taken) in
     let e = marks-are n (l .p) _ (s .args .grid .now) (l .grid) (l .q) (l .inv .5) (l .inv .2) h (s .pre .0 .grid-long) (c .before .low .ensures .0) in
-    let k = c .before .before .before .before .before .before .before .before .before .before .clear-totals .kept .1 .0 in
+    let k = at-clear-totals .clear-totals .kept .1 .0 in
     let f = at-most n (left n (s .args .grid .now)) in record {
       small = s .pre .0 .small;
       on-grid = at-grid n (l .p) (l .q) (l .inv .5) h;

@@ -61,11 +61,14 @@ bit-requires c κs = search needs
 
 returns-2 : tie.Need-returns-2
 returns-2 c =
-    let here = c .before .before .before .before .is-inside in
+    let at-is-inside = c .before .before .before .before in
+    let at-step = at-is-inside .before .before in
+    let place = at-step .before in
+    let start = place .before .before .before in
+    let here = at-is-inside .is-inside in
     let there = c .before .before .is-inside2 in
-    let step = c .before .before .before .before .before .before .step in
-    let e = exists (c .before .before .before .before .before .before .before) in
-    let start = c .before .before .before .before .before .before .before .before .before .before in
+    let step = at-step .step in
+    let e = exists place in
     edge-is (start .args .n) (start .args .grid .now) (start .args .a) (start .args .q) (start .args .p) _ _ _ _ (start .pre .sized .long)
     (start .pre .is-grid) (start .pre .on-grid) e (start .pre .number-is) (step .ensures) (here .ensures) (there .ensures) (c .bit .ensures)
 

@@ -58,8 +58,9 @@ point-fits-requires c κs =
 
 returns-2 : tie.Need-returns-2 Inv-loop μ-loop
 returns-2 c =
-    let start = c .before .before .before .before .before .before .before .before .before in
-    let l = c .before .before .before .loop in
+    let at-loop = c .before .before .before in
+    let start = at-loop .before .before .before .before .before .before in
+    let l = at-loop .loop in
     let f = pointFits (start .args .n) (marks (start .args .n) (start .args .grid .now)) (inside (start .args .n) (start .args .grid .now)) in
     let h : l .p < pointCount (start .args .n) = omega arith in
     let e : f (l .q) ≡ false = fails {a = f (l .q)} (c .before .point-fits .ensures) (c .if2 .taken) in
@@ -67,8 +68,9 @@ returns-2 c =
 
 next-point-requires : tie.Need-next-point-requires Inv-loop μ-loop
 next-point-requires c κs =
-    let start = c .before .before .before .before .before .before .before .before .before in
-    let l = c .before .before .before .loop in
+    let at-loop = c .before .before .before in
+    let start = at-loop .before .before .before .before .before .before in
+    let l = at-loop .loop in
     let h : l .p < pointCount (start .args .n) = omega arith in
     (start .pre .0 .small, at-grid _ (l .p) (l .q) (l .inv .2) h)
 
@@ -80,10 +82,12 @@ loop-less c = omega (arith, c .before .before .before .loop-test .taken)
 
 loop-again : tie.Need-loop-again Inv-loop μ-loop
 loop-again c =
-    let l = c .before .before .before .before .loop in
-    let start = c .before .before .before .before .before .before .before .before .before .before in
+    let at-loop-test = c .before .before .before in
+    let at-loop = at-loop-test .before in
+    let start = at-loop .before .before .before .before .before .before in
+    let l = at-loop .loop in
     let f = pointFits (start .args .n) (marks (start .args .n) (start .args .grid .now)) (inside (start .args .n) (start .args .grid .now)) in
-    let h : l .p < pointCount (start .args .n) = omega (arith, l .inv .0, c .before .before .before .loop-test .taken) in
+    let h : l .p < pointCount (start .args .n) = omega (arith, l .inv .0, at-loop-test .loop-test .taken) in
     let e : f (l .q) ≡ true = holds {a = f (l .q)} (c .before .before .point-fits .ensures) (c .before .if2 .left) in (
       l .inv .0,
       omega arith,

@@ -13,8 +13,9 @@ turn-requires c κs = search needs
 
 turn-faces-requires : tie.Need-turn-faces-requires
 turn-faces-requires c κs =
-    let s = c .before .before .before .before .before .before .before .before in
-    let e = c .before .before .before .before .before .number-of .ensures in
+    let at-number-of = c .before .before .before .before .before in
+    let s = at-number-of .before .before .before in
+    let e = at-number-of .number-of .ensures in
     record {
       sized = work-sized (s .pre .0);
       below = e .1;
@@ -29,9 +30,11 @@ same-length-2 c = search needs
 
 returns : tie.Need-returns
 returns c =
-    let turn = c .before .before .before .before .before .before .turn in
-    let number-of = c .before .before .before .before .before .before .before .before .number-of in
-    let s = c .before .before .before .before .before .before .before .before .before .before .before in
+    let at-turn = c .before .before .before .before .before .before in
+    let at-number-of = at-turn .before .before in
+    let s = at-number-of .before .before .before in
+    let turn = at-turn .turn in
+    let number-of = at-number-of .number-of in
     let e = number-of .ensures .0 in
     (flip-turn _ _ (s .pre .1) _ e _ _ (turn .ensures), flip-face-turns _ _ (s .pre .1) _ e _ _ (c .before .before .turn-faces .ensures))
 

@@ -26,9 +26,11 @@ flip-requires c κs =
 
 next-edge-requires : tie.Need-next-edge-requires Inv-loop μ-loop
 next-edge-requires c κs =
-    let loop-test = c .before .before .before .before .before .before .before .loop-test in
-    let loop-told = c .before .before .before .before .before .before .before .before .loop in
-    let start = c .before .before .before .before .before .before .before .before .before .before .before in
+    let at-loop-test = c .before .before .before .before .before .before .before in
+    let at-loop = at-loop-test .before in
+    let start = at-loop .before .before .before in
+    let loop-test = at-loop-test .loop-test in
+    let loop-told = at-loop .loop in
     (start .pre .0 .small, run-low _ _ _ _ (loop-told .inv .run) (loop-test .taken))
 
 sub-k : tie.Need-sub-k Inv-loop μ-loop
@@ -39,9 +41,12 @@ loop-less c = omega (arith, c .before .before .before .before .before .before .b
 
 loop-again : tie.Need-loop-again Inv-loop μ-loop
 loop-again c =
-    let flip = c .before .before .before .before .before .flip in
-    let loop-test = c .before .before .before .before .before .before .before .before .loop-test in
-    let loop-told = c .before .before .before .before .before .before .before .before .before .loop in
+    let at-flip = c .before .before .before .before .before in
+    let at-loop-test = at-flip .before .before .before in
+    let at-loop = at-loop-test .before in
+    let flip = at-flip .flip in
+    let loop-test = at-loop-test .loop-test in
+    let loop-told = at-loop .loop in
     running-on _ _ _ _ _ _ _ _ _ _ (loop-told .inv) (loop-test .taken) _ _ _ (c .next-edge .ensures) (flip .ensures .0) (flip .ensures .1)
 
 same-length : tie.Need-same-length Inv-loop μ-loop

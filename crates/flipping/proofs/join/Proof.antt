@@ -28,14 +28,18 @@ sub-flip-run c = search needs
 
 flip-run-requires : tie.Need-flip-run-requires
 flip-run-requires c κs =
-    let least = c .before .before .before .before .least in
-    let later = c .before .before .before .before .before .later in
-    let earlier = c .before .before .before .before .before .before .earlier in
-    let start = c .before .before .before .before .before .before .before .before .before in (
+    let at-most = c .before .before .before in
+    let at-least = at-most .before in
+    let at-later = at-least .before in
+    let at-earlier = at-later .before in
+    let start = at-earlier .before .before .before in
+    let least = at-least .least in
+    let later = at-later .later in
+    let earlier = at-earlier .earlier in (
       start .pre .sized,
       join-run (start .args .n) (start .args .a) (start .args .m) (start .args .p) (start .args .q) _ _ (earlier .ensures) (later .ensures) _ _
           (earlier .ensures) (later .ensures) (start .pre .plane-some) (start .pre .plane-most) (start .pre .p-placed) (start .pre .q-placed) _ _ _
-          (least .ensures) (c .before .before .before .most .ensures) (c .before .before .point-at .ensures),
+          (least .ensures) (at-most .most .ensures) (c .before .before .point-at .ensures),
     )
 
 least-requires-2 : tie.Need-least-requires-2
@@ -55,14 +59,16 @@ sub-flip-run-2 c = search needs
 
 flip-run-requires-2 : tie.Need-flip-run-requires-2
 flip-run-requires-2 c κs =
-    let first = c .before .before .before .before .before .before .before .before .before in
+    let at-most2 = c .before .before .before in
+    let at-least2 = at-most2 .before in
+    let first = at-least2 .before .before .before .before .before in
     let later = first .before .before .before .before .before .before .later in
     let earlier = first .before .before .before .before .before .before .before .earlier in
     let start = first .before .before .before .before .before .before .before .before .before .before in (
       both-kept (first .flip-run .kept .1 .0) (first .flip-run .kept .1 .1 .0) (start .pre .sized),
       join-run₂ (start .args .n) (start .args .a) (start .args .m) (start .args .p) (start .args .q) _ _ (earlier .ensures) (later .ensures) _ _
           (earlier .ensures) (later .ensures) (start .pre .plane-some) (start .pre .plane-most) (start .pre .p-placed) (start .pre .q-placed) _ _ _
-          (c .before .before .before .before .least2 .ensures) (c .before .before .before .most2 .ensures) (c .before .before .point-at2 .ensures),
+          (at-least2 .least2 .ensures) (at-most2 .most2 .ensures) (c .before .before .point-at2 .ensures),
     )
 
 same-length : tie.Need-same-length

@@ -45,10 +45,11 @@ lower-face-requires-2 c κs = search needs
 
 turn-face-requires-2 : tie.Need-turn-face-requires-2
 turn-face-requires-2 c κs =
-    let s = c .before .before .before .before .before .before .before .before .before .before .before .before in
+    let at-turn-face = c .before .before .before .before in
+    let s = at-turn-face .before .before .before .before .before .before .before .before in
     let f = lower-fits (s .args .n) (s .args .a) (s .args .at) (s .pre .edged) _ _ (c .lower-face2 .ensures) in
     record {
-      sized = sized-kept (c .before .before .before .before .turn-face .kept .1 .0) (s .pre .sized);
+      sized = sized-kept (at-turn-face .turn-face .kept .1 .0) (s .pre .sized);
       on-grid = f .0;
       below = f .1;
     }

@@ -45,21 +45,26 @@ is-odd-requires-2 c κs = search needs
 
 returns-2 : tie.Need-returns-2
 returns-2 c =
-    let is-odd = c .before .before .before .before .is-odd in
-    let lower-marks = c .before .before .before .before .before .lower-marks in
-    let number-of = c .before .before .before .before .before .before .number-of in
-    let s = c .before .before .before .before .before .before .before .before in
+    let at-if1 = c .before .before .before in
+    let at-is-odd = at-if1 .before in
+    let at-lower-marks = at-is-odd .before in
+    let at-number-of = at-lower-marks .before in
+    let s = at-number-of .before .before in
+    let is-odd = at-is-odd .is-odd in
+    let lower-marks = at-lower-marks .lower-marks in
+    let number-of = at-number-of .number-of in
     let E = marks (s .args .n) (s .args .grid .now) in
     let e = number-of .ensures .0 in
     rw (
-      odd-told (s .args .n) E X _ (s .args .c) (s .pre .cell) e (lower-marks .ensures) (is-odd .ensures) ∙ c .before .before .before .if1 .left,
+      odd-told (s .args .n) E X _ (s .args .c) (s .pre .cell) e (lower-marks .ensures) (is-odd .ensures) ∙ at-if1 .if1 .left,
       odd-told (s .args .n) E Y _ (s .args .c) (s .pre .cell) e (c .before .before .lower-marks2 .ensures) (c .before .is-odd2 .ensures) ∙ c .if2 .taken,
     )
 
 lower-marks-requires-3 : tie.Need-lower-marks-requires-3
 lower-marks-requires-3 c κs =
-    let number-of = c .before .before .before .before .before .before .number-of in
-    let s = c .before .before .before .before .before .before .before .before in
+    let at-number-of = c .before .before .before .before .before .before in
+    let s = at-number-of .before .before in
+    let number-of = at-number-of .number-of in
     record {
       sized = s .pre .sized;
       is-grid = s .pre .is-grid;
@@ -71,17 +76,23 @@ is-odd-requires-3 c κs = search needs
 
 returns-3 : tie.Need-returns-3
 returns-3 c =
-    let lower-marks2 = c .before .before .before .before .lower-marks2 in
-    let if1 = c .before .before .before .before .before .if1 in
-    let is-odd = c .before .before .before .before .before .before .is-odd in
-    let lower-marks = c .before .before .before .before .before .before .before .lower-marks in
-    let number-of = c .before .before .before .before .before .before .before .before .number-of in
-    let s = c .before .before .before .before .before .before .before .before .before .before in
+    let at-is-odd2 = c .before .before .before in
+    let at-lower-marks2 = at-is-odd2 .before in
+    let at-if1 = at-lower-marks2 .before in
+    let at-is-odd = at-if1 .before in
+    let at-lower-marks = at-is-odd .before in
+    let at-number-of = at-lower-marks .before in
+    let s = at-number-of .before .before in
+    let lower-marks2 = at-lower-marks2 .lower-marks2 in
+    let if1 = at-if1 .if1 in
+    let is-odd = at-is-odd .is-odd in
+    let lower-marks = at-lower-marks .lower-marks in
+    let number-of = at-number-of .number-of in
     let E = marks (s .args .n) (s .args .grid .now) in
     let e = number-of .ensures .0 in
     rw (
       odd-told (s .args .n) E X _ (s .args .c) (s .pre .cell) e (lower-marks .ensures) (is-odd .ensures) ∙ if1 .left,
-      odd-told (s .args .n) E Y _ (s .args .c) (s .pre .cell) e (lower-marks2 .ensures) (c .before .before .before .is-odd2 .ensures) ∙
+      odd-told (s .args .n) E Y _ (s .args .c) (s .pre .cell) e (lower-marks2 .ensures) (at-is-odd2 .is-odd2 .ensures) ∙
           c .before .before .if2 .left,
       &&-true,
     )

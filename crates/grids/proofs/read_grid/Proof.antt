@@ -79,16 +79,20 @@ add-found c =
 
 next-point-requires : tie.Need-next-point-requires Inv-loop μ-loop
 next-point-requires c κs =
-    let loop-test = c .before .before .before .before .before .loop-test in
-    let start = c .before .before .before .before .before .before .before .before .before in
-    let l = c .before .before .before .before .before .before .loop in
+    let at-loop-test = c .before .before .before .before .before in
+    let at-loop = at-loop-test .before in
+    let start = at-loop .before .before .before in
+    let loop-test = at-loop-test .loop-test in
+    let l = at-loop .loop in
     let h : l .p < pointCount (start .args .n) = omega (arith, l .inv .0, loop-test .taken) in
     (start .pre .small, at-grid _ (l .p) (l .q) (l .inv .2) h)
 
 add-p : tie.Need-add-p Inv-loop μ-loop
 add-p c =
-    let loop-test = c .before .before .before .before .before .before .loop-test in
-    let point-count = c .before .before .before .before .before .before .before .before .point-count in
+    let at-loop-test = c .before .before .before .before .before .before in
+    let at-point-count = at-loop-test .before .before in
+    let loop-test = at-loop-test .loop-test in
+    let point-count = at-point-count .point-count in
     omega (arith, loop-test .taken, point-count .ensures .1)
 
 loop-less : tie.Need-loop-less Inv-loop μ-loop
@@ -96,13 +100,18 @@ loop-less c = omega (arith, c .before .before .before .before .before .before .l
 
 loop-again : tie.Need-loop-again Inv-loop μ-loop
 loop-again c =
-    let byte-fits = c .before .before .before .before .byte-fits in
-    let loop-test = c .before .before .before .before .before .before .loop-test in
-    let l = c .before .before .before .before .before .before .before .loop in
-    let n = c .before .before .before .before .before .before .before .before .before .before .args .n in
-    let g = c .before .before .before .before .before .before .before .before .before .before .args .grid .now in
+    let at-if1 = c .before .before .before in
+    let at-byte-fits = at-if1 .before in
+    let at-loop-test = at-byte-fits .before .before in
+    let at-loop = at-loop-test .before in
+    let start = at-loop .before .before .before in
+    let byte-fits = at-byte-fits .byte-fits in
+    let loop-test = at-loop-test .loop-test in
+    let l = at-loop .loop in
+    let n = start .args .n in
+    let g = start .args .grid .now in
     let h : l .p < pointCount n = omega (arith, l .inv .0, loop-test .taken) in
-    let e = good-is _ (l .p) g (l .q) (l .inv .2) ∙ holds (byte-fits .ensures) (c .before .before .before .if1 .left) in
+    let e = good-is _ (l .p) g (l .q) (l .inv .2) ∙ holds (byte-fits .ensures) (at-if1 .if1 .left) in
     let a = at-next _ (l .p) (l .q) (l .inv .2) h in
     let m = all-more (goodByte _ g) _ (l .p) (l .q) (l .inv .2) h e in
     let o = c .before .one-inside .ensures .0 ∙ ap (λ (i : ℕ). value (saysInside (getD g i 0)) 1) (sym (l .inv .2 .is)) in

@@ -42,15 +42,19 @@ slice-aggregate-put-three-3 c = search needs
 
 put-three-requires-3 : tie.Need-put-three-requires-3
 put-three-requires-3 c κs =
+    let at-put-three2 = c .before .before .before .before in
+    let at-put-three = at-put-three2 .before .before .before .before .before in
+    let at-put-one = at-put-three .before .before .before .before .before in
+    let start = at-put-one .before .before .before .before in
     omega (
       arith,
-      c .before .before .before .before .before .before .before .before .before .before .before .before .before .before .before .before .before .before .pre,
-      c .before .before .before .before .before .before .before .before .before .before .before .before .before .before .put-one .ensures .1,
-      c .before .before .before .before .before .before .before .before .before .before .before .before .before .before .put-one .kept .0,
-      c .before .before .before .before .before .before .before .before .before .put-three .ensures .1,
-      c .before .before .before .before .before .before .before .before .before .put-three .kept .0,
-      c .before .before .before .before .put-three2 .ensures .1,
-      c .before .before .before .before .put-three2 .kept .0,
+      start .pre,
+      at-put-one .put-one .ensures .1,
+      at-put-one .put-one .kept .0,
+      at-put-three .put-three .ensures .1,
+      at-put-three .put-three .kept .0,
+      at-put-three2 .put-three2 .ensures .1,
+      at-put-three2 .put-three2 .kept .0,
     )
 
 same-length : tie.Need-same-length

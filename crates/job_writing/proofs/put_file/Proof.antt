@@ -36,29 +36,32 @@ put-lines-requires c κs =
 
 put-bodies-requires : tie.Need-put-bodies-requires
 put-bodies-requires c κs =
-    let start = c .before .before .before .before .before .before .before .before .before in
+    let at-put-lines = c .before .before .before in
+    let start = at-put-lines .before .before .before .before .before .before in
     let out = start .args .out .now in
     let level = start .args .level in
     let n = length-set (set out 0 level) 1 (start .args .count) in
     let k = length-set out 0 level in
     let p = start .pre in
-    record { start-most = omega (arith, p); sizes = p .sizes; out-room = omega (arith, n, k, p, c .before .before .before .put-lines .kept) }
+    record { start-most = omega (arith, p); sizes = p .sizes; out-room = omega (arith, n, k, p, at-put-lines .put-lines .kept) }
 
 same-length : tie.Need-same-length
 same-length c =
-    let start = c .before .before .before .before .before .before .before .before .before .before .before .before in
+    let at-put-lines = c .before .before .before .before .before .before in
+    let start = at-put-lines .before .before .before .before .before .before in
     let out = start .args .out .now in
     let level = start .args .level in
-    let put-lines = c .before .before .before .before .before .before .put-lines in
+    let put-lines = at-put-lines .put-lines in
     let n = length-set (set out 0 level) 1 (start .args .count) in
     let k = length-set out 0 level in
     omega (arith, n, k, put-lines .kept, c .before .before .put-bodies .kept)
 
 returns : tie.Need-returns
 returns c =
-    let start = c .before .before .before .before .before .before .before .before .before .before .before .before in
+    let at-put-lines = c .before .before .before .before .before .before in
+    let start = at-put-lines .before .before .before .before .before .before in
     let level = start .args .level in
-    let put-lines = c .before .before .before .before .before .before .put-lines in
+    let put-lines = at-put-lines .put-lines in
     let l = start .args .out .now in
     let b = (chosen (start .args .w) (start .args .grid .now) (start .args .triangles .now) (start .args .quads .now)) in
     let e : start .args .count ≡ length b = start .pre .count-is in

@@ -48,10 +48,12 @@ count-is : (c : tie.After-all-fit) →
     let s = c .before .before .before .before .before .before .before .before .before in
     count ≡ length (chosen (s .args .w) (s .args .grid .now) (s .args .triangles .now) (s .args .quads .now))
 count-is c =
-    let x = c .before .before .before .before .one .ensures .0 in
-    let y = c .before .before .before .one2 .ensures .0 in
+    let at-one2 = c .before .before .before in
+    let at-one = at-one2 .before in
+    let s = at-one .before .before .before .before .before in
+    let x = at-one .one .ensures .0 in
+    let y = at-one2 .one2 .ensures .0 in
     let z = c .before .before .one3 .ensures .0 in
-    let s = c .before .before .before .before .before .before .before .before .before in
     (λ i. x i + y i + z i)
     ∙ sym (chosen-count (s .args .w) (s .args .grid .now) (s .args .triangles .now) (s .args .quads .now))
 
@@ -133,15 +135,20 @@ same-length c = search needs
 
 returns-4 : tie.Need-returns-4
 returns-4 c =
-    let end-of = c .before .before .before .before .before .end-of in
-    let if2 = c .before .before .before .before .before .before .if2 in
-    let grid-fits = c .before .before .before .before .before .before .before .grid-fits in
-    let if1 = c .before .before .before .before .before .before .before .before .if1 in
-    let fit = c .before .before .before .before .before .before .before .before .before in
+    let at-if3 = c .before .before .before .before in
+    let at-end-of = at-if3 .before in
+    let at-if2 = at-end-of .before in
+    let at-grid-fits = at-if2 .before in
+    let at-if1 = at-grid-fits .before in
+    let fit = at-if1 .before in
+    let end-of = at-end-of .end-of in
+    let if2 = at-if2 .if2 in
+    let grid-fits = at-grid-fits .grid-fits in
+    let if1 = at-if1 .if1 in
     let a = fit .before .before .before .before .before .before .before .before .before .args in
     let b = chosen (a .w) (a .grid .now) (a .triangles .now) (a .quads .now) in
     let end = end-of .ensures ∙ ap (λ (m : ℕ). endFrom (tableSize m) b) (count-is fit) in
-    let room : endFrom (tableSize (length b)) b ≤ length (a .out .now) = omega (arith, end, c .before .before .before .before .if3 .left) in
+    let room : endFrom (tableSize (length b)) b ≤ length (a .out .now) = omega (arith, end, at-if3 .if3 .left) in
     write-done (a .level) (a .n) (a .w) (a .grid .now) (a .triangles .now) (a .quads .now) (a .out .now)
     (holds (fits-is fit) (if1 .left)) (holds (grid-fits .ensures) (if2 .left))
     (end-of .result) _ room end (c .before .before .put-file .ensures)

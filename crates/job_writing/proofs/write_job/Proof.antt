@@ -20,9 +20,11 @@ cells-requires c κs = search needs
 
 write-sized-requires : tie.Need-write-sized-requires
 write-sized-requires c κs =
-    let start = c .before .before .before .before .before .before .before .before .before .before in
-    let l = c .before .before .before .l in
-    let read = c .before .before .before .before .before .read in
+    let at-l = c .before .before .before in
+    let at-read = at-l .before .before in
+    let start = at-read .before .before .before .before .before in
+    let l = at-l .l in
+    let read = at-read .read in
     (rw (c .before .cells .ensures) (cells-most (l .given .0 .0)), level-small (start .args .level) (l .given .0 .0) (sym (l .given .1) ∙ read .ensures))
 
 enum-told : tie.Need-enum-told
@@ -33,16 +35,19 @@ same-length c = search needs
 
 returns : tie.Need-returns
 returns c =
-    let start = c .before .before .before .before .before .before .before .before .before .before .before .before .before in
+    let at-cells = c .before .before .before .before in
+    let at-l = at-cells .before .before in
+    let at-read = at-l .before .before in
+    let start = at-read .before .before .before .before .before in
     let g = start .args .grid .now in
     let t = start .args .triangles .now in
     let q = start .args .quads .now in
     let out = start .args .out .now in
     let level = start .args .level in
     let kinds = start .args .kinds in
-    let cells = c .before .before .before .before .cells in
-    let read = c .before .before .before .before .before .before .before .before .read in
-    let l = c .before .before .before .before .before .before .l in
+    let cells = at-cells .cells in
+    let read = at-read .read in
+    let l = at-l .l in
     c .before .before .write-sized .ensures
     ∙ ap (λ (n : ℕ). writeSized level n kinds g t q out) (cells .ensures)
     ∙ sym (write-level level kinds g t q out _ (sym (read .ensures) ∙ l .given .1))

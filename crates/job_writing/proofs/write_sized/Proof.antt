@@ -26,9 +26,11 @@ same-length c = search needs
 returns-2 : tie.Need-returns-2
 unfolding writeBodies sizedRows writeSized
 returns-2 c =
-    let start = c .before .before .before .before .before .before .before .before .before .before in
-    let if1 = c .before .before .before .before .before .if1 in
-    let wanted-of = c .before .before .before .before .wanted-of in
+    let at-wanted-of = c .before .before .before .before in
+    let at-if1 = at-wanted-of .before in
+    let start = at-if1 .before .before .before .before .before in
+    let if1 = at-if1 .if1 in
+    let wanted-of = at-wanted-of .wanted-of in
     simp (le-ltb _ _ (if1 .left))
     (c .before .before .write-bodies .ensures ∙ ap
     (λ (w : Wanted). writeBodies (start .args .level) (start .args .n) w (start .args .grid .now) (start .args .triangles .now) (start .args .quads .now)

@@ -60,46 +60,60 @@ box-some-requires c κs =
 
 returns-2 : tie.Need-returns-2
 returns-2 c =
-    let s = c .before .before .before .before .before .before .before .before in
+    let at-inside = c .before .before .before .before in
+    let at-box-from = at-inside .before in
+    let s = at-box-from .before .before .before in
     let n = s .args .n in
     let t = s .args .totals .now in
-    let i = c .before .before .before .before .inside .ensures ∙ ap (insideOf n) (c .before .before .before .before .before .box-from .ensures) in
+    let i = at-inside .inside .ensures ∙ ap (insideOf n) (at-box-from .box-from .ensures) in
     let yes = sym (ap (λ (b : Box). anyOf (entrySome (n / 4) t) (boxPoints b)) i) ∙ sym (c .before .box-some .ensures) ∙ c .if2 .taken in
     sym (told-yes n (s .args .grid .now) t (boxFrom (s .args .low) (s .args .high)) (box-fits n (s .args .low) (s .args .high) (s .pre .on-grid)) yes)
 
 points-of-requires : tie.Need-points-of-requires
 points-of-requires c κs =
-    let s = c .before .before .before .before .before .before .before .before in
+    let at-is-empty = c .before .before .before in
+    let at-inside = at-is-empty .before in
+    let at-box-from = at-inside .before in
+    let s = at-box-from .before .before .before in
     let n = s .args .n in
-    let i = c .before .before .before .before .inside .ensures ∙ ap (insideOf n) (c .before .before .before .before .before .box-from .ensures) in
-    let some = sym (ap emptyBox i) ∙ sym (c .before .before .before .is-empty .ensures) ∙ c .before .before .if1 .left in
+    let i = at-inside .inside .ensures ∙ ap (insideOf n) (at-box-from .box-from .ensures) in
+    let some = sym (ap emptyBox i) ∙ sym (at-is-empty .is-empty .ensures) ∙ c .before .before .if1 .left in
     let b = boxFrom (s .args .low) (s .args .high) in
     let few = inside-few n (insideOf n b) (s .pre .sized .small) (inside-fits n b (box-fits n (s .args .low) (s .args .high) (s .pre .on-grid))) some in
     rw i (record { small = s .pre .sized .small; lo-on = few .0; hi-on = few .1 })
 
 around-requires : tie.Need-around-requires
 around-requires c κs =
-    let s = c .before .before .before .before .before .before .before .before .before in
+    let at-if1 = c .before .before .before in
+    let at-is-empty = at-if1 .before in
+    let at-inside = at-is-empty .before in
+    let at-box-from = at-inside .before in
+    let s = at-box-from .before .before .before in
     let n = s .args .n in
-    let e = c .before .before .before .before .before .before .box-from .ensures in
-    let i = c .before .before .before .before .before .inside .ensures ∙ ap (insideOf n) e in
+    let e = at-box-from .box-from .ensures in
+    let i = at-inside .inside .ensures ∙ ap (insideOf n) e in
     let h = c .points-of .ensures ∙ ap (pointsOf n) i in
-    let some = sym (ap emptyBox i) ∙ sym (c .before .before .before .before .is-empty .ensures) ∙ c .before .before .before .if1 .left in
+    let some = sym (ap emptyBox i) ∙ sym (at-is-empty .is-empty .ensures) ∙ at-if1 .if1 .left in
     let b = boxFrom (s .args .low) (s .args .high) in
     let f = box-fits n (s .args .low) (s .args .high) (s .pre .on-grid) in
     rw (e, h) (record { sized = s .pre .sized; fits = f; within = points-within n b f some })
 
 returns-3 : tie.Need-returns-3
 returns-3 c =
-    let s = c .before .before .before .before .before .before .before .before .before .before in
+    let at-box-some = c .before .before .before in
+    let at-if1 = at-box-some .before in
+    let at-is-empty = at-if1 .before in
+    let at-inside = at-is-empty .before in
+    let at-box-from = at-inside .before in
+    let s = at-box-from .before .before .before in
     let n = s .args .n in
     let g = s .args .grid .now in
     let t = s .args .totals .now in
-    let e = c .before .before .before .before .before .before .before .box-from .ensures in
-    let i = c .before .before .before .before .before .before .inside .ensures ∙ ap (insideOf n) e in
+    let e = at-box-from .box-from .ensures in
+    let i = at-inside .inside .ensures ∙ ap (insideOf n) e in
     let h = c .before .points-of .ensures ∙ ap (pointsOf n) i in
-    let some = sym (ap emptyBox i) ∙ sym (c .before .before .before .before .before .is-empty .ensures) ∙ c .before .before .before .before .if1 .left in
-    let no = sym (c .before .before .before .box-some .ensures) ∙ c .before .before .if2 .left in
+    let some = sym (ap emptyBox i) ∙ sym (at-is-empty .is-empty .ensures) ∙ at-if1 .if1 .left in
+    let no = sym (at-box-some .box-some .ensures) ∙ c .before .before .if2 .left in
     let none = sym (ap (λ (b : Box). anyOf (entrySome (n / 4) t) (boxPoints b)) i) ∙ no in
     c .around .ensures ∙ ap₂ (aroundMarked n g) e h
     ∙ sym (told-no n g t (boxFrom (s .args .low) (s .args .high)) (box-fits n (s .args .low) (s .args .high) (s .pre .on-grid)) some none)

@@ -47,15 +47,20 @@ long c = rw (c .before .points .ensures) at (c .if1 .left)
 
 ranged : (c : tie.Else3) → allInRange (c .before .before .before .before .before .before .l .given .0 .0)
     (c .before .before .before .before .before .before .before .before .before .before .before .args .triangle .now) ≡ true
-ranged c = none-out (c .before .before .before .before .before .before .l .given .0 .0)
-    (c .before .before .before .before .before .before .before .before .before .before .before .args .triangle .now)
+ranged c =
+    let at-l = c .before .before .before .before .before .before in
+    let start = at-l .before .before .before .before .before in
+    none-out (at-l .l .given .0 .0)
+    (start .args .triangle .now)
     (omega (arith, c .before .first-out .ensures))
 
 returns-2 : tie.Need-returns-2
 unfolding markRows markCall
 returns-2 c =
-    let k : length (c .before .before .before .before .before .before .before .before .args .grid .now) < pointsOf
-    (c .before .before .before .l .given .0 .0) = rw (c .before .points .ensures) at (c .if1 .taken) in
+    let at-l = c .before .before .before in
+    let start = at-l .before .before .before .before .before in
+    let k : length (start .args .grid .now) < pointsOf
+    (at-l .l .given .0 .0) = rw (c .before .points .ensures) at (c .if1 .taken) in
     simp (level-read ((c .before)) .0, level-read ((c .before)) .1, lt-ltb _ _ k)
 
 returns-3 : tie.Need-returns-3
@@ -77,20 +82,25 @@ out-of-range-requires c κs = search needs
 returns-4 : tie.Need-returns-4
 unfolding markRows markCall
 returns-4 c =
-    let l = c .before .before .before .before .before .before .before .before .l .given .0 .0 in
-    let s = c .before .before .before .before .before .before .before .before .before .before .before .before .before in
+    let at-first-out = c .before .before .before in
+    let at-if2 = at-first-out .before in
+    let place = at-if2 .before in
+    let place2 = place .before in
+    let at-l = place2 .before .before in
+    let s = at-l .before .before .before .before .before in
+    let l = at-l .l .given .0 .0 in
     let x = s .args .triangle .now in
     let g = s .args .grid .now in
     let t = s .args .totals .now in
-    let v : Plain w32 (getD x (c .before .before .before .first-out .result) (pos 0)) = search needs in
+    let v : Plain w32 (getD x (at-first-out .first-out .result) (pos 0)) = search needs in
     let r = rw v at (c .out-of-range .ensures g t) in
-    let e : c .before .before .before .first-out .result ≡ firstOut l x = c .before .before .before .first-out .ensures in
-    let out = some-out l x (omega (arith, e, c .before .before .if3 .taken, c .before .before .before .before .if2 .left)) in
+    let e : at-first-out .first-out .result ≡ firstOut l x = at-first-out .first-out .ensures in
+    let out = some-out l x (omega (arith, e, c .before .before .if3 .taken, at-if2 .if2 .left)) in
     simp (
-      level-read ((c .before .before .before .before .before .before)) .0,
-      level-read ((c .before .before .before .before .before .before)) .1,
-      le-ltb _ _ (long ((c .before .before .before .before .before))),
-      eq-eqb _ _ (c .before .before .before .before .if2 .left),
+      level-read place2 .0,
+      level-read place2 .1,
+      le-ltb _ _ (long place),
+      eq-eqb _ _ (at-if2 .if2 .left),
     )
     (r ∙ ap (λ (k : ℕ). refusedAt (outNumber l (getD x k (pos 0))) k g t) e ∙ out-told l x g t _ out)
 
@@ -99,12 +109,17 @@ triangle-of-requires c κs = search needs
 
 mark-passed-requires : tie.Need-mark-passed-requires
 mark-passed-requires c κs =
-    let l = c .before .before .before .before .before .before .before .before .before .l .given .0 .0 in (
+    let place = c .before .before .before in
+    let at-if2 = place .before .before in
+    let place2 = at-if2 .before in
+    let at-l = place2 .before .before .before in
+    let start = at-l .before .before .before .before .before in
+    let l = at-l .l .given .0 .0 in (
       rw (c .before .triangle-of .ensures) (triangle-within l
-          (c .before .before .before .before .before .before .before .before .before .before .before .before .before .before .args .triangle .now)
-          (c .before .before .before .before .before .if2 .left) (ranged ((c .before .before .before)))),
+          (start .args .triangle .now)
+          (at-if2 .if2 .left) (ranged place)),
       long
-          ((c .before .before .before .before .before .before)),
+          place2,
     )
 
 same-length : tie.Need-same-length
@@ -116,17 +131,23 @@ same-length-2 c = search needs
 returns-5 : tie.Need-returns-5
 unfolding markRows markCall markPassed
 returns-5 c =
-    let m = rw (c .before .before .before .before .before .before .triangle-of .ensures) at (c .before .before .before .before .mark-passed .ensures) in
+    let at-mark-passed = c .before .before .before .before in
+    let at-triangle-of = at-mark-passed .before .before in
+    let place = at-triangle-of .before .before in
+    let at-if2 = place .before .before in
+    let place2 = at-if2 .before in
+    let place3 = place2 .before in
+    let m = rw (at-triangle-of .triangle-of .ensures) at (at-mark-passed .mark-passed .ensures) in
     simp (
-      level-read ((c .before .before .before .before .before .before .before .before .before .before .before .before)) .0,
+      level-read place3 .0,
       level-read
-          ((c .before .before .before .before .before .before .before .before .before .before .before .before)) .1,
+          place3 .1,
       le-ltb _ _
-          (long ((c .before .before .before .before .before .before .before .before .before .before .before))),
+          (long place2),
       eq-eqb _ _
-          (c .before .before .before .before .before .before .before .before .before .before .if2 .left),
+          (at-if2 .if2 .left),
       ranged
-          ((c .before .before .before .before .before .before .before .before)),
+          place,
     ) m
 
 pub mark-by-spec : {M : Type 1} → statement M

@@ -48,15 +48,21 @@ same-length c = search needs
 returns : tie.Need-returns
 unfolding markPassed
 returns c =
-    let none = read-none (cellsOf (c .before .before .before .before .before .before .before .before .before .before .args .l))
-    (c .before .before .before .before .before .before .before .before .before .before .args .grid .now)
-    (rw (c .before .before .before .before .before .before .before .cells .ensures) at
-    (sym (c .before .before .before .read-held .ensures .0) ∙ c .enum-told .given .1)) in
+    let at-read-held = c .before .before .before in
+    let at-cells = at-read-held .before .before .before .before in
+    let start = at-cells .before .before .before in
+    let none = read-none (cellsOf (start .args .l))
+    (start .args .grid .now)
+    (rw (at-cells .cells .ensures) at
+    (sym (at-read-held .read-held .ensures .0) ∙ c .enum-told .given .1)) in
     simp none
 
 point-count-requires : tie.Need-point-count-requires
-point-count-requires c κs = let m = cells-most (c .before .before .before .before .before .before .before .before .before .before .before .args .l) in
-    omega (arith, m, c .before .before .before .before .before .before .before .before .cells .ensures)
+point-count-requires c κs =
+    let at-cells = c .before .before .before .before .before .before .before .before in
+    let start = at-cells .before .before .before in
+    let m = cells-most (start .args .l) in
+    omega (arith, m, at-cells .cells .ensures)
 
 same-length-2 : tie.Need-same-length-2
 same-length-2 c = search needs
@@ -64,10 +70,12 @@ same-length-2 c = search needs
 returns-2 : tie.Need-returns-2
 unfolding markPassed
 returns-2 c =
-    let far = c .before .before .before .before .before .before .before .before .before .before in
+    let at-inside = c .before .before .before in
+    let at-read-held = at-inside .before .before .before in
+    let far = at-read-held .before .before .before .before in
     let l = far .before .before .before .args .l in
     let e = rw (far .cells .ensures) at
-    (sym (c .before .before .before .before .before .before .read-held .ensures .0) ∙ c .before .before .before .inside .given .1) in
+    (sym (at-read-held .read-held .ensures .0) ∙ at-inside .inside .given .1) in
     let k : length (far .before .before .before .args .totals .now) < blockCount (cellsOf l) = rw
     (c .before .point-count .ensures .0, far .cells .ensures) at (c .if1 .taken) in
     simp (
@@ -90,14 +98,16 @@ slice-aggregate-store c = search needs
 
 store-requires : tie.Need-store-requires
 store-requires c κs =
-    let far = c .before .before .before .before .before .before .before .before .before .before in
+    let at-if1 = c .before .before .before .before .before .before in
+    let at-point-count = at-if1 .before in
+    let far = at-point-count .before .before .before in
     let l = far .before .before .before .before .before .before .before .before .before .args .l in
     let m = blocks-most l in
     let k : blockCount (cellsOf l) ≤ length
     (far .before .before .before .before .before .before .before .before .before .args .totals .now) = rw (
-      c .before .before .before .before .before .before .before .point-count .ensures .0,
+      at-point-count .point-count .ensures .0,
       far .before .before .before .before .before .before .cells .ensures,
-    ) at (c .before .before .before .before .before .before .if1 .left) in
+    ) at (at-if1 .if1 .left) in
     rw (far .before .before .before .before .before .before .cells .ensures) (record {
       small = cells-most l;
       held-long = omega (
@@ -111,15 +121,18 @@ store-requires c κs =
 
 mark-edges-requires : tie.Need-mark-edges-requires
 mark-edges-requires c κs =
-    let far = c .before .before .before .before .before .before .before .before .before .before in
+    let at-clear-signs = c .before .before .before .before .before .before .before .before in
+    let far = at-clear-signs .before .before in
     let end = far .before .before .before .before .before .before .before .before .before .before in
     let s = end .before .before .before in
-    let u = rw (end .cells .ensures) at (c .before .before .before .before .before .before .before .before .clear-signs .ensures) in
+    let u = rw (end .cells .ensures) at (at-clear-signs .clear-signs .ensures) in
     (s .pre .0, rw u (unsigned-ready (s .args .l) (s .args .grid .now) (s .pre .1)))
 
 recount-met-requires : tie.Need-recount-met-requires
 recount-met-requires c κs =
-    let far = c .before .before .before .before .before .before .before .before .before .before in
+    let at-mark-edges = c .before .before .before .before in
+    let at-store = at-mark-edges .before .before .before .before in
+    let far = at-store .before .before in
     let end = far .before .before .before .before .before .before .before .before .before .before in
     let s = end .before .before .before .before .before .before .before .before in
     let l = s .args .l in
@@ -128,8 +141,8 @@ recount-met-requires c κs =
     let room = far .before .before .before .before .before .if1 .left in
     let k : blockCount (cellsOf l) ≤ length (s .args .totals .now) = rw (count, cells) at room in record {
       within = s .pre .0;
-      grid-long = omega (arith, s .pre .1, far .before .before .before .clear-signs .kept .1 .0, c .before .before .before .before .mark-edges .kept .1 .0);
-      table-long = omega (arith, k, c .before .before .before .before .before .before .before .before .store .kept .1 .1 .0);
+      grid-long = omega (arith, s .pre .1, far .before .before .before .clear-signs .kept .1 .0, at-mark-edges .mark-edges .kept .1 .0);
+      table-long = omega (arith, k, at-store .store .kept .1 .1 .0);
     }
 
 same-length-3 : tie.Need-same-length-3
@@ -141,7 +154,8 @@ same-length-4 c = search needs
 returns-3 : tie.Need-returns-3
 unfolding markPassed
 returns-3 c =
-    let far = c .before .before .before .before .before .before .before .before .before .before in
+    let at-mark-edges = c .before .before .before .before .before .before .before in
+    let far = at-mark-edges .before .before .before in
     let end = far .before .before .before .before .before .before .before .before .before .before in
     let first = end .before .before .before .before .before .before .before .before .before .before in
     let s = first .before in
@@ -159,7 +173,7 @@ returns-3 c =
     let h = rw cells at (end .before .before .before .before .read-held .ensures .1) in
     let u = rw cells at (far .before .before .before .before .before .before .clear-signs .ensures) in
     let p = rw cells at (far .before .store .ensures) in
-    let m = c .before .before .before .before .before .before .before .mark-edges .ensures ∙ ap (marked l x) u ∙ marked-unsigned l x g in
+    let m = at-mark-edges .mark-edges .ensures ∙ ap (marked l x) u ∙ marked-unsigned l x g in
     let q = p ∙ ap (λ (j : List ℕ). take (blockCount n) j ++ drop (blockCount n) t) (h some) in
     let r = rw (m, q) at (c .before .before .recount-met .ensures) in
     simp (some, le-ltb _ _ k) (ap₂ done m (recounted l x (s .pre .0) g (s .pre .1) some _ t _ k r))

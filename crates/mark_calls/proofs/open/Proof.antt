@@ -45,8 +45,10 @@ level-read c = read-known _ _ (sym (c .before .before .before .before .read .ens
 returns-2 : tie.Need-returns-2
 unfolding openRows openCall
 returns-2 c =
-    let k : length (c .before .before .before .before .before .before .before .before .args .grid .now) < pointsOf
-    (c .before .before .before .l .given .0 .0) = rw (c .before .points .ensures) at (c .if1 .taken) in
+    let at-l = c .before .before .before in
+    let start = at-l .before .before .before .before .before in
+    let k : length (start .args .grid .now) < pointsOf
+    (at-l .l .given .0 .0) = rw (c .before .points .ensures) at (c .if1 .taken) in
     simp (level-read ((c .before)) .0, level-read ((c .before)) .1, lt-ltb _ _ k)
 
 cells-requires : tie.Need-cells-requires
@@ -63,14 +65,18 @@ point-count-requires c κs = let m = cells-most (c .before .before .before .befo
 returns-3 : tie.Need-returns-3
 unfolding openRows openCall
 returns-3 c =
-    let l = c .before .before .before .before .before .before .l .given .0 .0 in
-    let k : length (c .before .before .before .before .before .before .before .before .before .before .before .args .totals .now) < blockCount
+    let place = c .before .before .before in
+    let place2 = place .before in
+    let at-l = place2 .before .before in
+    let start = at-l .before .before .before .before .before in
+    let l = at-l .l .given .0 .0 in
+    let k : length (start .args .totals .now) < blockCount
     (cellsOf l) = rw (c .before .point-count .ensures .0, c .before .before .cells .ensures) at (c .if2 .taken) in
     simp (
-      level-read ((c .before .before .before .before)) .0,
-      level-read ((c .before .before .before .before)) .1,
+      level-read place2 .0,
+      level-read place2 .1,
       le-ltb _ _
-          (long ((c .before .before .before))),
+          (long place),
       lt-ltb _ _ k,
     )
 
@@ -107,12 +113,14 @@ opened-true l g t h k =
 returns-4 : tie.Need-returns-4
 unfolding openRows openCall opened
 returns-4 c =
-    let far = c .before .before .before .before .before .before .before .before .before .before in
+    let at-clear = c .before .before .before .before .before .before in
+    let place = at-clear .before .before in
+    let far = place .before .before in
     let l = far .before .before .before .before .l .given .0 .0 in
     let h = long ((far .before)) in
-    let k = table-long ((c .before .before .before .before .before .before .before .before)) in
+    let k = table-long place in
     let g = rw (far .before .before .points .ensures) at
-    (c .before .before .before .before .before .before .clear .ensures) in
+    (at-clear .clear .ensures) in
     let t = rw (far .cells .ensures) at
     (c .before .before .clear-totals .ensures) in
     simp (

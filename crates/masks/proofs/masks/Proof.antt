@@ -67,12 +67,16 @@ is-grid-requires c κs =
 returns-3 : tie.Need-returns-3
 unfolding masksRows masksCall
 returns-3 c =
-    let cells = c .before .before .before .before .cells in
-    let l-told = c .before .before .before .before .before .before .l in
-    let read = c .before .before .before .before .before .before .before .before .read in
+    let at-points = c .before .before .before in
+    let at-cells = at-points .before in
+    let at-l = at-cells .before .before in
+    let at-read = at-l .before .before in
+    let cells = at-cells .cells in
+    let l-told = at-l .l in
+    let read = at-read .read in
     let level = read-known _ _ (sym (read .ensures) ∙ l-told .given .1) in
     let none = fails (rw (cells .ensures) at (c .before .is-grid .ensures)) (c .if2 .taken) in
-    simp (level .0, level .1, le-ltb _ _ (rw (c .before .before .before .points .ensures) at (c .before .before .if1 .left)), none)
+    simp (level .0, level .1, le-ltb _ _ (rw (at-points .points .ensures) at (c .before .before .if1 .left)), none)
 
 signs-fit-requires : tie.Need-signs-fit-requires
 signs-fit-requires c κs =
@@ -87,13 +91,19 @@ signs-fit-requires c κs =
 returns-4 : tie.Need-returns-4
 unfolding masksRows masksCall
 returns-4 c =
-    let if1 = c .before .before .before .before .if1 in
-    let points = c .before .before .before .before .before .points in
-    let cells = c .before .before .before .before .before .before .cells in
-    let l-told = c .before .before .before .before .before .before .before .before .l in
-    let read = c .before .before .before .before .before .before .before .before .before .before .read in
+    let at-is-grid = c .before .before .before in
+    let at-if1 = at-is-grid .before in
+    let at-points = at-if1 .before in
+    let at-cells = at-points .before in
+    let at-l = at-cells .before .before in
+    let at-read = at-l .before .before in
+    let if1 = at-if1 .if1 in
+    let points = at-points .points in
+    let cells = at-cells .cells in
+    let l-told = at-l .l in
+    let read = at-read .read in
     let level = read-known _ _ (sym (read .ensures) ∙ l-told .given .1) in
-    let grid = holds (rw (cells .ensures) at (c .before .before .before .is-grid .ensures)) (c .before .before .if2 .left) in
+    let grid = holds (rw (cells .ensures) at (at-is-grid .is-grid .ensures)) (c .before .before .if2 .left) in
     let out = fails (rw (cells .ensures) at (c .before .signs-fit .ensures)) (c .if3 .taken) in
     simp (level .0, level .1, le-ltb _ _ (rw (points .ensures) at (if1 .left)), grid, out)
 
@@ -102,41 +112,57 @@ add-w c = search needs
 
 mask-size-requires : tie.Need-mask-size-requires
 mask-size-requires c κs =
-    let cells = c .before .before .before .before .before .before .cells in
-    let l-told = c .before .before .before .before .before .before .before .before .l in
+    let at-cells = c .before .before .before .before .before .before in
+    let at-l = at-cells .before .before in
+    let cells = at-cells .cells in
+    let l-told = at-l .l in
     omega (arith, cells .ensures, cells-most (l-told .given .0 .0))
 
 mul-if4 : tie.Need-mul-if4
 mul-if4 c =
-    let cells = c .before .before .before .before .before .before .before .cells in
-    let l-told = c .before .before .before .before .before .before .before .before .before .l in
+    let at-cells = c .before .before .before .before .before .before .before in
+    let at-l = at-cells .before .before in
+    let cells = at-cells .cells in
+    let l-told = at-l .l in
     let a : cells .result + 1 ≤ 33 = omega (arith, cells .ensures, cells-most (l-told .given .0 .0)) in
     omega (arith, mul-le-mul a (c .mask-size .ensures .1))
 
 returns-5 : tie.Need-returns-5
 unfolding masksRows masksCall
 returns-5 c =
-    let if2 = c .before .before .before .before .if2 in
-    let is-grid = c .before .before .before .before .before .is-grid in
-    let if1 = c .before .before .before .before .before .before .if1 in
-    let points = c .before .before .before .before .before .before .before .points in
-    let cells = c .before .before .before .before .before .before .before .before .cells in
-    let l-told = c .before .before .before .before .before .before .before .before .before .before .l in
-    let read = c .before .before .before .before .before .before .before .before .before .before .before .before .read in
-    let start = c .before .before .before .before .before .before .before .before .before .before .before .before .before .before .before in
+    let at-signs-fit = c .before .before .before in
+    let at-if2 = at-signs-fit .before in
+    let at-is-grid = at-if2 .before in
+    let at-if1 = at-is-grid .before in
+    let at-points = at-if1 .before in
+    let at-cells = at-points .before in
+    let at-l = at-cells .before .before in
+    let at-read = at-l .before .before in
+    let start = at-read .before .before .before in
+    let if2 = at-if2 .if2 in
+    let is-grid = at-is-grid .is-grid in
+    let if1 = at-if1 .if1 in
+    let points = at-points .points in
+    let cells = at-cells .cells in
+    let l-told = at-l .l in
+    let read = at-read .read in
     let level = read-known _ _ (sym (read .ensures) ∙ l-told .given .1) in
     let grid = holds (rw (cells .ensures) at (is-grid .ensures)) (if2 .left) in
-    let fit = holds (rw (cells .ensures) at (c .before .before .before .signs-fit .ensures)) (c .before .before .if3 .left) in
+    let fit = holds (rw (cells .ensures) at (at-signs-fit .signs-fit .ensures)) (c .before .before .if3 .left) in
     let size = room (l-told .given .0 .0) (start .args .grid .now) _ _ (ap (λ (n : ℕ). n + 1) (cells .ensures)) (c .before .mask-size .ensures .0) in
     simp (level .0, level .1, le-ltb _ _ (rw (points .ensures) at (if1 .left)), grid, fit, lt-ltb _ _ (rw (← size) at (c .if4 .taken)))
 
 put-masks-requires : tie.Need-put-masks-requires
 put-masks-requires c κs =
-    let if1 = c .before .before .before .before .before .before .before .if1 in
-    let points = c .before .before .before .before .before .before .before .before .points in
-    let cells = c .before .before .before .before .before .before .before .before .before .cells in
-    let l-told = c .before .before .before .before .before .before .before .before .before .before .before .l in
-    let start = c .before .before .before .before .before .before .before .before .before .before .before .before .before .before .before .before in
+    let at-if1 = c .before .before .before .before .before .before .before in
+    let at-points = at-if1 .before in
+    let at-cells = at-points .before in
+    let at-l = at-cells .before .before in
+    let start = at-l .before .before .before .before .before in
+    let if1 = at-if1 .if1 in
+    let points = at-points .points in
+    let cells = at-cells .cells in
+    let l-told = at-l .l in
     let w : cells .result + 1 ≡ suc (cellsOf (l-told .given .0 .0)) = rw (cells .ensures, add-one (cellsOf (l-told .given .0 .0))) in
     let room : (cells .result + 1) * maskSize (cells .result + 1) ≤ length (start .args .out .now) = rw (← c .before .before .mask-size .ensures .0)
     (c .before .if4 .left) in
@@ -152,16 +178,25 @@ same-length c = search needs
 returns-6 : tie.Need-returns-6
 unfolding masksRows masksCall
 returns-6 c =
-    let if4 = c .before .before .before .before .if4 in
-    let mask-size = c .before .before .before .before .before .mask-size in
-    let if3 = c .before .before .before .before .before .before .if3 in
-    let signs-fit = c .before .before .before .before .before .before .before .signs-fit in
-    let if2 = c .before .before .before .before .before .before .before .before .if2 in
-    let is-grid = c .before .before .before .before .before .before .before .before .before .is-grid in
-    let if1 = c .before .before .before .before .before .before .before .before .before .before .if1 in
-    let points = c .before .before .before .before .before .before .before .before .before .before .before .points in
-    let cells = c .before .before .before .before .before .before .before .before .before .before .before .before .cells in
-    let known = c .before .before .before .before .before .before .before .before .before .before .before .before .before .before in
+    let at-if4 = c .before .before .before .before in
+    let at-mask-size = at-if4 .before in
+    let at-if3 = at-mask-size .before in
+    let at-signs-fit = at-if3 .before in
+    let at-if2 = at-signs-fit .before in
+    let at-is-grid = at-if2 .before in
+    let at-if1 = at-is-grid .before in
+    let at-points = at-if1 .before in
+    let at-cells = at-points .before in
+    let known = at-cells .before .before in
+    let if4 = at-if4 .if4 in
+    let mask-size = at-mask-size .mask-size in
+    let if3 = at-if3 .if3 in
+    let signs-fit = at-signs-fit .signs-fit in
+    let if2 = at-if2 .if2 in
+    let is-grid = at-is-grid .is-grid in
+    let if1 = at-if1 .if1 in
+    let points = at-points .points in
+    let cells = at-cells .cells in
     let l-told = known .l in
     let start = known .before .before .before .before .before in
     let level = read-known _ _ (sym (known .before .before .read .ensures) ∙ l-told .given .1) in

@@ -26,17 +26,20 @@ slice-aggregate-put-text c = search needs
 
 put-text-requires : tie.Need-put-text-requires
 put-text-requires c κs =
-    let put-fields = c .before .before .before .before .put-fields in
-    let start = c .before .before .before .before .before .before .before .before .before .before in
-    let w = c .before .before .before .before .before .before .before .before .before .before .args .w in
+    let at-put-fields = c .before .before .before .before in
+    let start = at-put-fields .before .before .before .before .before .before in
+    let put-fields = at-put-fields .put-fields in
+    let w = start .args .w in
     omega (arith, start .pre .part-room, fields-length (ascii "P4\n") w (ascii " ") w, put-fields .ensures .place, put-fields .kept .0)
 
 put-rows-requires : tie.Need-put-rows-requires
 put-rows-requires c κs =
-    let put-text = c .before .before .before .put-text in
-    let put-fields = c .before .before .before .before .before .before .before .before .put-fields in
-    let start = c .before .before .before .before .before .before .before .before .before .before .before .before .before .before in
-    let w = c .before .before .before .before .before .before .before .before .before .before .before .before .before .before .args .w in record {
+    let at-put-text = c .before .before .before in
+    let at-put-fields = at-put-text .before .before .before .before .before in
+    let start = at-put-fields .before .before .before .before .before .before in
+    let put-text = at-put-text .put-text in
+    let put-fields = at-put-fields .put-fields in
+    let w = start .args .w in record {
       small = start .pre .small;
       grid-room = start .pre .grid-room;
       out-room = omega (
@@ -56,8 +59,10 @@ same-length c = search needs
 returns : tie.Need-returns
 unfolding maskAt
 returns c =
-    let put-text = c .before .before .before .before .before .before .put-text in
-    let put-fields = c .before .before .before .before .before .before .before .before .before .before .before .put-fields in
+    let at-put-text = c .before .before .before .before .before .before in
+    let at-put-fields = at-put-text .before .before .before .before .before in
+    let put-text = at-put-text .put-text in
+    let put-fields = at-put-fields .put-fields in
     put-both (put-both (put-fields .ensures) (put-text .ensures)) (c .before .before .put-rows .ensures)
 
 pub put-mask-spec : {M : Type 1} → statement M

@@ -81,11 +81,13 @@ put-mask-requires c κs =
 
 add-at : tie.Need-add-at Inv-loop μ-loop
 add-at c =
-    let loop-test = c .before .before .before .before .loop-test in
-    let start = c .before .before .before .before .before .before .before .before in
-    let good = c .before .before .before .before .before .before .before .before .good in
-    let w = c .before .before .before .before .before .before .before .before .args .w in
-    let m = c .before .before .before .before .before .loop in
+    let at-loop-test = c .before .before .before .before in
+    let at-loop = at-loop-test .before in
+    let start = at-loop .before .before .before in
+    let loop-test = at-loop-test .loop-test in
+    let good = start .good in
+    let w = start .args .w in
+    let m = at-loop .loop in
     omega (
       arith,
       piece-room (maskSize w) (m .k) w (loop-test .taken),
@@ -99,11 +101,13 @@ add-at c =
 
 add-p : tie.Need-add-p Inv-loop μ-loop
 add-p c =
-    let loop-test = c .before .before .before .before .loop-test in
-    let start = c .before .before .before .before .before .before .before .before in
-    let good = c .before .before .before .before .before .before .before .before .good in
-    let w = c .before .before .before .before .before .before .before .before .args .w in
-    let m = c .before .before .before .before .before .loop in
+    let at-loop-test = c .before .before .before .before in
+    let at-loop = at-loop-test .before in
+    let start = at-loop .before .before .before in
+    let loop-test = at-loop-test .loop-test in
+    let good = start .good in
+    let w = start .args .w in
+    let m = at-loop .loop in
     omega (arith, piece-room (w * w) (m .k) w (loop-test .taken), start .pre .grid-room, m .inv .1, good)
 
 add-k : tie.Need-add-k Inv-loop μ-loop
@@ -114,10 +118,12 @@ loop-less c = omega arith
 
 loop-again : tie.Need-loop-again Inv-loop μ-loop
 loop-again c =
-    let loop-test = c .before .before .before .before .loop-test in
-    let start = c .before .before .before .before .before .before .before .before in
-    let a = c .before .before .before .before .before .before .before .before .args in
-    let m = c .before .before .before .before .before .loop in
+    let at-loop-test = c .before .before .before .before in
+    let at-loop = at-loop-test .before in
+    let start = at-loop .before .before .before in
+    let loop-test = at-loop-test .loop-test in
+    let a = start .args in
+    let m = at-loop .loop in
     let q = c .before .before .put-mask in
     let w = a .w in
     let r = piece-room (maskSize w) (m .k) w (loop-test .taken) in

@@ -43,9 +43,11 @@ put-row-requires c κs =
 
 add-p : tie.Need-add-p Inv-loop μ-loop
 add-p c =
-    let s = c .before .before .before .before .before .before .before .before in
-    let m = c .before .before .before .before .before .loop in
-    omega (arith, piece-room (s .args .w) (m .j) (s .args .w) (c .before .before .before .before .loop-test .taken), s .pre .grid-room, m .inv .1, s .good)
+    let at-loop-test = c .before .before .before .before in
+    let at-loop = at-loop-test .before in
+    let s = at-loop .before .before .before in
+    let m = at-loop .loop in
+    omega (arith, piece-room (s .args .w) (m .j) (s .args .w) (at-loop-test .loop-test .taken), s .pre .grid-room, m .inv .1, s .good)
 
 add-j : tie.Need-add-j Inv-loop μ-loop
 add-j c = omega arith
@@ -55,9 +57,10 @@ loop-less c = omega arith
 
 loop-again : tie.Need-loop-again Inv-loop μ-loop
 loop-again c =
-    let s = c .before .before .before .before .before .before .before .before in
+    let at-loop = c .before .before .before .before .before in
+    let s = at-loop .before .before .before in
     let a = s .args in
-    let m = c .before .before .before .before .before .loop in
+    let m = at-loop .loop in
     let q = c .before .before .put-row in
     let e : m .p ≡ a .from + a .w * m .j = m .inv .1 in
     let row : Put (m .out) (m .next) (rowAt (a .grid .now) (a .from + a .w * m .j) (a .w)) (q .last .0) (q .result) = rw e at (q .ensures) in (

@@ -41,16 +41,22 @@ rim-at-requires c κs =
 
 add-found : tie.Need-add-found Inv-loop μ-loop
 add-found c =
-    let point-count = c .before .before .before .before .before .before .before .before .before .point-count in
-    let turn = c .before .before .before .before .before .before .before .before .loop in
-    let test = c .before .before .before .before .before .before .before .loop-test in
-    let rim-at = c .before .before .before .before .rim-at in
+    let at-rim-at = c .before .before .before .before in
+    let at-loop-test = at-rim-at .before .before .before in
+    let at-loop = at-loop-test .before in
+    let at-point-count = at-loop .before in
+    let point-count = at-point-count .point-count in
+    let turn = at-loop .loop in
+    let test = at-loop-test .loop-test in
+    let rim-at = at-rim-at .rim-at in
     let i = turn .inv in let a = i .1 .few in let r = rim-at .ensures .0 in omega (arith, test .taken, point-count .ensures .1)
 
 add-p : tie.Need-add-p Inv-loop μ-loop
 add-p c =
-    let point-count = c .before .before .before .before .before .before .before .before .before .point-count in
-    let test = c .before .before .before .before .before .before .before .loop-test in
+    let at-loop-test = c .before .before .before .before .before .before .before in
+    let at-point-count = at-loop-test .before .before in
+    let point-count = at-point-count .point-count in
+    let test = at-loop-test .loop-test in
     omega (arith, test .taken, point-count .ensures .1)
 
 loop-less : tie.Need-loop-less Inv-loop μ-loop
@@ -58,9 +64,12 @@ loop-less c = omega (arith, c .before .before .before .before .before .before .b
 
 loop-again : tie.Need-loop-again Inv-loop μ-loop
 loop-again c =
-    let turn = c .before .before .before .before .before .before .before .before .loop in
-    let test = c .before .before .before .before .before .before .before .loop-test in
-    let rim-at = c .before .before .before .before .rim-at in
+    let at-rim-at = c .before .before .before .before in
+    let at-loop-test = at-rim-at .before .before .before in
+    let at-loop = at-loop-test .before in
+    let turn = at-loop .loop in
+    let test = at-loop-test .loop-test in
+    let rim-at = at-rim-at .rim-at in
     let i = turn .inv in
     (i .0, scanned-on _ _ _ _ _ _ _ (i .1) (rw (i .0) at (test .taken)) _ _ _ (rim-at .kept .1 .0) (rim-at .kept .1 .1 .0) (rim-at .ensures))
 

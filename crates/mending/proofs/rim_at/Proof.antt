@@ -56,10 +56,11 @@ point-of-requires c κs = search needs
 
 find-rim-requires : tie.Need-find-rim-requires
 find-rim-requires c κs =
-    let start = c .before .before .before .before .before .before .before .before .before in
+    let place = c .before .before .before .before in
+    let start = place .before .before .before .before .before in
     let given = start .args in
     let cell = at-cell (given .n) (given .grid .now) (given .work .now) (given .p) (start .pre .below) (start .pre .fine)
-    (some-odd (c .before .before .before .before)) in
+    (some-odd place) in
     let not-seen = at-unseen (given .n) (given .grid .now) (given .work .now) (given .p) (start .pre .below) (unseen (c .before .before)) in
     rw (c .point-of .ensures) (record {
       sized = work-sized (start .pre .sized);
@@ -70,8 +71,9 @@ find-rim-requires c κs =
 
 patch-box-requires : tie.Need-patch-box-requires
 patch-box-requires c κs =
-    let start = c .before .before .before .before .before .before .before .before .before .before .before .before .before .before in
-    let f = c .before .before .before .before .find-rim in (
+    let at-find-rim = c .before .before .before .before in
+    let start = at-find-rim .before .before .before .before .before .before .before .before .before .before in
+    let f = at-find-rim .find-rim in (
       record { small = start .pre .sized .small; grid-long = start .pre .sized .grid-long; work-long = rw (f .kept .1 .0) (start .pre .sized .work-long) },
       fit-of _ _ _ _ _ _ (f .ensures),
     )
@@ -84,16 +86,20 @@ same-length-2 c = search needs
 
 returns-3 : tie.Need-returns-3
 returns-3 c =
-    let point-of = c .before .before .before .before .before .before .before .before .before .before .point-of in
-    let find-rim = c .before .before .before .before .before .before .before .before .before .find-rim in
-    let patch-box = c .before .before .before .before .patch-box in
-    let entry = c .before .before .before .before .before .before .before .before .before .before in
+    let at-patch-box = c .before .before .before .before in
+    let at-find-rim = at-patch-box .before .before .before .before .before in
+    let entry = at-find-rim .before in
+    let place = entry .before .before in
+    let place2 = place .before .before in
+    let point-of = entry .point-of in
+    let find-rim = at-find-rim .find-rim in
+    let patch-box = at-patch-box .patch-box in
     let start = entry .before .before .before .before .before .before .before .before .before in
     let given = start .args in
     let r = at-rim (given .n) (given .grid .now) (given .work .now) (given .p) (start .pre .below) (start .pre .sized .grid-long)
     (start .pre .sized .work-long) (start .pre .fine)
-    (some-odd (c .before .before .before .before .before .before .before .before .before .before .before .before .before .before))
-    (unseen (c .before .before .before .before .before .before .before .before .before .before .before .before)) _ (point-of .ensures) _ _
+    (some-odd place2)
+    (unseen place) _ (point-of .ensures) _ _
     (find-rim .ensures) _ _ (patch-box .ensures) in
     (omega arith, r .0, r .1)
 

@@ -19,11 +19,11 @@ use Rattle.moving.proofs.back.Statement.{statement}
 use Rattle.moving.proofs.back.Tie as tie
 
 -- ---- below 1: -d is its size
-low : (c : tie.Then1) → ltZ (c .before .args .d) (pos 1) ≡ true
-low c = rw (toZ-ofZ w32 _ (c .before .fits .d)) at (c .if1 .taken)
+below-one : (c : tie.Then1) → ltZ (c .before .args .d) (pos 1) ≡ true
+below-one c = rw (toZ-ofZ w32 _ (c .before .fits .d)) at (c .if1 .taken)
 
 less : (c : tie.Then1) → pos 0 -ℤ toZ w32 (ofZ w32 (c .before .args .d)) ≡ pos (natAbs (c .before .args .d))
-less c = ap (λ (z : ℤ). pos 0 -ℤ z) (toZ-ofZ w32 _ (c .before .fits .d)) ∙ minus-low (c .before .args .d) (low c)
+less c = ap (λ (z : ℤ). pos 0 -ℤ z) (toZ-ofZ w32 _ (c .before .fits .d)) ∙ minus-low (c .before .args .d) (below-one c)
 
 size-low : (c : tie.Then1) → toZ w32 (ofZ w32 (pos 0 -ℤ toZ w32 (ofZ w32 (c .before .args .d)))) ≡ pos (natAbs (c .before .args .d))
 size-low c =
@@ -65,7 +65,7 @@ returns c =
     done (exponentOf (a .s)) (pos 2 *ℤ a .d -ℤ pos 1) _
     ((λ i. mul binary32 (neg ((c .before .nearest-u32-to-f32 .ensures ∙ ap (λ (z : ℤ). ofInt binary32 (pos (2 * natAbs z + 1))) (size-low
     (c .before .before))) i)) (c .half-power .ensures i))
-    ∙ back-low (a .s) (a .d) (low (c .before .before)))
+    ∙ back-low (a .s) (a .d) (below-one (c .before .before)))
 
 cast-nearest-u32-to-f32-2 : tie.Need-cast-nearest-u32-to-f32-2
 cast-nearest-u32-to-f32-2 c = let h = c .before .pre .0 in rw (size-high c) (tt, record { fits = omega arith })

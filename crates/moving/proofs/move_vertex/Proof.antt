@@ -43,9 +43,10 @@ add-move-word c = search needs
 
 move-word-requires-2 : tie.Need-move-word-requires-2
 move-word-requires-2 c κs =
-    let s = c .before .before .before .before .before .before .before .before in
+    let at-move-word = c .before .before .before .before in
+    let s = at-move-word .before .before .before .before in
     let p = s .pre in
-    let w = c .before .before .before .before .move-word in record {
+    let w = at-move-word .move-word in record {
       file-room = omega (arith, p .file-room, w .kept .0);
       scale = p .scale;
       near = rw (on-y c) (p .near .on-y);

@@ -76,11 +76,14 @@ patch-box-middle-of-requires t c κs = let s = c .before .before .before .before
 
 patch-box-cut-plane-requires : (t : ℕ) → patch-box-lts.Need-cut-plane-requires (claims t) (patch-box-at t) patch-box.Post
 patch-box-cut-plane-requires t c κs =
-    let if1 = c .before .before .before .before .before .before .before .if1 in
-    let is-one-cell = c .before .before .before .before .before .before .before .before .is-one-cell in
-    let s = c .before .before .before .before .before .before .before .before .before .before .before in
+    let at-longest-axis = c .before .before .before in
+    let at-if1 = at-longest-axis .before .before .before .before in
+    let at-is-one-cell = at-if1 .before in
+    let s = at-is-one-cell .before .before .before in
+    let if1 = at-if1 .if1 in
+    let is-one-cell = at-is-one-cell .is-one-cell in
     let o = sym (is-one-cell .ensures) ∙ if1 .left in
-    let a = c .before .before .before .longest-axis .ensures in
+    let a = at-longest-axis .longest-axis .ensures in
     let m = c .before .before .middle-of .ensures in
     let fits = s .pre .1 .1 in
     record { sized = s .pre .1 .0; fits = fits; lo-below = mid-low _ _ fits o _ _ a m; hi-above = mid-high _ _ fits o _ _ a m }

@@ -43,12 +43,17 @@ loop-holds c =
 
 pair-row-requires : tie.Need-pair-row-requires Inv-loop μ-loop
 pair-row-requires c κs =
-    let loop-told = c .before .before .before .loop in
-    let coordinate3 = c .before .before .before .before .before .coordinate3 in
-    let coordinate2 = c .before .before .before .before .before .before .coordinate2 in
-    let later = c .before .before .before .before .before .before .before .before .later in
-    let earlier = c .before .before .before .before .before .before .before .before .before .earlier in
-    let start = c .before .before .before .before .before .before .before .before .before .before .before .before .before .before in
+    let at-loop = c .before .before .before in
+    let at-coordinate3 = at-loop .before .before in
+    let at-coordinate2 = at-coordinate3 .before in
+    let at-later = at-coordinate2 .before .before in
+    let at-earlier = at-later .before in
+    let start = at-earlier .before .before .before .before .before in
+    let loop-told = at-loop .loop in
+    let coordinate3 = at-coordinate3 .coordinate3 in
+    let coordinate2 = at-coordinate2 .coordinate2 in
+    let later = at-later .later in
+    let earlier = at-earlier .earlier in
     let f = start .pre .fits in
     let x = fits-coord (start .args .n) (start .args .b) (start .args .a) f in
     let e : coordinate3 .result ≤ start .args .n = rw (coordinate3 .ensures) (fits-coord (start .args .n) (start .args .b) (later .result) f) in record {
@@ -62,9 +67,11 @@ pair-row-requires c κs =
 
 add-v : tie.Need-add-v Inv-loop μ-loop
 add-v c =
-    let loop-test = c .before .before .before .before .before .before .before .loop-test in
-    let coordinate3 = c .before .before .before .before .before .before .before .before .before .before .coordinate3 in
-    let later = c .before .before .before .before .before .before .before .before .before .before .before .before .before in
+    let at-loop-test = c .before .before .before .before .before .before .before in
+    let at-coordinate3 = at-loop-test .before .before .before in
+    let later = at-coordinate3 .before .before .before in
+    let loop-test = at-loop-test .loop-test in
+    let coordinate3 = at-coordinate3 .coordinate3 in
     let start = later .before .before .before .before .before .before in
     let f = start .pre .fits in
     let e : coordinate3 .result ≤ start .args .n = rw (coordinate3 .ensures) (fits-coord (start .args .n) (start .args .b) (later .later .result) f) in
@@ -75,9 +82,12 @@ loop-less c = omega (arith, c .before .before .before .before .before .before .b
 
 loop-again : tie.Need-loop-again Inv-loop μ-loop
 loop-again c =
-    let pair-row = c .before .before .before .before .pair-row in
-    let loop-test = c .before .before .before .before .before .before .before .loop-test in
-    let loop-told = c .before .before .before .before .before .before .before .before .loop in
+    let at-pair-row = c .before .before .before .before in
+    let at-loop-test = at-pair-row .before .before .before in
+    let at-loop = at-loop-test .before in
+    let pair-row = at-pair-row .pair-row in
+    let loop-test = at-loop-test .loop-test in
+    let loop-told = at-loop .loop in
     planing-on _ _ _ _ _ _ _ _ _ _ _ _ (loop-told .inv) (loop-test .taken) _ _ _ (pair-row .ensures .0) (pair-row .ensures .1)
 
 same-length : tie.Need-same-length Inv-loop μ-loop
@@ -88,16 +98,21 @@ same-length-2 c = c .before .loop .inv .w-long
 
 returns : tie.Need-returns Inv-loop μ-loop
 returns c =
-    let coordinate2 = c .before .before .before .before .coordinate2 in
-    let coordinate = c .before .before .before .before .before .coordinate in
-    let later = c .before .before .before .before .before .before .later in
-    let earlier = c .before .before .before .before .before .before .before .earlier in
-    let start = c .before .before .before .before .before .before .before .before .before .before .before .before in
+    let at-coordinate3 = c .before .before .before in
+    let at-coordinate2 = at-coordinate3 .before in
+    let at-coordinate = at-coordinate2 .before in
+    let at-later = at-coordinate .before in
+    let at-earlier = at-later .before in
+    let start = at-earlier .before .before .before .before .before in
+    let coordinate2 = at-coordinate2 .coordinate2 in
+    let coordinate = at-coordinate .coordinate in
+    let later = at-later .later in
+    let earlier = at-earlier .earlier in
     planing-end _ _ _ _ (start .pre .fits) (start .pre .lo-below) (start .pre .hi-above) _ _ (start .pre .sized .work-long) _ _ _ _ _ _ _ _ _
     (c .before .loop .inv)
     (c .loop-test .left) (coordinate .ensures ∙ ap (λ (x : Axis). coord x (start .args .b .lo)) (earlier .ensures))
     (coordinate2 .ensures ∙ ap (λ (x : Axis). coord x (start .args .b .hi)) (earlier .ensures))
-    (c .before .before .before .coordinate3 .ensures ∙ ap (λ (x : Axis). coord x (start .args .b .hi)) (later .ensures))
+    (at-coordinate3 .coordinate3 .ensures ∙ ap (λ (x : Axis). coord x (start .args .b .hi)) (later .ensures))
     (c .before .before .coordinate4 .ensures ∙ ap (λ (x : Axis). coord x (start .args .b .lo)) (later .ensures))
 
 pub cut-plane-spec : {M : Type 1} → statement M

@@ -31,8 +31,9 @@ pair-spot-requires c κs =
 
 add-u : tie.Need-add-u Inv-loop μ-loop
 add-u c =
-    let loop-test = c .before .before .before .before .before .before .before .loop-test in
-    let start = c .before .before .before .before .before .before .before .before .before .before .before in
+    let at-loop-test = c .before .before .before .before .before .before .before in
+    let start = at-loop-test .before .before .before .before in
+    let loop-test = at-loop-test .loop-test in
     omega (arith, loop-test .taken, start .pre .to-most, start .pre .sized .small)
 
 loop-less : tie.Need-loop-less Inv-loop μ-loop
@@ -40,9 +41,12 @@ loop-less c = omega (arith, c .before .before .before .before .before .before .b
 
 loop-again : tie.Need-loop-again Inv-loop μ-loop
 loop-again c =
-    let pair-spot = c .before .before .before .before .pair-spot in
-    let loop-test = c .before .before .before .before .before .before .before .loop-test in
-    let loop-told = c .before .before .before .before .before .before .before .before .loop in
+    let at-pair-spot = c .before .before .before .before in
+    let at-loop-test = at-pair-spot .before .before .before in
+    let at-loop = at-loop-test .before in
+    let pair-spot = at-pair-spot .pair-spot in
+    let loop-test = at-loop-test .loop-test in
+    let loop-told = at-loop .loop in
     rowing-on _ _ _ _ _ _ _ _ _ _ _ (loop-told .inv) (loop-test .taken) _ _ _ (pair-spot .ensures .0) (pair-spot .ensures .1)
 
 same-length : tie.Need-same-length Inv-loop μ-loop

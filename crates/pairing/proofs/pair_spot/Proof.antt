@@ -37,12 +37,17 @@ same-length-3 c = search needs
 
 returns-2 : tie.Need-returns-2
 returns-2 c =
-    let join = c .before .before .before .before .join in
-    let if2 = c .before .before .before .before .before .before .before .before .if2 in
-    let if1 = c .before .before .before .before .before .before .before .before .before .if1 in
-    let member = c .before .before .before .before .before .before .before .before .before .before .member in
-    let point-at = c .before .before .before .before .before .before .before .before .before .before .before .before .point-at in
-    let start = c .before .before .before .before .before .before .before .before .before .before .before .before .before .before .before in (
+    let at-join = c .before .before .before .before in
+    let at-if2 = at-join .before .before .before .before in
+    let at-if1 = at-if2 .before in
+    let at-member = at-if1 .before in
+    let at-point-at = at-member .before .before in
+    let start = at-point-at .before .before .before in
+    let join = at-join .join in
+    let if2 = at-if2 .if2 in
+    let if1 = at-if1 .if1 in
+    let member = at-member .member in
+    let point-at = at-point-at .point-at in (
       meet-is _ _ _ _ _ _ _ _ _ (point-at .ensures) (member .ensures) (not-false _ (if1 .left)) (if2 .taken) _ _ (join .ensures),
       start .pre .q-placed,
     )

@@ -92,20 +92,28 @@ returns-3 c =
 
 loop-less : tie.Need-loop-less Inv-loop μ-loop
 loop-less c =
-    let f = rw (c .before .before .before .fed .given .1) at (c .before .before .before .before .before .before .before .feed-records .ensures) in
-    let r = c .before .before .before .before .before .before .before .before .before .before .before .read-full in
-    let l = c .before .before .before .before .before .before .before .before .before .before .before .before .before .loop in
+    let at-fed = c .before .before .before in
+    let at-feed-records = at-fed .before .before .before .before in
+    let at-read-full = at-feed-records .before .before .before .before in
+    let at-loop = at-read-full .before .before in
+    let f = rw (at-fed .fed .given .1) at (at-feed-records .feed-records .ensures) in
+    let r = at-read-full .read-full in
+    let l = at-loop .loop in
     let h = f .counted .1 (omega (arith, r .ensures .1, c .if2 .left)) (l .inv .0) in
     falls _ _ _ (f .counted .0) h
 
 loop-again : tie.Need-loop-again Inv-loop μ-loop
 loop-again c =
-    let f = rw (c .before .before .before .fed .given .1) at (c .before .before .before .before .before .before .before .feed-records .ensures) in
-    let r = c .before .before .before .before .before .before .before .before .before .before .before .read-full in
-    let l = c .before .before .before .before .before .before .before .before .before .before .before .before .before .loop in (
+    let at-fed = c .before .before .before in
+    let at-feed-records = at-fed .before .before .before .before in
+    let at-read-full = at-feed-records .before .before .before .before in
+    let at-loop = at-read-full .before .before in
+    let f = rw (at-fed .fed .given .1) at (at-feed-records .feed-records .ensures) in
+    let r = at-read-full .read-full in
+    let l = at-loop .loop in (
       less _ _ (f .counted .0) (c .before .if1 .left),
       r .kept .1 .0 ∙ l .inv .1,
-      c .before .before .before .before .before .before .before .feed-records .kept .1 .0 ∙ l .inv .2,
+      at-feed-records .feed-records .kept .1 .0 ∙ l .inv .2,
       f .ready,
       came-more (l .inv .4) _ f (omega (arith, r .ensures .0, r .ensures .1, c .if2 .left, r .kept .1 .0, l .inv .1)),
     )

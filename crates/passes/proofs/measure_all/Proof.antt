@@ -57,8 +57,10 @@ returns c =
 
 returns-2 : tie.Need-returns-2 Inv-loop μ-loop
 returns-2 c =
-    let l = c .before .before .before .before .before .before .before .before .before .loop in
-    saw-all (l .inv .2) _ _ (rw (c .before .before .seen .given .1) at (c .before .before .before .before .measure-records .ensures)) (c .if1 .taken)
+    let at-measure-records = c .before .before .before .before in
+    let at-loop = at-measure-records .before .before .before .before .before in
+    let l = at-loop .loop in
+    saw-all (l .inv .2) _ _ (rw (c .before .before .seen .given .1) at (at-measure-records .measure-records .ensures)) (c .if1 .taken)
 
 returns-3 : tie.Need-returns-3 Inv-loop μ-loop
 returns-3 c =
@@ -69,17 +71,25 @@ returns-3 c =
 
 loop-less : tie.Need-loop-less Inv-loop μ-loop
 loop-less c =
-    let f = rw (c .before .before .before .seen .given .1) at (c .before .before .before .before .before .measure-records .ensures) in
-    let r = c .before .before .before .before .before .before .before .before .read-full in
-    let l = c .before .before .before .before .before .before .before .before .before .before .loop in
+    let at-seen = c .before .before .before in
+    let at-measure-records = at-seen .before .before in
+    let at-read-full = at-measure-records .before .before .before in
+    let at-loop = at-read-full .before .before in
+    let f = rw (at-seen .seen .given .1) at (at-measure-records .measure-records .ensures) in
+    let r = at-read-full .read-full in
+    let l = at-loop .loop in
     let h = f .counted .1 (omega (arith, r .ensures .1, c .if2 .left)) (l .inv .0) in
     falls _ _ _ (f .counted .0) h
 
 loop-again : tie.Need-loop-again Inv-loop μ-loop
 loop-again c =
-    let f = rw (c .before .before .before .seen .given .1) at (c .before .before .before .before .before .measure-records .ensures) in
-    let r = c .before .before .before .before .before .before .before .before .read-full in
-    let l = c .before .before .before .before .before .before .before .before .before .before .loop in (
+    let at-seen = c .before .before .before in
+    let at-measure-records = at-seen .before .before in
+    let at-read-full = at-measure-records .before .before .before in
+    let at-loop = at-read-full .before .before in
+    let f = rw (at-seen .seen .given .1) at (at-measure-records .measure-records .ensures) in
+    let r = at-read-full .read-full in
+    let l = at-loop .loop in (
       less _ _ (f .counted .0) (c .before .if1 .left),
       r .kept .1 .0 ∙ l .inv .1,
       saw-more (l .inv .2) _ _ f (omega (arith, r .ensures .0, r .ensures .1, c .if2 .left, r .kept .1 .0, l .inv .1)),

@@ -78,18 +78,23 @@ returns-4 c = search needs
 loop-less : tie.Need-loop-less Inv-loop μ-loop
 loop-less c =
     let known = c .before .before .before .before .before .before in
+    let at-read-full = known .before .before .before .before .before .before .before in
+    let at-loop = at-read-full .before .before in
     let f = rw (known .count .given .1) at (known .before .before .before .put-records .ensures) in
-    let r = c .before .before .before .before .before .before .before .before .before .before .before .before .before .read-full in
-    let l = c .before .before .before .before .before .before .before .before .before .before .before .before .before .before .before .loop in
+    let r = at-read-full .read-full in
+    let l = at-loop .loop in
     falls _ _ _ (f .most) (f .more (omega (arith, r .ensures .1, c .if3 .left)) (l .inv .0))
 
 loop-again : tie.Need-loop-again Inv-loop μ-loop
 loop-again c =
     let known = c .before .before .before .before .before .before in
+    let at-put-records = known .before .before .before in
+    let at-read-full = at-put-records .before .before .before .before in
+    let at-loop = at-read-full .before .before in
     let f = rw (known .count .given .1) at (known .before .before .before .put-records .ensures) in
-    let p = c .before .before .before .before .before .before .before .before .before .put-records in
-    let r = c .before .before .before .before .before .before .before .before .before .before .before .before .before .read-full in
-    let l = c .before .before .before .before .before .before .before .before .before .before .before .before .before .before .before .loop in
+    let p = at-put-records .put-records in
+    let r = at-read-full .read-full in
+    let l = at-loop .loop in
     (less _ _ (f .most) (c .before .if2 .left), r .kept .1 .0 ∙ l .inv .1, p .kept .1 .1 .1 .1 .1 .0 ∙ l .inv .2)
 
 pub stream-all-spec : {M : Type 1} → statement M

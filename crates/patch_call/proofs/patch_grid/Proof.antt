@@ -22,10 +22,13 @@ same-length-2 c = search needs
 
 returns : tie.Need-returns
 returns c =
-    let s = c .before .before .before .before .before .before .before .before .before .before .before .before .before .before .before .before .before in
-    let r = c .before .before .before .before .before .before .before .before .before .before .before .before .patch-rims .ensures in
-    let f = c .before .before .before .before .finish .ensures in
-    let k = c .before .before .before .before .before .before .before .point-count .ensures .0 in
+    let at-finish = c .before .before .before .before in
+    let at-point-count = at-finish .before .before .before in
+    let at-patch-rims = at-point-count .before .before .before .before .before in
+    let s = at-patch-rims .before .before .before .before .before in
+    let r = at-patch-rims .patch-rims .ensures in
+    let f = at-finish .finish .ensures in
+    let k = at-point-count .point-count .ensures .0 in
     λ t. ends-well (s .args .n) (s .args .grid .now) (s .args .work .now) (s .pre .sized .grid-long) (s .pre .sized .work-long) (s .pre .is-grid) _ _ _
     (r .0) _ _ _ _ _
     (rw k at (f .0)) (rw k at (f .1)) (rw k at (f .2))

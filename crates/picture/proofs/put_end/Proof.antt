@@ -22,10 +22,13 @@ same-length c = search needs
 
 returns-2 : tie.Need-returns-2
 returns-2 c =
+    let at-if2 = c .before .before .before .before .before in
+    let at-if1 = at-if2 .before .before in
+    let start = at-if1 .before .before .before in
     let t = c .before .before .put-text .ensures in
-    let row = c .before .before .before .before .before .if2 in
-    let line = c .before .before .before .before .before .before .before .if1 in
-    let a = c .before .before .before .before .before .before .before .before .before .before .args in
+    let row = at-if2 .if2 in
+    let line = at-if1 .if1 in
+    let a = start .args in
     (rw (le-ltb (a .p .i) (a .n) (line .left), lt-ltb (a .p .j) (a .n) (row .taken)) t, omega (arith, t .place))
 
 slice-aggregate-put-text-2 : tie.Need-slice-aggregate-put-text-2
@@ -39,10 +42,13 @@ same-length-2 c = search needs
 
 returns-3 : tie.Need-returns-3
 returns-3 c =
+    let at-if2 = c .before .before .before .before .before in
+    let at-if1 = at-if2 .before .before in
+    let start = at-if1 .before .before .before in
     let t = c .before .before .put-text2 .ensures in
-    let row = c .before .before .before .before .before .if2 in
-    let line = c .before .before .before .before .before .before .before .if1 in
-    let a = c .before .before .before .before .before .before .before .before .before .before .args in
+    let row = at-if2 .if2 in
+    let line = at-if1 .if1 in
+    let a = start .args in
     (rw (le-ltb (a .p .i) (a .n) (line .left), le-ltb (a .p .j) (a .n) (row .left)) t, omega (arith, t .place))
 
 pub put-end-spec : {M : Type 1} → statement M

@@ -69,15 +69,19 @@ put-end-requires c κs =
 
 next-point-requires : tie.Need-next-point-requires Inv-loop μ-loop
 next-point-requires c κs =
-    let loop-test = c .before .before .before .before .before .loop-test in
-    let loop-told = c .before .before .before .before .before .before .loop in
-    let start = c .before .before .before .before .before .before .before .before .before .before in
+    let at-loop-test = c .before .before .before .before .before in
+    let at-loop = at-loop-test .before in
+    let start = at-loop .before .before .before .before in
+    let loop-test = at-loop-test .loop-test in
+    let loop-told = at-loop .loop in
     (start .pre .sized .small, at-grid _ _ _ (loop-told .inv .4) (omega (arith, loop-told .inv .0, loop-test .taken)))
 
 add-p : tie.Need-add-p Inv-loop μ-loop
 add-p c =
-    let loop-test = c .before .before .before .before .before .before .loop-test in
-    let point-count = c .before .before .before .before .before .before .before .before .point-count in
+    let at-loop-test = c .before .before .before .before .before .before in
+    let at-point-count = at-loop-test .before .before in
+    let loop-test = at-loop-test .loop-test in
+    let point-count = at-point-count .point-count in
     omega (arith, loop-test .taken, point-count .ensures .1)
 
 loop-less : tie.Need-loop-less Inv-loop μ-loop
@@ -85,12 +89,16 @@ loop-less c = omega (arith, c .before .before .before .before .before .before .l
 
 loop-again : tie.Need-loop-again Inv-loop μ-loop
 loop-again c =
-    let loop-test = c .before .before .before .before .before .before .loop-test in
-    let start = c .before .before .before .before .before .before .before .before .before .before .before in
-    let l = c .before .before .before .before .before .before .before .loop in
-    let a = c .before .before .before .before .before .before .before .before .before .before .before .args in
-    let f = c .before .before .before .put-end in
-    let d = c .before .before .before .before .before .drawn-at in
+    let at-put-end = c .before .before .before in
+    let at-drawn-at = at-put-end .before .before in
+    let at-loop-test = at-drawn-at .before in
+    let at-loop = at-loop-test .before in
+    let start = at-loop .before .before .before .before in
+    let loop-test = at-loop-test .loop-test in
+    let l = at-loop .loop in
+    let a = start .args in
+    let f = at-put-end .put-end in
+    let d = at-drawn-at .drawn-at in
     let h : l .p < pointCount (a .n) = omega (arith, l .inv .0, loop-test .taken) in
     let g : l .at < length (l .out) = omega (arith, l .inv .0, l .inv .2, l .inv .3, loop-test .taken, start .pre .out-room) in (
       l .inv .0,

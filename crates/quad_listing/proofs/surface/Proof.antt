@@ -88,11 +88,15 @@ returns-4 c =
 
 list-quads-requires : tie.Need-list-quads-requires
 list-quads-requires c κs =
-    let cells = c .before .before .before .before .before .before .before .cells in
-    let l = c .before .before .before .before .before .before .before .before .before .l .given .0 .0 in
+    let place = c .before .before .before in
+    let place2 = place .before .before in
+    let at-cells = place2 .before .before in
+    let at-l = at-cells .before .before in
+    let cells = at-cells .cells in
+    let l = at-l .l .given .0 .0 in
     rw (cells .ensures) (
-      record { small = cells-most l; long = grid-long (c .before .before .before .before .before) },
-      a-grid (c .before .before .before),
+      record { small = cells-most l; long = grid-long place2 },
+      a-grid place,
     )
 
 same-length : tie.Need-same-length

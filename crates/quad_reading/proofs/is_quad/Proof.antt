@@ -67,7 +67,7 @@ same-four-requires c κs = search needs
 returns-2 : tie.Need-returns-2
 returns-2 c =
     let place = c .before .before .before .before .before .before .before in
-    let start = c .before .before .before .before .before .before .before .before .before in
+    let start = place .before .before in
     quad-in (start .args .n) _ (start .args .inside) (start .args .axis) (start .args .p) _ _ _ _
     (inner-here (place)) (numbers (c .before .before)) (c .before .before .cell-number .ensures)
     (c .before .if2 .taken) (c .same-four .ensures)
@@ -78,7 +78,7 @@ same-four-requires-2 c κs = search needs
 returns-3 : tie.Need-returns-3
 returns-3 c =
     let place = c .before .before .before .before .before .before .before in
-    let start = c .before .before .before .before .before .before .before .before .before in
+    let start = place .before .before in
     quad-out (start .args .n) _ (start .args .inside) (start .args .axis) (start .args .p) _ _ _ _
     (inner-here (place)) (numbers (c .before .before)) (c .before .before .cell-number .ensures)
     (c .before .if2 .left) (c .same-four2 .ensures)

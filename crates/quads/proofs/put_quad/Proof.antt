@@ -42,11 +42,15 @@ numbers : (c : tie.After-cell-number) →
     let start = c .before .before .before .before .before .before .before .before in
     Around (start .args .n) (start .args .a) (start .args .q) along across (c .cell-number .result)
 numbers c =
-    let next-is = c .before .before .before .before .next .ensures in
-    let mark = holds (c .before .before .before .before .before .before .bit .ensures) (c .before .before .before .before .before .if1 .left) in
-    let start = c .before .before .before .before .before .before .before .before in
+    let at-cell-step = c .before .before .before in
+    let at-next = at-cell-step .before in
+    let at-if1 = at-next .before in
+    let at-bit = at-if1 .before in
+    let start = at-bit .before .before in
+    let next-is = at-next .next .ensures in
+    let mark = holds (at-bit .bit .ensures) (at-if1 .if1 .left) in
     around (start .args .n) (start .args .a) (start .args .q) _ _ _ (start .pre .is-inner mark)
-    (c .before .before .before .cell-step .ensures ∙ ap (cellStep (start .args .n)) next-is)
+    (at-cell-step .cell-step .ensures ∙ ap (cellStep (start .args .n)) next-is)
     (c .before .cell-step2 .ensures ∙ ap (cellStep (start .args .n)) (c .before .before .next2 .ensures ∙ ap next next-is))
     (c .cell-number .ensures)
 
@@ -61,9 +65,11 @@ sub-first c = numbers c .both-fit
 
 put-four-requires : tie.Need-put-four-requires
 put-four-requires c κs =
-    let if1 = c .before .before .before .before .before .before .before .if1 in
-    let bit = c .before .before .before .before .before .before .before .before .bit in
-    let start = c .before .before .before .before .before .before .before .before .before .before in
+    let at-if1 = c .before .before .before .before .before .before .before in
+    let at-bit = at-if1 .before in
+    let start = at-bit .before .before in
+    let if1 = at-if1 .if1 in
+    let bit = at-bit .bit in
     simp (holds (bit .ensures) (if1 .left), c .before .if2 .taken) at (start .pre .list-room)
 
 add-result : tie.Need-add-result
@@ -84,9 +90,11 @@ returns-2 c =
 
 put-four-requires-2 : tie.Need-put-four-requires-2
 put-four-requires-2 c κs =
-    let if1 = c .before .before .before .before .before .before .before .if1 in
-    let bit = c .before .before .before .before .before .before .before .before .bit in
-    let start = c .before .before .before .before .before .before .before .before .before .before in
+    let at-if1 = c .before .before .before .before .before .before .before in
+    let at-bit = at-if1 .before in
+    let start = at-bit .before .before in
+    let if1 = at-if1 .if1 in
+    let bit = at-bit .bit in
     simp (holds (bit .ensures) (if1 .left), c .before .if2 .left) at (start .pre .list-room)
 
 add-result-2 : tie.Need-add-result-2

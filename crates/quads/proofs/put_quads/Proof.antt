@@ -66,11 +66,13 @@ same-length c = search needs
 returns-2 : tie.Need-returns-2
 unfolding byteQuads
 returns-2 c =
-    let put-quad = c .before .before .before .before .before .before .before .before .before .before .put-quad in
-    let s = c .before .before .before .before .before .before .before .before .before .before .before .before .before .before .before in
+    let at-put-quad2 = c .before .before .before .before .before .before in
+    let at-put-quad = at-put-quad2 .before .before .before .before in
+    let s = at-put-quad .before .before .before .before .before in
+    let put-quad = at-put-quad .put-quad in
     let f : Axis → List ℕ = λ a. byteQuad (s .args .n) (s .args .b) (s .args .inside) a (s .args .q) in
     three-written (s .args .list .now) (s .args .at) (f X) (f Y) (f Z) (put-quad .ensures)
-    (c .before .before .before .before .before .before .put-quad2 .ensures) (c .before .before .put-quad3 .ensures)
+    (at-put-quad2 .put-quad2 .ensures) (c .before .before .put-quad3 .ensures)
 
 pub put-quads-spec : {M : Type 1} → statement M
 put-quads-spec =

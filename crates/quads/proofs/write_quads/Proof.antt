@@ -59,11 +59,13 @@ is-inside-requires c κs = tt
 
 put-quads-requires : tie.Need-put-quads-requires Inv-loop μ-loop
 put-quads-requires c κs =
-    let start = c .before .before .before .before .before .before .before .before .before in
-    let l = c .before .before .before .before .before .loop in
+    let at-loop-test = c .before .before .before .before in
+    let at-loop = at-loop-test .before in
+    let start = at-loop .before .before .before .before in
+    let l = at-loop .loop in
     let n = start .args .n in
     let g = start .args .grid .now in
-    let h : l .p < pointCount n = omega (arith, l .inv .0, c .before .before .before .before .loop-test .taken) in record {
+    let h : l .p < pointCount n = omega (arith, l .inv .0, at-loop-test .loop-test .taken) in record {
       small = start .pre .sized .small;
       marks-inner = marks-inner-at n g (l .p) (l .q) (start .pre .sized .long) (start .pre .is-grid) (l .inv .2) h;
       list-room = byte-room n g (l .p) (l .q) _ (l .at) (l .list) (start .pre .sized .long) (start .pre .is-grid) (l .inv .2) h (l .inv .4);
@@ -71,15 +73,19 @@ put-quads-requires c κs =
 
 next-point-requires : tie.Need-next-point-requires Inv-loop μ-loop
 next-point-requires c κs =
-    let start = c .before .before .before .before .before .before .before .before .before .before .before .before in
-    let l = c .before .before .before .before .before .before .before .before .loop in
-    let h : l .p < pointCount (start .args .n) = omega (arith, l .inv .0, c .before .before .before .before .before .before .before .loop-test .taken) in
+    let at-loop-test = c .before .before .before .before .before .before .before in
+    let at-loop = at-loop-test .before in
+    let start = at-loop .before .before .before .before in
+    let l = at-loop .loop in
+    let h : l .p < pointCount (start .args .n) = omega (arith, l .inv .0, at-loop-test .loop-test .taken) in
     (start .pre .sized .small, at-grid _ (l .p) (l .q) (l .inv .2) h)
 
 add-p : tie.Need-add-p Inv-loop μ-loop
 add-p c =
-    let loop-test = c .before .before .before .before .before .before .before .before .loop-test in
-    let point-count = c .before .before .before .before .before .before .before .before .before .before .point-count in
+    let at-loop-test = c .before .before .before .before .before .before .before .before in
+    let at-point-count = at-loop-test .before .before in
+    let loop-test = at-loop-test .loop-test in
+    let point-count = at-point-count .point-count in
     omega (arith, loop-test .taken, point-count .ensures .1)
 
 loop-less : tie.Need-loop-less Inv-loop μ-loop
@@ -87,14 +93,18 @@ loop-less c = omega (arith, c .before .before .before .before .before .before .b
 
 loop-again : tie.Need-loop-again Inv-loop μ-loop
 loop-again c =
-    let is-inside = c .before .before .before .before .before .is-inside in
-    let l = c .before .before .before .before .before .before .before .before .before .loop in
-    let start = c .before .before .before .before .before .before .before .before .before .before .before .before .before in
+    let at-put-quads = c .before .before .before in
+    let at-is-inside = at-put-quads .before .before in
+    let at-loop-test = at-is-inside .before .before .before in
+    let at-loop = at-loop-test .before in
+    let start = at-loop .before .before .before .before in
+    let is-inside = at-is-inside .is-inside in
+    let l = at-loop .loop in
     let n = start .args .n in
     let g = start .args .grid .now in
-    let h : l .p < pointCount n = omega (arith, l .inv .0, c .before .before .before .before .before .before .before .before .loop-test .taken) in
+    let h : l .p < pointCount n = omega (arith, l .inv .0, at-loop-test .loop-test .taken) in
     let byte = quads-byte n g (l .p) (l .q) _ (start .pre .sized .long) (start .pre .is-grid) (l .inv .2) h (is-inside .ensures) in
-    let e = rw byte at (c .before .before .before .put-quads .ensures) in
+    let e = rw byte at (at-put-quads .put-quads .ensures) in
     let w = given-written n (marks n g) (quad n (inside n g)) (l .p) (l .q) (l .inv .2) h (l .at) _ (l .list) _ e (l .inv .4) in (
       l .inv .0,
       omega arith,

@@ -112,10 +112,11 @@ recount-cube-same-length t c = search needs
 
 recount-cube-returns-3 : (t : ℕ) → lts.Need-returns-3 (claims t) (at-size t) cube.Post Inv fuel
 recount-cube-returns-3 t c =
-    let s = c .before .before .before .before .before .before .before .before .before .before .before .before .before in
+    let at-if3 = c .before .before .before .before in
+    let s = at-if3 .before .before .before .before .before .before .before .before .before in
     let l = s .args .l in
     let e = rw (s .pre .1 .cells-are) at (c .before .before .recount .ensures) in
-    let one = c .before .before .before .before .if3 .taken in
+    let one = at-if3 .if3 .taken in
     λ u y v.
     rw e (single-recounted (cellsOf l) (s .args .grid .now) (s .args .table .now) (s .args .c) one (s .pre .1 .cube) (s .pre .1 .table-long) (met l u))
 
@@ -132,15 +133,17 @@ recount-cube-eighth-requires t c κs =
 
 recount-cube-recount-cube-requires : (t : ℕ) → lts.Need-recount-cube-requires (claims t) (at-size t) cube.Post Inv fuel
 recount-cube-recount-cube-requires t c κs =
-    let s = c .before .before .before .before .before .before .before .before .before .before .before .before .before in
-    let two = c .before .before .before .before .if3 .left in
+    let at-loop = c .before .before .before in
+    let at-if3 = at-loop .before in
+    let s = at-if3 .before .before .before .before .before .before .before .before .before in
+    let two = at-if3 .if3 .left in
     let e = eighth-ok (cellsOf (s .args .l) / 4) (s .args .c) (s .pre .1 .cube) two _ t _ (s .pre .0) (c .eighth .ensures) in
     let p = s .pre .1 in (
       e .0,
       record {
         cells-are = p .cells-are;
         grid-long = p .grid-long;
-        table-long = rw (c .before .before .before .loop .inv .1) (p .table-long);
+        table-long = rw (at-loop .loop .inv .1) (p .table-long);
         cube = e .1;
         loaded = p .loaded;
         side-of = p .side-of;
@@ -155,12 +158,14 @@ recount-cube-loop-less t c = omega arith
 
 recount-cube-loop-again : (t : ℕ) → lts.Need-loop-again (claims t) (at-size t) cube.Post Inv fuel
 recount-cube-loop-again t c =
-    let s = c .before .before .before .before .before .before .before .before .before .before .before .before .before .before .before .before in
-    let l = c .before .before .before .before .before .before .loop in (
+    let at-eighth = c .before .before .before in
+    let at-loop = at-eighth .before .before .before in
+    let s = at-loop .before .before .before .before .before .before .before .before .before .before in
+    let l = at-loop .loop in (
       omega arith,
       c .before .before .recount-cube .kept .1 .1 .1 .0 ∙ l .inv .1,
       λ u y v.
-          let m = rw (c .before .before .before .eighth .ensures) at (c .before .before .recount-cube .ensures u y v) in
+          let m = rw (at-eighth .eighth .ensures) at (c .before .before .recount-cube .ensures u y v) in
           rw add-one (first-more (cellsOf (s .args .l)) (s .args .grid .now) (s .args .c) (met (s .args .l) u) (l .k) (l .inv .2 u y v) m),
     )
 

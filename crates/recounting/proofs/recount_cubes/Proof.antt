@@ -17,15 +17,17 @@ cells-requires c κs = search needs
 
 recount-cube-requires : tie.Need-recount-cube-requires
 recount-cube-requires c κs =
-    let s = c .before .before .before .before .before .before .before .before .before .before in
-    let u = c .before .before .before .before .before in
-    let e = c .before .before .before .cells .ensures in record {
+    let at-cells = c .before .before .before in
+    let at-long-side = at-cells .before in
+    let u = at-long-side .before in
+    let s = u .before .before .before .before .before in
+    let e = at-cells .cells .ensures in record {
       cells-are = e;
       grid-long = s .pre .grid-long;
       table-long = s .pre .table-long;
       cube = all-blocks (s .args .l) _ (ap (λ (n : ℕ). n / 4) e);
       loaded = record { whose = s .args .t; all-kept = u .keep-all .ensures };
-      side-of = c .before .before .before .before .long-side .ensures;
+      side-of = at-long-side .long-side .ensures;
     }
 
 same-length : tie.Need-same-length
@@ -33,10 +35,11 @@ same-length c = search needs
 
 returns : tie.Need-returns
 returns c =
-    let s = c .before .before .before .before .before .before .before .before .before .before .before .before .before in
-    let u = c .before .before .before .before .before .before .before .before in
+    let at-cells = c .before .before .before .before .before .before in
+    let u = at-cells .before .before in
+    let s = u .before .before .before .before .before in
     let m = c .before .before .recount-cube .ensures (s .args .t) (u .keep-all .ensures) (s .pre .covers) in
-    let e = c .before .before .before .before .before .before .cells .ensures in
+    let e = at-cells .cells .ensures in
     whole-recounted (s .args .l) (s .args .t) (s .args .b) (s .pre .covers) (s .args .grid .now) (rw e at m)
 
 pub recount-cubes-spec : {M : Type 1} → statement M

@@ -42,11 +42,13 @@ loop-less c = omega (arith, c .before .before .before .before .loop-test .taken)
 
 loop-again : tie.Need-loop-again Inv-loop μ-loop
 loop-again c =
-    let s = c .before .before .before .before .before .before .before .before in
-    let l = c .before .before .before .before .before .loop in (
+    let at-loop-test = c .before .before .before .before in
+    let at-loop = at-loop-test .before in
+    let s = at-loop .before .before .before in
+    let l = at-loop .loop in (
       c .before .before .recount-row .kept .1 .1 .0 ∙ l .inv .0,
       rw (c .before .before .recount-row .ensures)
-          (over-on _ _ (l .table) _ (l .j) (c .before .before .before .before .loop-test .taken) (l .inv .1)),
+          (over-on _ _ (l .table) _ (l .j) (at-loop-test .loop-test .taken) (l .inv .1)),
     )
 
 same-length : tie.Need-same-length Inv-loop μ-loop

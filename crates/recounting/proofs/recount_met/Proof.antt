@@ -48,12 +48,14 @@ same-length c = search needs
 
 returns : tie.Need-returns
 returns c =
-    let s = c .before .before .before .before .before .before .before .before .before .before in
+    let at-cells = c .before .before .before .before in
+    let at-box-of = at-cells .before .before .before in
+    let s = at-box-of .before .before .before in
     let l = s .args .l in
     let x = s .args .t in
-    let b = c .before .before .before .before .before .before .before .box-of .result in
-    let v = c .before .before .before .before .before .before .before .box-of .ensures in
-    let e = rw (c .before .before .before .before .cells .ensures) at (c .before .before .recount-box .ensures) in
+    let b = at-box-of .box-of .result in
+    let v = at-box-of .box-of .ensures in
+    let e = rw (at-cells .cells .ensures) at (c .before .before .recount-box .ensures) in
     rw e (box-recounted (cellsOf l) (s .args .grid .now) (s .args .table .now) (s .pre .table-long) (blocksOf b) (covers-blocks l x b v) (met l x)
     (box-reached l x b v))
 

@@ -25,8 +25,9 @@ cells-requires c κs = search needs
 
 put-picture-requires : tie.Need-put-picture-requires
 put-picture-requires c κs =
-    let s = c .before .before .before .before .before .before .before .before .before .before .before .before .before in
-    let k = c .before .before .before .before .before .before .before .close-grid .ensures in
+    let at-close-grid = c .before .before .before .before .before .before .before in
+    let s = at-close-grid .before .before .before .before .before .before in
+    let k = at-close-grid .close-grid .ensures in
     rw (c .before .cells .ensures) (record {
       sized = record { small = cells-most (s .args .l); long = k .long };
       out-room = omega (arith, points-most (s .args .l), s .pre .out-room);
@@ -35,9 +36,11 @@ put-picture-requires c κs =
 
 put-faces-requires : tie.Need-put-faces-requires
 put-faces-requires c κs =
-    let put-picture = c .before .before .before .put-picture in
-    let cells = c .before .before .before .before .before .cells in
-    let s = c .before .before .before .before .before .before .before .before .before .before .before .before .before .before .before .before .before in
+    let at-put-picture = c .before .before .before in
+    let at-cells = at-put-picture .before .before in
+    let s = at-cells .before .before .before .before .before .before .before .before .before .before .before .before in
+    let put-picture = at-put-picture .put-picture in
+    let cells = at-cells .cells in
     let p = rw (cells .ensures) at (put-picture .ensures .1) in
     omega (arith, points-most (s .args .l), s .pre .out-room, p, put-picture .kept .0)
 
@@ -52,10 +55,13 @@ same-length-3 c = search needs
 
 returns : tie.Need-returns
 returns c =
-    let put-picture = c .before .before .before .before .before .before .put-picture in
-    let cells = c .before .before .before .before .before .before .before .before .cells in
-    let close-grid = c .before .before .before .before .before .before .before .before .before .before .before .before .before .before .close-grid in
-    let back = c .before .before .before .before .before .before .before .before .before .before in
+    let at-put-picture = c .before .before .before .before .before .before in
+    let at-cells = at-put-picture .before .before in
+    let back = at-cells .before .before in
+    let at-close-grid = back .before .before .before .before in
+    let put-picture = at-put-picture .put-picture in
+    let cells = at-cells .cells in
+    let close-grid = at-close-grid .close-grid in
     let s = back .before .before .before .before .before .before .before .before .before .before in
     let p = rw (cells .ensures) at (put-picture .ensures) in
     let f = c .before .before .put-faces in (

@@ -48,13 +48,14 @@ same-length-3 c = search needs
 
 returns : tie.Need-returns
 returns c =
-    let closed = c .before .before .before .before .before .before .before .before .before .before in
+    let at-cells = c .before .before .before in
+    let closed = at-cells .before .before .before .before .before .before .before in
     let s = closed .before .before .before .before .before .before in
     let k = rw (s .pre .work-lent) at (closed .close-grid .ensures) in
     let n = cellsOf (s .args .l) in
     let h = closed .close-grid .last .1 .0 in
     let small : suc n ≤ 33 = omega (arith, cells-most (s .args .l)) in
-    let p = rw (c .before .before .before .cells .ensures, add-one n, ← masks-are n h) at (c .before .before .put-masks .ensures) in (
+    let p = rw (at-cells .cells .ensures, add-one n, ← masks-are n h) at (c .before .before .put-masks .ensures) in (
       rw (sym (masks-shown (s .args .l) _ k)) p,
       omega (arith, p .place, masks-length n h, pictures-most (suc n) small, s .pre .out-room, c .before .before .put-masks .kept .0),
     )

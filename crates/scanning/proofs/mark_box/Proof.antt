@@ -49,25 +49,31 @@ mark-row-requires c κs =
 
 next-row-requires : tie.Need-next-row-requires Inv-loop μ-loop
 next-row-requires c κs =
-    let s = c .before .before .before .before .before .before .before .before .before .before in
+    let at-loop = c .before .before .before .before .before .before .before in
+    let s = at-loop .before .before .before in
     let m = cells-most (s .args .l) in
-    let v = c .before .before .before .before .before .before .before .loop .inv .0 in
+    let v = at-loop .loop .inv .0 in
     omega arith
 
 loop-less : tie.Need-loop-less Inv-loop μ-loop
 loop-less c =
-    let if1 = c .before .before .before .before .before .before .if1 in
-    let l = c .before .before .before .before .before .before .before .before .loop in
-    let s = c .before .before .before .before .before .before .before .before .before .before .before in
+    let at-if1 = c .before .before .before .before .before .before in
+    let at-loop = at-if1 .before .before in
+    let s = at-loop .before .before .before in
+    let if1 = at-if1 .if1 in
+    let l = at-loop .loop in
     let h = next-later (cellsOf (s .args .l)) (cells-most (s .args .l)) (s .args .b) (l .c) (l .inv .0) (if1 .taken) in
     rw (c .next-row .ensures) (omega (arith, h .0, h .1))
 
 loop-again : tie.Need-loop-again Inv-loop μ-loop
 loop-again c =
-    let r = c .before .before .before .mark-row .ensures in
-    let if1 = c .before .before .before .before .before .before .if1 in
-    let l = c .before .before .before .before .before .before .before .before .loop in
-    let s = c .before .before .before .before .before .before .before .before .before .before .before in
+    let at-mark-row = c .before .before .before in
+    let at-if1 = at-mark-row .before .before .before in
+    let at-loop = at-if1 .before .before in
+    let s = at-loop .before .before .before in
+    let r = at-mark-row .mark-row .ensures in
+    let if1 = at-if1 .if1 in
+    let l = at-loop .loop in
     let n = cellsOf (s .args .l) in
     let m = cells-most (s .args .l) in
     rw (c .next-row .ensures) (

@@ -65,10 +65,12 @@ loop-less c = omega arith
 
 loop-again : tie.Need-loop-again Inv-loop μ-loop
 loop-again c =
-    let m = c .before .before .before .mark-cell .ensures in
-    let l = c .before .before .before .before .before .before .before .before .loop in
+    let at-mark-cell = c .before .before .before in
+    let at-loop = at-mark-cell .before .before .before .before .before in
+    let s = at-loop .before .before .before in
+    let m = at-mark-cell .mark-cell .ensures in
+    let l = at-loop .loop in
     let i = l .inv in
-    let s = c .before .before .before .before .before .before .before .before .before .before .before in
     let more = run-next (s .args .c) (l .c) (i .0) (i .2) (i .3) (cellsOf (s .args .l)) (met (s .args .l) (s .args .t)) (i .6) (m .2) in
     (omega arith, omega arith, i .2, i .3, m .0, m .1, more)
 

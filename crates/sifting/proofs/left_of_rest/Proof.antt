@@ -73,10 +73,12 @@ numbers-of-requires c κs =
 
 still-left-requires : tie.Need-still-left-requires Inv-loop μ-loop
 still-left-requires c κs =
-    let s = c .before .before .before .before .before .before .before .before .before in
-    let l = c .before .before .before .before .before .before .before .before .loop in
+    let place = c .before .before .before in
+    let at-loop = place .before .before .before .before .before in
+    let s = at-loop .before in
+    let l = at-loop .loop in
     let fits = kept-fits (s .args .l) (s .args .t) (s .pre .inside) (l .k) (s .args .c) (s .pre .cell) in
-    (l .inv .1, rw (axis-is (c .before .before .before), c .numbers-of .ensures) fits)
+    (l .inv .1, rw (axis-is place, c .numbers-of .ensures) fits)
 
 add-k : tie.Need-add-k Inv-loop μ-loop
 add-k c = omega arith
@@ -86,16 +88,19 @@ loop-less c = omega arith
 
 loop-again : tie.Need-loop-again Inv-loop μ-loop
 loop-again c =
-    let s = c .before .before .before .before .before .before .before .before .before .before in
-    let l = c .before .before .before .before .before .before .before .before .before .loop in
+    let at-kept = c .before .before .before .before in
+    let at-loop-test = at-kept .before .before .before .before in
+    let at-loop = at-loop-test .before in
+    let s = at-loop .before in
+    let l = at-loop .loop in
     let v = s .args .l in
     let t = s .args .t in
-    let a = axis-is ((c .before .before .before .before)) in
+    let a = axis-is at-kept in
     let one : l .k + 1 ≡ suc (l .k) = omega arith in
-    let h : l .k < 10 = omega (arith, c .before .before .before .before .before .before .before .before .loop-test .taken) in (
+    let h : l .k < 10 = omega (arith, at-loop-test .loop-test .taken) in (
       rw one h,
       c .still-left .ensures .0,
-      rw (one, c .before .before .keep .ensures) (keeps-more v t (l .kept) (l .k) (c .before .before .before .before .kept .result) h (l .inv .2) a),
+      rw (one, c .before .before .keep .ensures) (keeps-more v t (l .kept) (l .k) (at-kept .kept .result) h (l .inv .2) a),
       λ e.
           let p = (λ i. parts (a i) (c .before .numbers-of .ensures i) (indexOf e))
           ∙ parts-separates v t (getD (laterAxes t) (l .k) zeroVector) e (s .args .c) in

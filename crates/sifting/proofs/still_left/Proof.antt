@@ -62,12 +62,16 @@ without-requires c κs = c .before .before .before .before .before .before .befo
 
 returns : tie.Need-returns
 returns c =
-    let if1 = c .before .before .before .before .before .before .before .before .before .before .if1 in
-    let less = c .before .before .before .before .before .before .before .before .before .before .before .less in
-    let t = c .before .before .before .before .before .before .before .before .before .before .before .before in
+    let at-ends-before2 = c .before .before .before .before in
+    let at-ends-before = at-ends-before2 .before .before .before in
+    let at-if1 = at-ends-before .before .before .before in
+    let at-less = at-if1 .before in
+    let t = at-less .before in
+    let if1 = at-if1 .if1 in
+    let less = at-less .less in
     let s = t .before .before in
-    let x = c .before .before .before .before .before .before .before .ends-before .ensures ∙ (λ i. ltZ (high t i) (at t i +ℤ on-x t i)) in
-    let y = c .before .before .before .before .ends-before2 .ensures ∙ (λ i. ltZ (high t i) (at t i +ℤ on-y t i)) in
+    let x = at-ends-before .ends-before .ensures ∙ (λ i. ltZ (high t i) (at t i +ℤ on-x t i)) in
+    let y = at-ends-before2 .ends-before2 .ensures ∙ (λ i. ltZ (high t i) (at t i +ℤ on-y t i)) in
     let z = c .before .ends-before3 .ensures ∙ (λ i. ltZ (high t i) (at t i +ℤ on-z t i)) in
     let side = sym (λ i. ltZ (high t i) (at t i)) ∙ sym (less .ensures) ∙ if1 .taken in
     let above = parts-above (s .args .a) (s .args .p) (s .pre .1 .in-order) side x y z in
@@ -101,12 +105,16 @@ without-requires-2 c κs =
 
 returns-2 : tie.Need-returns-2
 returns-2 c =
-    let if2 = c .before .before .before .before .before .before .before .before .before .before .if2 in
-    let less2 = c .before .before .before .before .before .before .before .before .before .before .before .less2 in
-    let t = c .before .before .before .before .before .before .before .before .before .before .before .before .before .before .before in
+    let at-begins-after2 = c .before .before .before .before in
+    let at-begins-after = at-begins-after2 .before .before .before in
+    let at-if2 = at-begins-after .before .before .before in
+    let at-less2 = at-if2 .before in
+    let t = at-less2 .before .before .before .before in
+    let if2 = at-if2 .if2 in
+    let less2 = at-less2 .less2 in
     let s = t .before .before in
-    let x = c .before .before .before .before .before .before .before .begins-after .ensures ∙ (λ i. ltZ (at t i +ℤ on-x t i) (low t i)) in
-    let y = c .before .before .before .before .begins-after2 .ensures ∙ (λ i. ltZ (at t i +ℤ on-y t i) (low t i)) in
+    let x = at-begins-after .begins-after .ensures ∙ (λ i. ltZ (at t i +ℤ on-x t i) (low t i)) in
+    let y = at-begins-after2 .begins-after2 .ensures ∙ (λ i. ltZ (at t i +ℤ on-y t i) (low t i)) in
     let z = c .before .begins-after3 .ensures ∙ (λ i. ltZ (at t i +ℤ on-z t i) (low t i)) in
     let side = sym (λ i. ltZ (at t i) (low t i)) ∙ sym (less2 .ensures) ∙ if2 .taken in
     let below = parts-below (s .args .a) (s .args .p) (s .pre .1 .in-order) side x y z in

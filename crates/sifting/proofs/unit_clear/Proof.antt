@@ -36,10 +36,13 @@ masked-requires-3 c κs = search needs
 
 returns : tie.Need-returns
 returns c =
-    let masked2 = c .before .before .before .masked2 in
-    let masked1 = c .before .before .before .before .before .before .masked in
-    let lowest = c .before .before .before .before .before .before .before .before .before .low in
-    let s = c .before .before .before .before .before .before .before .before .before .before in
+    let at-masked2 = c .before .before .before in
+    let at-masked = at-masked2 .before .before .before in
+    let at-low = at-masked .before .before .before in
+    let s = at-low .before in
+    let masked2 = at-masked2 .masked2 in
+    let masked1 = at-masked .masked in
+    let lowest = at-low .low in
     let b = s .args .b in
     let lo = s .args .lo in
     let d = s .args .c in

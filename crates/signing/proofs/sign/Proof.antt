@@ -80,8 +80,10 @@ returns-3 c =
 all-even-requires : tie.Need-all-even-requires
 all-even-requires c κs =
     let place = c .before .before .before .before in
-    let cells = c .before .before .before .before .before .before .cells in
-    let l = c .before .before .before .before .before .before .before .before .l in
+    let at-cells = place .before .before in
+    let at-l = at-cells .before .before in
+    let cells = at-cells .cells in
+    let l = at-l .l in
     rw (cells .ensures) (record {
       some = cells-some (l .given .0 .0);
       sized = record { small = cells-most (l .given .0 .0); long = grid-long (place) };
@@ -94,18 +96,22 @@ same-length-2 c = search needs
 returns-4 : tie.Need-returns-4
 unfolding signRows signCall
 returns-4 c =
-    let place-2 = c .before .before .before .before .before .before in
-    let place = c .before .before .before .before .before .before .before in
-    let cells = c .before .before .before .before .before .before .before .before .cells in
+    let at-place = c .before .before .before in
+    let place-2 = at-place .before .before .before in
+    let place = place-2 .before in
+    let at-cells = place .before in
+    let cells = at-cells .cells in
     let some = fails (rw (cells .ensures) at (c .before .all-even .ensures)) (c .if3 .taken) in
-    simp (level-read (place) .0, level-read (place) .1, le-ltb _ _ (grid-long (place-2)), a-grid (c .before .before .before), some)
+    simp (level-read (place) .0, level-read (place) .1, le-ltb _ _ (grid-long (place-2)), a-grid at-place, some)
 
 sign-grid-requires : tie.Need-sign-grid-requires
 sign-grid-requires c κs =
     let place-2 = c .before .before .before .before in
-    let place = c .before .before .before .before .before .before .before in
-    let cells = c .before .before .before .before .before .before .before .before .before .cells in
-    let l = c .before .before .before .before .before .before .before .before .before .before .before .l in
+    let place = place-2 .before .before .before in
+    let at-cells = place .before .before in
+    let at-l = at-cells .before .before in
+    let cells = at-cells .cells in
+    let l = at-l .l in
     rw (cells .ensures) (record {
       sized = record { small = cells-most (l .given .0 .0); long = grid-long (place) };
       is-grid = a-grid (place-2);
@@ -119,10 +125,11 @@ returns-5 : tie.Need-returns-5
 unfolding signRows signCall
 returns-5 c =
     let place-4 = c .before .before .before .before in
-    let place-3 = c .before .before .before .before .before .before .before in
-    let place-2 = c .before .before .before .before .before .before .before .before .before .before in
-    let place = c .before .before .before .before .before .before .before .before .before .before .before in
-    let cells = c .before .before .before .before .before .before .before .before .before .before .before .before .cells in
+    let place-3 = place-4 .before .before .before in
+    let place-2 = place-3 .before .before .before in
+    let place = place-2 .before in
+    let at-cells = place .before in
+    let cells = at-cells .cells in
     simp (level-read (place) .0, level-read (place) .1, le-ltb _ _ (grid-long (place-2)), a-grid (place-3), even (place-4))
     (ap done (rw (cells .ensures) at (c .before .before .sign-grid .ensures)))
 

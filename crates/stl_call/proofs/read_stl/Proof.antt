@@ -41,19 +41,23 @@ begins-with-requires c κs = search needs
 
 returns-2 : tie.Need-returns-2
 returns-2 c =
-    let start = c .before .before .before .before .before .before .before .before .before .before in
-    let at-s = c .before .before .before .before .before .before in
-    let the-right-length = c .before .before .before .before .right-length in
-    let if1 = c .before .before .before .if1 in
+    let at-if1 = c .before .before .before in
+    let at-right-length = at-if1 .before in
+    let at-s = at-right-length .before .before in
+    let start = at-s .before .before .before .before in
+    let the-right-length = at-right-length .right-length in
+    let if1 = at-if1 .if1 in
     text-form (start .args .e) (start .args .file .now) (start .args .list .now) (told at-s .good)
     (fails (the-right-length .ensures) (if1 .taken)) (sym (c .before .begins-with .ensures) ∙ c .if2 .taken)
 
 returns-3 : tie.Need-returns-3
 returns-3 c =
-    let start = c .before .before .before .before .before .before .before .before .before .before in
-    let at-s = c .before .before .before .before .before .before in
-    let the-right-length = c .before .before .before .before .right-length in
-    let if1 = c .before .before .before .if1 in
+    let at-if1 = c .before .before .before in
+    let at-right-length = at-if1 .before in
+    let at-s = at-right-length .before .before in
+    let start = at-s .before .before .before .before in
+    let the-right-length = at-right-length .right-length in
+    let if1 = at-if1 .if1 in
     wrong-length (start .args .e) (start .args .file .now) (start .args .list .now) (told at-s .good)
     (fails (the-right-length .ensures) (if1 .taken)) (sym (c .before .begins-with .ensures) ∙ c .if2 .left)
 
@@ -70,18 +74,20 @@ mul-if3 c = search needs
 
 returns-4 : tie.Need-returns-4
 returns-4 c =
-    let start = c .before .before .before .before .before .before .before .before .before in
-    let at-s = c .before .before .before .before .before in
-    let the-right-length = c .before .before .before .right-length in
+    let at-right-length = c .before .before .before in
+    let at-s = at-right-length .before .before in
+    let start = at-s .before .before .before .before in
+    let the-right-length = at-right-length .right-length in
     let if1 = c .before .before .if1 in
     short-list (start .args .e) (start .args .file .now) (start .args .list .now) (told at-s .good)
     (holds (the-right-length .ensures) (if1 .left)) (rw (c .before .word-at .ensures) at (c .if3 .taken))
 
 first-fault-requires : tie.Need-first-fault-requires
 first-fault-requires c κs =
-    let start = c .before .before .before .before .before .before .before .before .before in
-    let at-s = c .before .before .before .before .before in
-    let the-right-length = c .before .before .before .right-length in
+    let at-right-length = c .before .before .before in
+    let at-s = at-right-length .before .before in
+    let start = at-s .before .before .before .before in
+    let the-right-length = at-right-length .right-length in
     let if1 = c .before .before .if1 in
     let r = right-length (start .args .file .now) (holds (the-right-length .ensures) (if1 .left)) in
     (rw (c .before .word-at .ensures) (omega (arith, r .1)), told at-s .small)
@@ -97,13 +103,18 @@ enum-told-3 c = search needs
 
 put-triangles-requires : tie.Need-put-triangles-requires
 put-triangles-requires c κs =
-    let start = c .before .before .before .before .before .before .before .before .before .before .before .before .before in
-    let at-s = c .before .before .before .before .before .before .before .before .before in
-    let the-right-length = c .before .before .before .before .before .before .before .right-length in
-    let if1 = c .before .before .before .before .before .before .if1 in
-    let word-at = c .before .before .before .before .before .word-at in
-    let if3 = c .before .before .before .before .if3 in
-    let first-fault = c .before .before .before .first-fault in
+    let at-first-fault = c .before .before .before in
+    let at-if3 = at-first-fault .before in
+    let at-word-at = at-if3 .before in
+    let at-if1 = at-word-at .before in
+    let at-right-length = at-if1 .before in
+    let at-s = at-right-length .before .before in
+    let start = at-s .before .before .before .before in
+    let the-right-length = at-right-length .right-length in
+    let if1 = at-if1 .if1 in
+    let word-at = at-word-at .word-at in
+    let if3 = at-if3 .if3 in
+    let first-fault = at-first-fault .first-fault in
     let r = right-length (start .args .file .now) (holds (the-right-length .ensures) (if1 .left)) in
     record {
       file-room = rw (word-at .ensures) (omega (arith, r .1));
@@ -114,14 +125,19 @@ put-triangles-requires c κs =
 
 returns-5 : tie.Need-returns-5
 returns-5 c =
-    let start = c .before .before .before .before .before .before .before .before .before .before .before .before .before in
-    let at-s = c .before .before .before .before .before .before .before .before .before in
-    let s = c .before .before .before .before .before .before .before .before .before .s in
-    let the-right-length = c .before .before .before .before .before .before .before .right-length in
-    let if1 = c .before .before .before .before .before .before .if1 in
-    let word-at = c .before .before .before .before .before .word-at in
-    let if3 = c .before .before .before .before .if3 in
-    let first-fault = c .before .before .before .first-fault in
+    let at-first-fault = c .before .before .before in
+    let at-if3 = at-first-fault .before in
+    let at-word-at = at-if3 .before in
+    let at-if1 = at-word-at .before in
+    let at-right-length = at-if1 .before in
+    let at-s = at-right-length .before .before in
+    let start = at-s .before .before .before .before in
+    let s = at-s .s in
+    let the-right-length = at-right-length .right-length in
+    let if1 = at-if1 .if1 in
+    let word-at = at-word-at .word-at in
+    let if3 = at-if3 .if3 in
+    let first-fault = at-first-fault .first-fault in
     not-finite (start .args .e) (start .args .file .now) (start .args .list .now) (told at-s .good)
     (holds (the-right-length .ensures) (if1 .left)) (rw (word-at .ensures) at (if3 .left)) _
     (sym (c .before .axis .given .1) ∙ first-fault .ensures
@@ -129,13 +145,17 @@ returns-5 c =
 
 returns-6 : tie.Need-returns-6
 returns-6 c =
-    let start = c .before .before .before .before .before .before .before .before .before .before .before .before in
-    let at-s = c .before .before .before .before .before .before .before .before in
-    let s = c .before .before .before .before .before .before .before .before .s in
-    let the-right-length = c .before .before .before .before .before .before .right-length in
-    let if1 = c .before .before .before .before .before .if1 in
-    let word-at = c .before .before .before .before .word-at in
-    let if3 = c .before .before .before .if3 in
+    let at-if3 = c .before .before .before in
+    let at-word-at = at-if3 .before in
+    let at-if1 = at-word-at .before in
+    let at-right-length = at-if1 .before in
+    let at-s = at-right-length .before .before in
+    let start = at-s .before .before .before .before in
+    let s = at-s .s in
+    let the-right-length = at-right-length .right-length in
+    let if1 = at-if1 .if1 in
+    let word-at = at-word-at .word-at in
+    let if3 = at-if3 .if3 in
     let first-fault = c .before .before .first-fault in
     too-far (start .args .e) (start .args .file .now) (start .args .list .now) (told at-s .good) (holds (the-right-length .ensures) (if1 .left))
     (rw (word-at .ensures) at (if3 .left))
@@ -147,15 +167,21 @@ same-length c = search needs
 
 returns-7 : tie.Need-returns-7
 returns-7 c =
-    let start = c .before .before .before .before .before .before .before .before .before .before .before .before .before .before .before in
-    let s = c .before .before .before .before .before .before .before .before .before .before .before .s in
-    let at-s = c .before .before .before .before .before .before .before .before .before .before .before in
-    let the-right-length = c .before .before .before .before .before .before .before .before .before .right-length in
-    let if1 = c .before .before .before .before .before .before .before .before .if1 in
-    let word-at = c .before .before .before .before .before .before .before .word-at in
-    let if3 = c .before .before .before .before .before .before .if3 in
-    let first-fault = c .before .before .before .before .before .first-fault in
-    let enum-told3 = c .before .before .before .enum-told3 in
+    let at-enum-told3 = c .before .before .before in
+    let at-first-fault = at-enum-told3 .before .before in
+    let at-if3 = at-first-fault .before in
+    let at-word-at = at-if3 .before in
+    let at-if1 = at-word-at .before in
+    let at-right-length = at-if1 .before in
+    let at-s = at-right-length .before .before in
+    let start = at-s .before .before .before .before in
+    let s = at-s .s in
+    let the-right-length = at-right-length .right-length in
+    let if1 = at-if1 .if1 in
+    let word-at = at-word-at .word-at in
+    let if3 = at-if3 .if3 in
+    let first-fault = at-first-fault .first-fault in
+    let enum-told3 = at-enum-told3 .enum-told3 in
     done-told (start .args .e) (s .given .0 .0) (told at-s .exponent) (start .args .file .now) (word-at .result) (word-at .ensures)
     (start .args .list .now) _ (c .before .put-triangles .ensures)
     ∙ all-read (start .args .e) (start .args .file .now) (start .args .list .now) (told at-s .good)

@@ -96,7 +96,10 @@ mark-record-requires c κs =
     }
 
 same-length-3 : tie.Need-same-length-3 Inv-loop μ-loop
-same-length-3 c = c .before .before .before .mark-record .kept .1 .0 ∙ c .before .before .before .before .before .before .before .before .before .loop .inv .4
+same-length-3 c =
+    let at-mark-record = c .before .before .before in
+    let at-loop = at-mark-record .before .before .before .before .before .before in
+    at-mark-record .mark-record .kept .1 .0 ∙ at-loop .loop .inv .4
 
 returns-3 : tie.Need-returns-3 Inv-loop μ-loop
 returns-3 c =

@@ -67,8 +67,9 @@ loop-less c = search needs
 
 loop-again : tie.Need-loop-again Inv-loop μ-loop
 loop-again c =
-    let l = c .before .before .before .before .loop in
-    let s = c .before .before .before .before .before .before .before .before .before in
+    let at-loop = c .before .before .before .before in
+    let s = at-loop .before .before .before .before .before in
+    let l = at-loop .loop in
     let a = c .before .along in
     let m = c .moved in
     let v : Plain w32 (getD (l .c) (l .k) (pos 0)) = search needs in

@@ -18,8 +18,9 @@ same-length c = search needs
 
 returns : tie.Need-returns
 returns c =
-    let put-triangle = c .before .before .before .before .before .before .put-triangle in
-    let a = c .before .before .before .before .before .before .before .before .before in
+    let at-put-triangle = c .before .before .before .before .before .before in
+    let a = at-put-triangle .before .before .before in
+    let put-triangle = at-put-triangle .put-triangle in
     pair-put _ _ _ _ (a .args .normal) (a .args .a) (a .args .b) (a .args .c) (a .args .d) (put-triangle .ensures) (c .before .before .put-triangle2 .ensures)
 
 pub put-pair-spec : {M : Type 1} → statement M

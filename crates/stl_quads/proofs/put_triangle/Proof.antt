@@ -58,10 +58,13 @@ same-length c =
 
 returns : tie.Need-returns
 returns c =
-    let put-vertex3 = c .before .before .before .before .before .before .put-vertex3 in
-    let put-vertex2 = c .before .before .before .before .before .before .before .before .before .before .put-vertex2 in
-    let put-vertex = c .before .before .before .before .before .before .before .before .before .before .before .before .before .before .put-vertex in
-    let a = c .before .before .before .before .before .before .before .before .before .before .before .before .before .before .before .before .before in
+    let at-put-vertex3 = c .before .before .before .before .before .before in
+    let at-put-vertex2 = at-put-vertex3 .before .before .before .before in
+    let at-put-vertex = at-put-vertex2 .before .before .before .before in
+    let a = at-put-vertex .before .before .before in
+    let put-vertex3 = at-put-vertex3 .put-vertex3 in
+    let put-vertex2 = at-put-vertex2 .put-vertex2 in
+    let put-vertex = at-put-vertex .put-vertex in
     triangle-put (a .args .out .now) (a .args .at) (a .args .normal) (a .args .a) (a .args .b) (a .args .c) _ _ _ _
     (record { one = put-vertex .ensures; two = put-vertex2 .ensures; three = put-vertex3 .ensures; four = c .before .before .put-vertex4 .ensures })
 

@@ -33,9 +33,11 @@ same-length c = search needs
 
 returns : tie.Need-returns
 returns c =
-    let put-word2 = c .before .before .before .before .before .before .before .put-word2 in
-    let put-word = c .before .before .before .before .before .before .before .before .before .before .before .before .put-word in
-    let start = c .before .before .before .before .before .before .before .before .before .before .before .before .before .before .before .before in
+    let at-put-word2 = c .before .before .before .before .before .before .before in
+    let at-put-word = at-put-word2 .before .before .before .before .before in
+    let start = at-put-word .before .before .before .before in
+    let put-word2 = at-put-word2 .put-word2 in
+    let put-word = at-put-word .put-word in
     vertex-put _ _ _ _ _ (start .args .v) (put-word .ensures) (put-word2 .ensures) (c .before .before .put-word3 .ensures)
 
 pub put-vertex-spec : {M : Type 1} → statement M

@@ -53,13 +53,18 @@ is-near-requires-3 c κs = search needs
 
 returns-3 : tie.Need-returns-3
 returns-3 c =
-    let start = c .before .before .before .before .before .before .before .before .before in
+    let at-is-near2 = c .before .before .before in
+    let at-word-at2 = at-is-near2 .before in
+    let at-if1 = at-word-at2 .before in
+    let at-is-near = at-if1 .before in
+    let at-word-at = at-is-near .before in
+    let start = at-word-at .before .before in
     let near = isNear (exponentOf (start .args .s)) in
-    let word-at = c .before .before .before .before .before .before .before .word-at in
-    let is-near = c .before .before .before .before .before .before .is-near in
-    let if1 = c .before .before .before .before .before .if1 in
-    let word-at2 = c .before .before .before .before .word-at2 in
-    let is-near2 = c .before .before .before .is-near2 in
+    let word-at = at-word-at .word-at in
+    let is-near = at-is-near .is-near in
+    let if1 = at-if1 .if1 in
+    let word-at2 = at-word-at2 .word-at2 in
+    let is-near2 = at-is-near2 .is-near2 in
     let if2 = c .before .before .if2 in
     simp (
       holds (is-near .ensures ∙ ap near (word-at .ensures)) (if1 .left),

@@ -101,10 +101,13 @@ same-length c = search needs
 
 returns-2 : tie.Need-returns-2
 returns-2 c =
-    let start = c .before .before .before .before .before .before .before .before in
-    let shared-slice-known = c .before .before .before .before .before .before .before .shared-slice-known in
-    let vertex-at = c .before .before .before .before .before .before .vertex-at in
-    let p = c .before .before .before .before .p in
+    let at-p = c .before .before .before .before in
+    let at-vertex-at = at-p .before .before in
+    let at-shared-slice-known = at-vertex-at .before in
+    let start = at-shared-slice-known .before in
+    let shared-slice-known = at-shared-slice-known .shared-slice-known in
+    let vertex-at = at-vertex-at .vertex-at in
+    let p = at-p .p in
     let rounded = c .before .before .rounded in
     let is : Finite (p .given .0 .0) ≡ vertexAt (start .args .file .now) (start .args .from) = sym (p .given .1) ∙ vertex-at .ensures in
     let t = place-told _ _ _ (shared-slice-known .given) is in

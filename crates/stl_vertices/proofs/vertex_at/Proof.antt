@@ -53,12 +53,18 @@ is-finite-requires-3 c κs = search needs
 returns-3 : tie.Need-returns-3
 unfolding vertexAt
 returns-3 c =
-    let word-at = c .before .before .before .before .before .before .before .before .word-at in
-    let word-at2 = c .before .before .before .before .before .before .before .word-at2 in
-    let word-at3 = c .before .before .before .before .before .before .word-at3 in
-    let is-finite = c .before .before .before .before .before .is-finite in
-    let if1 = c .before .before .before .before .if1 in
-    let is-finite2 = c .before .before .before .is-finite2 in
+    let at-is-finite2 = c .before .before .before in
+    let at-if1 = at-is-finite2 .before in
+    let at-is-finite = at-if1 .before in
+    let at-word-at3 = at-is-finite .before in
+    let at-word-at2 = at-word-at3 .before in
+    let at-word-at = at-word-at2 .before in
+    let word-at = at-word-at .word-at in
+    let word-at2 = at-word-at2 .word-at2 in
+    let word-at3 = at-word-at3 .word-at3 in
+    let is-finite = at-is-finite .is-finite in
+    let if1 = at-if1 .if1 in
+    let is-finite2 = at-is-finite2 .is-finite2 in
     let if2 = c .before .before .if2 in
     let x = holds (is-finite .ensures ∙ ap (λ (b : ℕ). isFinite b) (word-at .ensures)) (if1 .left) in
     let y = holds (is-finite2 .ensures ∙ ap (λ (b : ℕ). isFinite b) (word-at2 .ensures)) (if2 .left) in
@@ -67,9 +73,12 @@ returns-3 c =
 
 float-from-bits-t9 : tie.Need-float-from-bits-t9
 float-from-bits-t9 c =
-    let word-at = c .before .before .before .before .before .before .before .before .word-at in
-    let is-finite = c .before .before .before .before .before .is-finite in
-    let if1 = c .before .before .before .before .if1 in
+    let at-if1 = c .before .before .before .before in
+    let at-is-finite = at-if1 .before in
+    let at-word-at = at-is-finite .before .before .before in
+    let word-at = at-word-at .word-at in
+    let is-finite = at-is-finite .is-finite in
+    let if1 = at-if1 .if1 in
     bits-no-nan (word-at .result) (holds (is-finite .ensures) (if1 .left))
 
 float-from-bits-t10 : tie.Need-float-from-bits-t10
@@ -87,12 +96,18 @@ float-from-bits-t11 c =
 returns-4 : tie.Need-returns-4
 unfolding vertexAt
 returns-4 c =
-    let word-at = c .before .before .before .before .before .before .before .before .word-at in
-    let word-at2 = c .before .before .before .before .before .before .before .word-at2 in
-    let word-at3 = c .before .before .before .before .before .before .word-at3 in
-    let is-finite = c .before .before .before .before .before .is-finite in
-    let if1 = c .before .before .before .before .if1 in
-    let is-finite2 = c .before .before .before .is-finite2 in
+    let at-is-finite2 = c .before .before .before in
+    let at-if1 = at-is-finite2 .before in
+    let at-is-finite = at-if1 .before in
+    let at-word-at3 = at-is-finite .before in
+    let at-word-at2 = at-word-at3 .before in
+    let at-word-at = at-word-at2 .before in
+    let word-at = at-word-at .word-at in
+    let word-at2 = at-word-at2 .word-at2 in
+    let word-at3 = at-word-at3 .word-at3 in
+    let is-finite = at-is-finite .is-finite in
+    let if1 = at-if1 .if1 in
+    let is-finite2 = at-is-finite2 .is-finite2 in
     let if2 = c .before .before .if2 in
     let x = holds (is-finite .ensures ∙ ap (λ (b : ℕ). isFinite b) (word-at .ensures)) (if1 .left) in
     let y = holds (is-finite2 .ensures ∙ ap (λ (b : ℕ). isFinite b) (word-at2 .ensures)) (if2 .left) in

@@ -15,8 +15,9 @@ same-length c = search needs
 
 returns : tie.Need-returns
 returns c =
-    let clear = c .before .before .before .before .before .before .clear in
-    let start = c .before .before .before .before .before .before .before .before .before in
+    let at-clear = c .before .before .before .before .before .before in
+    let start = at-clear .before .before .before in
+    let clear = at-clear .clear in
     header-put _ _ _ _ (start .pre) (clear .ensures) (c .before .before .put-word .ensures)
 
 pub put-header-spec : {M : Type 1} → statement M

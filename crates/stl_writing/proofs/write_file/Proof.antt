@@ -43,10 +43,13 @@ same-length c = search needs
 
 returns-2 : tie.Need-returns-2
 returns-2 c =
-    let put-header = c .before .before .before .before .before .before .put-header in
-    let if1 = c .before .before .before .before .before .before .before .before .if1 in
-    let count-quads = c .before .before .before .before .before .before .before .before .before .count-quads in
-    let s = c .before .before .before .before .before .before .before .before .before .before .before .before in
+    let at-put-header = c .before .before .before .before .before .before in
+    let at-if1 = at-put-header .before .before in
+    let at-count-quads = at-if1 .before in
+    let s = at-count-quads .before .before .before in
+    let put-header = at-put-header .put-header in
+    let if1 = at-if1 .if1 in
+    let count-quads = at-count-quads .count-quads in
     let n = s .args .n in
     let g = s .args .grid .now in
     let l = facings n (marks n g) (inside n g) in

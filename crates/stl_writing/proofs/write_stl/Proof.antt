@@ -52,37 +52,52 @@ enum-told-2 c = search needs
 returns-3 : tie.Need-returns-3
 unfolding writeRows writeCall
 returns-3 c =
-    let points = c .before .before .before .before .points in
-    let l = c .before .before .before .before .before .before .before .l in
-    let read = c .before .before .before .before .before .before .before .before .before .read in
-    let start = c .before .before .before .before .before .before .before .before .before .before .before .before in
-    let fits = c .before .before .before .before .before .before .before .before .before .before .before .before .fits in
+    let at-if1 = c .before .before .before in
+    let at-points = at-if1 .before in
+    let at-l = at-points .before .before .before in
+    let at-read = at-l .before .before in
+    let start = at-read .before .before .before in
+    let points = at-points .points in
+    let l = at-l .l in
+    let read = at-read .read in
+    let fits = start .fits in
     let level = read-known _ _ (sym (read .ensures) ∙ l .given .1) in
-    let long = rw (points .ensures) at (c .before .before .before .if1 .left) in
+    let long = rw (points .ensures) at (at-if1 .if1 .left) in
     let bad = scale-bad (start .args .e) (sym (c .enum-told2 .given .1) ∙ c .before .before .scale-of .ensures ∙ ap scaleOf (toZ-ofZ w32 _ (fits .e))) in
     simp (level .0, level .1, le-ltb _ _ long, bad)
 
 is-grid-requires : tie.Need-is-grid-requires
 is-grid-requires c κs =
-    let if1 = c .before .before .before .before .if1 in
-    let points = c .before .before .before .before .before .points in
-    let cells = c .before .before .before .before .before .before .cells in
-    let l = c .before .before .before .before .before .before .before .before .l in
+    let at-if1 = c .before .before .before .before in
+    let at-points = at-if1 .before in
+    let at-cells = at-points .before in
+    let at-l = at-cells .before .before in
+    let if1 = at-if1 .if1 in
+    let points = at-points .points in
+    let cells = at-cells .cells in
+    let l = at-l .l in
     let long = rw (points .ensures) at (if1 .left) in
     rw (cells .ensures) (record { small = cells-most (l .given .0 .0); long = long })
 
 returns-4 : tie.Need-returns-4
 unfolding writeRows writeCall
 returns-4 c =
-    let s-told = c .before .before .before .s in
-    let scale-of = c .before .before .before .before .before .scale-of in
-    let if1 = c .before .before .before .before .before .before .if1 in
-    let points = c .before .before .before .before .before .before .before .points in
-    let cells = c .before .before .before .before .before .before .before .before .cells in
-    let l = c .before .before .before .before .before .before .before .before .before .before .l in
-    let read = c .before .before .before .before .before .before .before .before .before .before .before .before .read in
-    let start = c .before .before .before .before .before .before .before .before .before .before .before .before .before .before .before in
-    let fits = c .before .before .before .before .before .before .before .before .before .before .before .before .before .before .before .fits in
+    let at-s = c .before .before .before in
+    let at-scale-of = at-s .before .before in
+    let at-if1 = at-scale-of .before in
+    let at-points = at-if1 .before in
+    let at-cells = at-points .before in
+    let at-l = at-cells .before .before in
+    let at-read = at-l .before .before in
+    let start = at-read .before .before .before in
+    let s-told = at-s .s in
+    let scale-of = at-scale-of .scale-of in
+    let if1 = at-if1 .if1 in
+    let points = at-points .points in
+    let cells = at-cells .cells in
+    let l = at-l .l in
+    let read = at-read .read in
+    let fits = start .fits in
     let level = read-known _ _ (sym (read .ensures) ∙ l .given .1) in
     let long = rw (points .ensures) at (if1 .left) in
     let scale = scale-told (start .args .e) (s-told .given .0 .0) (sym (s-told .given .1) ∙ scale-of .ensures ∙ ap scaleOf (toZ-ofZ w32 _ (fits .e))) in
@@ -91,10 +106,14 @@ returns-4 c =
 
 signs-fit-requires : tie.Need-signs-fit-requires
 signs-fit-requires c κs =
-    let if1 = c .before .before .before .before .before .before .if1 in
-    let points = c .before .before .before .before .before .before .before .points in
-    let cells = c .before .before .before .before .before .before .before .before .cells in
-    let l = c .before .before .before .before .before .before .before .before .before .before .l in
+    let at-if1 = c .before .before .before .before .before .before in
+    let at-points = at-if1 .before in
+    let at-cells = at-points .before in
+    let at-l = at-cells .before .before in
+    let if1 = at-if1 .if1 in
+    let points = at-points .points in
+    let cells = at-cells .cells in
+    let l = at-l .l in
     let long = rw (points .ensures) at (if1 .left) in
     let grid = holds (rw (cells .ensures) at (c .before .is-grid .ensures)) (c .if2 .left) in
     rw (cells .ensures) (record { small = cells-most (l .given .0 .0); long = long }, grid)
@@ -102,20 +121,27 @@ signs-fit-requires c κs =
 returns-5 : tie.Need-returns-5
 unfolding writeRows writeCall
 returns-5 c =
-    let s-told = c .before .before .before .before .before .s in
-    let scale-of = c .before .before .before .before .before .before .before .scale-of in
-    let if1 = c .before .before .before .before .before .before .before .before .if1 in
-    let points = c .before .before .before .before .before .before .before .before .before .points in
-    let cells = c .before .before .before .before .before .before .before .before .before .before .cells in
-    let l = c .before .before .before .before .before .before .before .before .before .before .before .before .l in
-    let read = c .before .before .before .before .before .before .before .before .before .before .before .before .before .before .read in
-    let back = c .before .before .before .before .before .before .before .before .before .before in
+    let at-is-grid = c .before .before .before in
+    let at-s = at-is-grid .before .before in
+    let at-scale-of = at-s .before .before in
+    let at-if1 = at-scale-of .before in
+    let at-points = at-if1 .before in
+    let back = at-points .before in
+    let at-l = back .before .before in
+    let at-read = at-l .before .before in
+    let s-told = at-s .s in
+    let scale-of = at-scale-of .scale-of in
+    let if1 = at-if1 .if1 in
+    let points = at-points .points in
+    let cells = back .cells in
+    let l = at-l .l in
+    let read = at-read .read in
     let start = back .before .before .before .before .before .before .before in
     let fits = back .before .before .before .before .before .before .before .fits in
     let level = read-known _ _ (sym (read .ensures) ∙ l .given .1) in
     let long = rw (points .ensures) at (if1 .left) in
     let scale = scale-told (start .args .e) (s-told .given .0 .0) (sym (s-told .given .1) ∙ scale-of .ensures ∙ ap scaleOf (toZ-ofZ w32 _ (fits .e))) in
-    let grid = holds (rw (cells .ensures) at (c .before .before .before .is-grid .ensures)) (c .before .before .if2 .left) in
+    let grid = holds (rw (cells .ensures) at (at-is-grid .is-grid .ensures)) (c .before .before .if2 .left) in
     let out = fails (rw (cells .ensures) at (c .before .signs-fit .ensures)) (c .if3 .taken) in
     simp (level .0, level .1, le-ltb _ _ long, scale .good, grid, out)
 
@@ -124,15 +150,22 @@ side-requires c κs = search needs
 
 write-file-requires : tie.Need-write-file-requires
 write-file-requires c κs =
-    let if2 = c .before .before .before .before .if2 in
-    let is-grid = c .before .before .before .before .before .is-grid in
-    let s-told = c .before .before .before .before .before .before .before .s in
-    let scale-of = c .before .before .before .before .before .before .before .before .before .scale-of in
-    let if1 = c .before .before .before .before .before .before .before .before .before .before .if1 in
-    let points = c .before .before .before .before .before .before .before .before .before .before .before .points in
-    let cells = c .before .before .before .before .before .before .before .before .before .before .before .before .cells in
-    let l = c .before .before .before .before .before .before .before .before .before .before .before .before .before .before .l in
-    let back = c .before .before .before .before .before .before .before .before .before .before in
+    let at-if2 = c .before .before .before .before in
+    let at-is-grid = at-if2 .before in
+    let at-s = at-is-grid .before .before in
+    let at-scale-of = at-s .before .before in
+    let back = at-scale-of .before in
+    let at-points = back .before in
+    let at-cells = at-points .before in
+    let at-l = at-cells .before .before in
+    let if2 = at-if2 .if2 in
+    let is-grid = at-is-grid .is-grid in
+    let s-told = at-s .s in
+    let scale-of = at-scale-of .scale-of in
+    let if1 = back .if1 in
+    let points = at-points .points in
+    let cells = at-cells .cells in
+    let l = at-l .l in
     let start = back .before .before .before .before .before .before .before .before .before in
     let fits = back .before .before .before .before .before .before .before .before .before .fits in
     let long = rw (points .ensures) at (if1 .left) in
@@ -151,17 +184,27 @@ same-length c = search needs
 returns-6 : tie.Need-returns-6
 unfolding written writeRows writeCall
 returns-6 c =
-    let side = c .before .before .before .before .side in
-    let if3 = c .before .before .before .before .before .if3 in
-    let signs-fit = c .before .before .before .before .before .before .signs-fit in
-    let if2 = c .before .before .before .before .before .before .before .if2 in
-    let is-grid = c .before .before .before .before .before .before .before .before .is-grid in
-    let s-told = c .before .before .before .before .before .before .before .before .before .before .s in
-    let scale-of = c .before .before .before .before .before .before .before .before .before .before .before .before .scale-of in
-    let if1 = c .before .before .before .before .before .before .before .before .before .before .before .before .before .if1 in
-    let points = c .before .before .before .before .before .before .before .before .before .before .before .before .before .before .points in
-    let cells = c .before .before .before .before .before .before .before .before .before .before .before .before .before .before .before .cells in
-    let back = c .before .before .before .before .before .before .before .before .before .before in
+    let at-side = c .before .before .before .before in
+    let at-if3 = at-side .before in
+    let at-signs-fit = at-if3 .before in
+    let at-if2 = at-signs-fit .before in
+    let at-is-grid = at-if2 .before in
+    let at-s = at-is-grid .before .before in
+    let at-scale-of = at-s .before .before in
+    let at-if1 = at-scale-of .before in
+    let at-points = at-if1 .before in
+    let at-cells = at-points .before in
+    let side = at-side .side in
+    let if3 = at-if3 .if3 in
+    let signs-fit = at-signs-fit .signs-fit in
+    let if2 = at-if2 .if2 in
+    let is-grid = at-is-grid .is-grid in
+    let s-told = at-s .s in
+    let scale-of = at-scale-of .scale-of in
+    let if1 = at-if1 .if1 in
+    let points = at-points .points in
+    let cells = at-cells .cells in
+    let back = at-s in
     let l = back .before .before .before .before .before .before .before .l in
     let read = back .before .before .before .before .before .before .before .before .before .read in
     let back2 = back .before .before .before .before .before .before .before .before .before .before in
@@ -172,11 +215,11 @@ returns-6 c =
     let scale = scale-told (start .args .e) (s-told .given .0 .0) (sym (s-told .given .1) ∙ scale-of .ensures ∙ ap scaleOf (toZ-ofZ w32 _ (fits .e))) in
     let grid = holds (rw (cells .ensures) at (is-grid .ensures)) (if2 .left) in
     let fit = holds (rw (cells .ensures) at (signs-fit .ensures)) (if3 .left) in
-    let back = c .before .before .before .before .before .before .before .before .before .before in
+    let back = at-s in
     let g = back .before .before .before .before .before .before .before .before .before .before .before .before .args .grid .now in
-    let back = c .before .before .before .before .before .before .before .before .before .before in
+    let back = at-s in
     let out = back .before .before .before .before .before .before .before .before .before .before .before .before .args .out .now in
-    let n = c .before .before .before .before .before .before .before .before .before .before .before .before .before .before .before .cells .ensures in
+    let n = at-cells .cells .ensures in
     simp (level .0, level .1, le-ltb _ _ long, scale .good, grid, fit)
     (c .before .before .write-file .ensures ∙ (λ i. written (side .ensures i) (scale .exponent i) (facings (n i) (marks (n i) g) (inside (n i) g)) out))
 

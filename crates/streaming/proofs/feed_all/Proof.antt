@@ -51,42 +51,55 @@ enum-told c = search needs
 
 same-length : tie.Need-same-length Inv-loop μ-loop
 same-length c =
-    let feed = c .before .before .before .before .feed in
-    let loop-told = c .before .before .before .before .before .before .before .before .before .before .loop in
+    let at-feed = c .before .before .before .before in
+    let at-loop = at-feed .before .before .before .before .before .before in
+    let feed = at-feed .feed in
+    let loop-told = at-loop .loop in
     feed .kept .1 .0 ∙ loop-told .inv .2
 
 returns : tie.Need-returns Inv-loop μ-loop
 returns c =
-    let feed = c .before .before .before .before .feed in
-    let loop-told = c .before .before .before .before .before .before .before .before .before .before .loop in
+    let at-feed = c .before .before .before .before in
+    let at-loop = at-feed .before .before .before .before .before .before in
+    let feed = at-feed .feed in
+    let loop-told = at-loop .loop in
     came-end (loop-told .inv .4) (feed .ensures)
 
 same-length-2 : tie.Need-same-length-2 Inv-loop μ-loop
 same-length-2 c =
-    let feed = c .before .before .before .before .before .before .feed in
-    let loop-told = c .before .before .before .before .before .before .before .before .before .before .before .before .loop in
+    let at-feed = c .before .before .before .before .before .before in
+    let at-loop = at-feed .before .before .before .before .before .before in
+    let feed = at-feed .feed in
+    let loop-told = at-loop .loop in
     feed .kept .1 .0 ∙ loop-told .inv .2
 
 returns-2 : tie.Need-returns-2 Inv-loop μ-loop
 returns-2 c =
-    let feed = c .before .before .before .before .before .before .feed in
-    let loop-told = c .before .before .before .before .before .before .before .before .before .before .before .before .loop in
+    let at-feed = c .before .before .before .before .before .before in
+    let at-loop = at-feed .before .before .before .before .before .before in
+    let feed = at-feed .feed in
+    let loop-told = at-loop .loop in
     came-end (loop-told .inv .4) (rw (c .before .before .fed .given .1) at (feed .ensures))
 
 loop-less : tie.Need-loop-less Inv-loop μ-loop
 loop-less c =
-    let f = rw (c .before .before .fed .given .1) at (c .before .before .before .before .before .before .feed .ensures) in
-    let r = c .before .before .before .before .before .before .before .before .before .before .read-full in
+    let at-feed = c .before .before .before .before .before .before in
+    let at-read-full = at-feed .before .before .before .before in
+    let f = rw (c .before .before .fed .given .1) at (at-feed .feed .ensures) in
+    let r = at-read-full .read-full in
     let h = f .counted .1 (omega (arith, r .ensures .1, c .if1 .left)) in
     omega (arith, f .counted .0)
 
 loop-again : tie.Need-loop-again Inv-loop μ-loop
 loop-again c =
+    let at-feed = c .before .before .before .before .before .before in
+    let at-read-full = at-feed .before .before .before .before in
+    let at-loop = at-read-full .before .before in
     let fed = c .before .before .fed in
-    let feed = c .before .before .before .before .before .before .feed in
-    let l = c .before .before .before .before .before .before .before .before .before .before .before .before .loop in
+    let feed = at-feed .feed in
+    let l = at-loop .loop in
     let f = rw (fed .given .1) at (feed .ensures) in
-    let r = c .before .before .before .before .before .before .before .before .before .before .read-full in (
+    let r = at-read-full .read-full in (
       f .counted .0,
       r .kept .1 .0 ∙ l .inv .1,
       feed .kept .1 .0 ∙ l .inv .2,

@@ -64,13 +64,16 @@ slice-aggregate-show-2 c = search needs
 
 show-requires : tie.Need-show-requires
 show-requires c κs =
-    let empty-grid2 = c .before .before .before .before .before .empty-grid2 in
-    let feed-all = c .before .before .before .before .before .before .before .before .before .before .feed-all in
-    let start = c .before .before .before .before .before .before .before .before .before .before .before .before .before .before in
+    let at-enum-told2 = c .before .before .before in
+    let at-empty-grid2 = at-enum-told2 .before .before in
+    let at-feed-all = at-empty-grid2 .before .before .before .before .before in
+    let start = at-feed-all .before .before .before .before in
+    let empty-grid2 = at-empty-grid2 .empty-grid2 in
+    let feed-all = at-feed-all .feed-all in
     record {
       ready = feed-all .ensures .ready;
       work-lent = empty-grid2 .ensures ∙ bytes-lent;
-      out-room = omega (arith, rw (c .before .before .before .enum-told2 .given .1) at (start .pre .1));
+      out-room = omega (arith, rw (at-enum-told2 .enum-told2 .given .1) at (start .pre .1));
     }
 
 enum-told-3 : tie.Need-enum-told-3
@@ -84,13 +87,16 @@ slice-aggregate-show-masks-2 c = search needs
 
 show-masks-requires : tie.Need-show-masks-requires
 show-masks-requires c κs =
-    let empty-grid2 = c .before .before .before .before .before .empty-grid2 in
-    let feed-all = c .before .before .before .before .before .before .before .before .before .before .feed-all in
-    let start = c .before .before .before .before .before .before .before .before .before .before .before .before .before .before in
+    let at-enum-told3 = c .before .before .before in
+    let at-empty-grid2 = at-enum-told3 .before .before in
+    let at-feed-all = at-empty-grid2 .before .before .before .before .before in
+    let start = at-feed-all .before .before .before .before in
+    let empty-grid2 = at-empty-grid2 .empty-grid2 in
+    let feed-all = at-feed-all .feed-all in
     record {
       ready = feed-all .ensures .ready;
       work-lent = empty-grid2 .ensures ∙ bytes-lent;
-      out-room = omega (arith, rw (c .before .before .before .enum-told3 .given .1) at (start .pre .1));
+      out-room = omega (arith, rw (at-enum-told3 .enum-told3 .given .1) at (start .pre .1));
     }
 
 enum-told-4 : tie.Need-enum-told-4
@@ -101,8 +107,9 @@ slice-aggregate-show-faces c = search needs
 
 show-faces-requires : tie.Need-show-faces-requires
 show-faces-requires c κs =
-    let feed-all = c .before .before .before .before .before .before .before .before .before .feed-all in
-    let start = c .before .before .before .before .before .before .before .before .before .before .before .before .before in
+    let at-feed-all = c .before .before .before .before .before .before .before .before .before in
+    let start = at-feed-all .before .before .before .before in
+    let feed-all = at-feed-all .feed-all in
     (feed-all .ensures .ready, omega (arith, rw (c .before .before .enum-told4 .given .1) at (start .pre .1)))
 
 enum-told-5 : tie.Need-enum-told-5
@@ -138,15 +145,17 @@ same-length c = search needs
 
 returns : tie.Need-returns
 returns c =
-    let enum-told-told = c .before .before .before .before .before .before .before .before .before .before .before .enum-told in
-    let back = c .before .before .before .before .before .before .before .before .before .before in
+    let at-report = c .before .before .before .before .before in
+    let back = at-report .before .before .before .before .before in
+    let at-enum-told = back .before in
+    let enum-told-told = at-enum-told .enum-told in
     let triangles = back .before .before .before .before .before .triangles in
     let feed-all = back .before .before .before .before .before .before .before .before .feed-all in
     let empty-grid = back .before .before .before .before .before .before .before .before .before .before .empty-grid in
     let back2 = back .before .before .before .before .before .before .before .before .before .before in
     let start = back2 .before .before in
     let s = rw (triangles .given .1, empty-grid .ensures ∙ bytes-lent) at (feed-all .ensures) in
-    let p = c .before .before .before .before .before .report .ensures in
+    let p = at-report .report .ensures in
     rw (enum-told-told .given .1)
     (record {
       bytes = s .bytes;
@@ -159,14 +168,17 @@ same-length-2 c = search needs
 
 returns-2 : tie.Need-returns-2
 returns-2 c =
-    let enum-told2 = c .before .before .before .before .before .before .before .before .enum-told2 in
-    let triangles = c .before .before .before .before .before .before .before .before .before .before .before .before .triangles in
-    let back = c .before .before .before .before .before .before .before .before .before .before in
+    let at-show = c .before .before .before .before in
+    let at-enum-told2 = at-show .before .before .before .before in
+    let back = at-enum-told2 .before .before in
+    let at-triangles = back .before .before in
+    let enum-told2 = at-enum-told2 .enum-told2 in
+    let triangles = at-triangles .triangles in
     let feed-all = back .before .before .before .before .before .feed-all in
     let empty-grid = back .before .before .before .before .before .before .before .empty-grid in
     let start = back .before .before .before .before .before .before .before .before .before in
     let s = rw (triangles .given .1, empty-grid .ensures ∙ bytes-lent) at (feed-all .ensures) in
-    let p = c .before .before .before .before .show .ensures in
+    let p = at-show .show .ensures in
     let t = triangles .given .0 .0 in
     rw (enum-told2 .given .1) (record { bytes = s .bytes; fits = p .1; text = p .0 .holds ∙ printed-done Layers (start .args .l) _ t s })
 
@@ -175,14 +187,17 @@ same-length-3 c = search needs
 
 returns-3 : tie.Need-returns-3
 returns-3 c =
-    let enum-told3 = c .before .before .before .before .before .before .before .before .enum-told3 in
-    let triangles = c .before .before .before .before .before .before .before .before .before .before .before .before .triangles in
-    let back = c .before .before .before .before .before .before .before .before .before .before in
+    let at-show-masks = c .before .before .before .before in
+    let at-enum-told3 = at-show-masks .before .before .before .before in
+    let back = at-enum-told3 .before .before in
+    let at-triangles = back .before .before in
+    let enum-told3 = at-enum-told3 .enum-told3 in
+    let triangles = at-triangles .triangles in
     let feed-all = back .before .before .before .before .before .feed-all in
     let empty-grid = back .before .before .before .before .before .before .before .empty-grid in
     let start = back .before .before .before .before .before .before .before .before .before in
     let s = rw (triangles .given .1, empty-grid .ensures ∙ bytes-lent) at (feed-all .ensures) in
-    let p = c .before .before .before .before .show-masks .ensures in
+    let p = at-show-masks .show-masks .ensures in
     rw (enum-told3 .given .1)
     (record { bytes = s .bytes; fits = p .1; text = p .0 .holds ∙ printed-done Masks (start .args .l) _ (triangles .given .0 .0) s })
 
@@ -191,11 +206,15 @@ same-length-4 c = search needs
 
 returns-4 : tie.Need-returns-4
 returns-4 c =
-    let enum-told4 = c .before .before .before .before .before .enum-told4 in
-    let triangles = c .before .before .before .before .before .before .before .before .before .triangles in
-    let feed-all = c .before .before .before .before .before .before .before .before .before .before .before .before .feed-all in
-    let empty-grid = c .before .before .before .before .before .before .before .before .before .before .before .before .before .before .empty-grid in
-    let start = c .before .before .before .before .before .before .before .before .before .before .before .before .before .before .before .before in
+    let at-enum-told4 = c .before .before .before .before .before in
+    let at-triangles = at-enum-told4 .before .before .before .before in
+    let at-feed-all = at-triangles .before .before .before in
+    let at-empty-grid = at-feed-all .before .before in
+    let start = at-empty-grid .before .before in
+    let enum-told4 = at-enum-told4 .enum-told4 in
+    let triangles = at-triangles .triangles in
+    let feed-all = at-feed-all .feed-all in
+    let empty-grid = at-empty-grid .empty-grid in
     let s = rw (triangles .given .1, empty-grid .ensures ∙ bytes-lent) at (feed-all .ensures) in
     let p = c .before .before .show-faces .ensures in
     rw (enum-told4 .given .1)
@@ -225,10 +244,13 @@ same-length-6 c = search needs
 
 returns-6 : tie.Need-returns-6
 returns-6 c =
-    let number = c .before .before .before .before .before .number in
-    let feed-all = c .before .before .before .before .before .before .before .before .feed-all in
-    let empty-grid = c .before .before .before .before .before .before .before .before .before .before .empty-grid in
-    let start = c .before .before .before .before .before .before .before .before .before .before .before .before in
+    let at-number = c .before .before .before .before .before in
+    let at-feed-all = at-number .before .before .before in
+    let at-empty-grid = at-feed-all .before .before in
+    let start = at-empty-grid .before .before in
+    let number = at-number .number in
+    let feed-all = at-feed-all .feed-all in
+    let empty-grid = at-empty-grid .empty-grid in
     let s = rw (number .given .1, empty-grid .ensures ∙ bytes-lent) at (feed-all .ensures) in
     let p = c .before .before .put-refusal .ensures in
     record {

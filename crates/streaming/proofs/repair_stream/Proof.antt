@@ -51,11 +51,14 @@ same-length-2 c = search needs
 
 returns-2 : tie.Need-returns-2
 returns-2 c =
-    let enum-told-told = c .before .before .before .before .enum-told in
-    let read = c .before .before .before .before .before .before .read in
-    let start = c .before .before .before .before .before .before .before .before .before .before .before .before .before in
+    let at-enum-told = c .before .before .before .before in
+    let at-read = at-enum-told .before .before in
+    let at-wide = at-read .before in
+    let start = at-wide .before .before .before .before .before .before in
+    let enum-told-told = at-enum-told .enum-told in
+    let read = at-read .read in
     let p = c .before .before .put-refusal2 .ensures in
-    let w = c .before .before .before .before .before .before .before .wide .result in
+    let w = at-wide .wide .result in
     record {
       bytes = w ∷ [];
       fits = p .1;
@@ -64,8 +67,9 @@ returns-2 c =
 
 repair-at-requires : tie.Need-repair-at-requires
 repair-at-requires c κs =
-    let read = c .before .before .before .before .read in
-    let start = c .before .before .before .before .before .before .before .before .before .before .before in
+    let at-read = c .before .before .before .before in
+    let start = at-read .before .before .before .before .before .before .before in
+    let read = at-read .read in
     (read-number _ _ (sym (read .ensures) ∙ c .before .before .l .given .1), start .pre)
 
 same-length-3 : tie.Need-same-length-3
@@ -73,8 +77,9 @@ same-length-3 c = search needs
 
 returns-3 : tie.Need-returns-3
 returns-3 c =
-    let l-told = c .before .before .before .before .before .l in
-    let start = c .before .before .before .before .before .before .before .before .before .before .before .before .before .before in
+    let at-l = c .before .before .before .before .before in
+    let start = at-l .before .before .before .before .before .before .before .before .before in
+    let l-told = at-l .l in
     let p = c .before .before .repair-at .ensures in
     let l = l-told .given .0 .0 in
     record {

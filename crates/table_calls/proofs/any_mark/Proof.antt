@@ -42,11 +42,15 @@ is-bad-requires c κs = search needs
 returns-3 : tie.Need-returns-3
 unfolding anyRows anyCall
 returns-3 c =
-    let cells = c .before .before .before .before .cells in
-    let l = c .before .before .before .before .before .before .l in
-    let read = c .before .before .before .before .before .before .before .before .read in
+    let at-points = c .before .before .before in
+    let at-cells = at-points .before in
+    let at-l = at-cells .before .before in
+    let at-read = at-l .before .before in
+    let cells = at-cells .cells in
+    let l = at-l .l in
+    let read = at-read .read in
     let v = read-known _ _ (sym (read .ensures) ∙ l .given .1) in
-    let g = le-ltb _ _ (rw (c .before .before .before .points .ensures) at (c .before .before .if1 .left)) in
+    let g = le-ltb _ _ (rw (at-points .points .ensures) at (c .before .before .if1 .left)) in
     let b = sym (rw (cells .ensures) at (c .before .is-bad .ensures)) ∙ c .if2 .taken in
     simp (v .0, v .1, g, b)
 
@@ -59,25 +63,36 @@ point-count-requires c κs =
 returns-4 : tie.Need-returns-4
 unfolding anyRows anyCall
 returns-4 c =
-    let if1 = c .before .before .before .before .if1 in
-    let points = c .before .before .before .before .before .points in
-    let cells = c .before .before .before .before .before .before .cells in
-    let l = c .before .before .before .before .before .before .before .before .l in
-    let read = c .before .before .before .before .before .before .before .before .before .before .read in
+    let at-is-bad = c .before .before .before in
+    let at-if1 = at-is-bad .before in
+    let at-points = at-if1 .before in
+    let at-cells = at-points .before in
+    let at-l = at-cells .before .before in
+    let at-read = at-l .before .before in
+    let if1 = at-if1 .if1 in
+    let points = at-points .points in
+    let cells = at-cells .cells in
+    let l = at-l .l in
+    let read = at-read .read in
     let v = read-known _ _ (sym (read .ensures) ∙ l .given .1) in
     let g = le-ltb _ _ (rw (points .ensures) at (if1 .left)) in
-    let b = sym (rw (cells .ensures) at (c .before .before .before .is-bad .ensures)) ∙ c .before .before .if2 .left in
+    let b = sym (rw (cells .ensures) at (at-is-bad .is-bad .ensures)) ∙ c .before .before .if2 .left in
     let t = lt-ltb _ _ (rw (c .before .point-count .ensures .0, cells .ensures) at (c .if3 .taken)) in
     simp (v .0, v .1, g, b, t)
 
 table-says-requires : tie.Need-table-says-requires
 table-says-requires c κs =
-    let if1 = c .before .before .before .before .if1 in
-    let points = c .before .before .before .before .before .points in
-    let cells = c .before .before .before .before .before .before .cells in
-    let l = c .before .before .before .before .before .before .before .before .l in
-    let s = c .before .before .before .before .before .before .before .before .before .before .before .before .before in
-    let b = sym (rw (cells .ensures) at (c .before .before .before .is-bad .ensures)) ∙ c .before .before .if2 .left in
+    let at-is-bad = c .before .before .before in
+    let at-if1 = at-is-bad .before in
+    let at-points = at-if1 .before in
+    let at-cells = at-points .before in
+    let at-l = at-cells .before .before in
+    let s = at-l .before .before .before .before .before in
+    let if1 = at-if1 .if1 in
+    let points = at-points .points in
+    let cells = at-cells .cells in
+    let l = at-l .l in
+    let b = sym (rw (cells .ensures) at (at-is-bad .is-bad .ensures)) ∙ c .before .before .if2 .left in
     rw (cells .ensures) (record {
       sized = record { small = cells-most (l .given .0 .0); long = rw (points .ensures) at (if1 .left) };
       totals-long = rw (c .before .point-count .ensures .0, cells .ensures) at (c .if3 .left);
@@ -90,17 +105,25 @@ answer-requires c κs = search needs
 returns-5 : tie.Need-returns-5
 unfolding anyRows anyCall
 returns-5 c =
-    let if2 = c .before .before .before .before .if2 in
-    let is-bad = c .before .before .before .before .before .is-bad in
-    let if1 = c .before .before .before .before .before .before .if1 in
-    let points = c .before .before .before .before .before .before .before .points in
-    let cells = c .before .before .before .before .before .before .before .before .cells in
-    let l = c .before .before .before .before .before .before .before .before .before .before .l in
-    let read = c .before .before .before .before .before .before .before .before .before .before .before .before .read in
+    let at-point-count = c .before .before .before in
+    let at-if2 = at-point-count .before in
+    let at-is-bad = at-if2 .before in
+    let at-if1 = at-is-bad .before in
+    let at-points = at-if1 .before in
+    let at-cells = at-points .before in
+    let at-l = at-cells .before .before in
+    let at-read = at-l .before .before in
+    let if2 = at-if2 .if2 in
+    let is-bad = at-is-bad .is-bad in
+    let if1 = at-if1 .if1 in
+    let points = at-points .points in
+    let cells = at-cells .cells in
+    let l = at-l .l in
+    let read = at-read .read in
     let v = read-known _ _ (sym (read .ensures) ∙ l .given .1) in
     let g = le-ltb _ _ (rw (points .ensures) at (if1 .left)) in
     let b = sym (rw (cells .ensures) at (is-bad .ensures)) ∙ if2 .left in
-    let t = le-ltb _ _ (rw (c .before .before .before .point-count .ensures .0, cells .ensures) at (c .before .before .if3 .left)) in
+    let t = le-ltb _ _ (rw (at-point-count .point-count .ensures .0, cells .ensures) at (c .before .before .if3 .left)) in
     simp (v .0, v .1, g, b, t) (c .answer .ensures ∙ ap said (rw (cells .ensures) at (c .before .table-says .ensures)))
 
 pub any-mark-spec : {M : Type 1} → statement M

@@ -43,11 +43,15 @@ point-count-requires c κs = let m = cells-most (c .before .before .before .befo
 returns-3 : tie.Need-returns-3
 unfolding tableRows countCall
 returns-3 c =
-    let cells = c .before .before .before .before .cells in
-    let l-told = c .before .before .before .before .before .before .l in
-    let read = c .before .before .before .before .before .before .before .before .read in
+    let at-points = c .before .before .before in
+    let at-cells = at-points .before in
+    let at-l = at-cells .before .before in
+    let at-read = at-l .before .before in
+    let cells = at-cells .cells in
+    let l-told = at-l .l in
+    let read = at-read .read in
     let v = read-known _ _ (sym (read .ensures) ∙ l-told .given .1) in
-    let g = le-ltb _ _ (rw (c .before .before .before .points .ensures) at (c .before .before .if1 .left)) in
+    let g = le-ltb _ _ (rw (at-points .points .ensures) at (c .before .before .if1 .left)) in
     let t = lt-ltb _ _ (rw (c .before .point-count .ensures .0, cells .ensures) at (c .if2 .taken)) in
     simp (v .0, v .1, g, t)
 
@@ -67,13 +71,20 @@ same-length c = search needs
 returns-4 : tie.Need-returns-4
 unfolding tableRows countDone countCall
 returns-4 c =
-    let if2 = c .before .before .before .before .if2 in
-    let point-count = c .before .before .before .before .before .point-count in
-    let if1 = c .before .before .before .before .before .before .if1 in
-    let points = c .before .before .before .before .before .before .before .points in
-    let cells = c .before .before .before .before .before .before .before .before .cells in
-    let l-told = c .before .before .before .before .before .before .before .before .before .before .l in
-    let read = c .before .before .before .before .before .before .before .before .before .before .before .before .read in
+    let at-if2 = c .before .before .before .before in
+    let at-point-count = at-if2 .before in
+    let at-if1 = at-point-count .before in
+    let at-points = at-if1 .before in
+    let at-cells = at-points .before in
+    let at-l = at-cells .before .before in
+    let at-read = at-l .before .before in
+    let if2 = at-if2 .if2 in
+    let point-count = at-point-count .point-count in
+    let if1 = at-if1 .if1 in
+    let points = at-points .points in
+    let cells = at-cells .cells in
+    let l-told = at-l .l in
+    let read = at-read .read in
     let v = read-known _ _ (sym (read .ensures) ∙ l-told .given .1) in
     let g = le-ltb _ _ (rw (points .ensures) at (if1 .left)) in
     let t = le-ltb _ _ (rw (point-count .ensures .0, cells .ensures) at (if2 .left)) in

@@ -59,9 +59,11 @@ box-marks-requires c κs =
 
 returns : tie.Need-returns Inv-loop μ-loop
 returns c =
-    let loop-test = c .before .before .before .before .loop-test in
-    let s = c .before .before .before .before .before .before .before .before .before in
-    let l = c .before .before .before .before .before .loop in
+    let at-loop-test = c .before .before .before .before in
+    let at-loop = at-loop-test .before in
+    let s = at-loop .before .before .before .before in
+    let loop-test = at-loop-test .loop-test in
+    let l = at-loop .loop in
     let h : l .q < blockCount (s .args .n) = omega (arith, l .inv .0, loop-test .taken) in
     let f = right (s .args .n) (s .args .grid .now) (s .args .totals .now) in
     let e = c .before .box-marks .ensures .0 ∙ ap (marksIn (s .args .n) (s .args .grid .now)) (c .before .before .block-box .ensures) in
@@ -69,9 +71,11 @@ returns c =
 
 next-point-requires : tie.Need-next-point-requires Inv-loop μ-loop
 next-point-requires c κs =
-    let loop-test = c .before .before .before .before .loop-test in
-    let loop-told = c .before .before .before .before .before .loop in
-    let s = c .before .before .before .before .before .before .before .before .before in
+    let at-loop-test = c .before .before .before .before in
+    let at-loop = at-loop-test .before in
+    let s = at-loop .before .before .before .before in
+    let loop-test = at-loop-test .loop-test in
+    let loop-told = at-loop .loop in
     let h : loop-told .q < blockCount (s .args .n) = omega (arith, loop-told .inv .0, loop-test .taken) in
     (omega (arith, s .pre .0 .small), at-grid (s .args .n / 4) (loop-told .q) (loop-told .c) (loop-told .inv .3) h)
 
@@ -86,13 +90,16 @@ loop-less c = omega (arith, c .before .before .before .before .before .loop-test
 
 loop-again : tie.Need-loop-again Inv-loop μ-loop
 loop-again c =
-    let loop-test = c .before .before .before .before .before .loop-test in
-    let s = c .before .before .before .before .before .before .before .before .before .before in
-    let l = c .before .before .before .before .before .before .loop in
+    let at-block-box = c .before .before .before in
+    let at-loop-test = at-block-box .before .before in
+    let at-loop = at-loop-test .before in
+    let s = at-loop .before .before .before .before in
+    let loop-test = at-loop-test .loop-test in
+    let l = at-loop .loop in
     let m = s .args .n / 4 in
     let h : l .q < blockCount (s .args .n) = omega (arith, l .inv .0, loop-test .taken) in
     let f = right (s .args .n) (s .args .grid .now) (s .args .totals .now) in
-    let e = c .before .before .box-marks .ensures .0 ∙ ap (marksIn (s .args .n) (s .args .grid .now)) (c .before .before .before .block-box .ensures) in
+    let e = c .before .before .box-marks .ensures .0 ∙ ap (marksIn (s .args .n) (s .args .grid .now)) (at-block-box .block-box .ensures) in
     let r = all-more f m (l .q) (l .c) (l .inv .3) h (rw (l .inv .3 .is, sym e) (eq-eqb _ _ (c .before .if1 .left))) in (
       l .inv .0,
       l .inv .1,

@@ -40,11 +40,15 @@ point-count-requires c κs = let m = cells-most (c .before .before .before .befo
 returns-3 : tie.Need-returns-3
 unfolding tableRows trueCall
 returns-3 c =
-    let cells = c .before .before .before .before .cells in
-    let l = c .before .before .before .before .before .before .l in
-    let read = c .before .before .before .before .before .before .before .before .read in
+    let at-points = c .before .before .before in
+    let at-cells = at-points .before in
+    let at-l = at-cells .before .before in
+    let at-read = at-l .before .before in
+    let cells = at-cells .cells in
+    let l = at-l .l in
+    let read = at-read .read in
     let v = read-known _ _ (sym (read .ensures) ∙ l .given .1) in
-    let g = le-ltb _ _ (rw (c .before .before .before .points .ensures) at (c .before .before .if1 .left)) in
+    let g = le-ltb _ _ (rw (at-points .points .ensures) at (c .before .before .if1 .left)) in
     let t = lt-ltb _ _ (rw (c .before .point-count .ensures .0, cells .ensures) at (c .if2 .taken)) in
     simp (v .0, v .1, g, t)
 
@@ -63,14 +67,20 @@ answer-requires c κs = search needs
 returns-4 : tie.Need-returns-4
 unfolding tableRows trueCall
 returns-4 c =
-    let if1 = c .before .before .before .before .if1 in
-    let points = c .before .before .before .before .before .points in
-    let cells = c .before .before .before .before .before .before .cells in
-    let l = c .before .before .before .before .before .before .before .before .l in
-    let read = c .before .before .before .before .before .before .before .before .before .before .read in
+    let at-point-count = c .before .before .before in
+    let at-if1 = at-point-count .before in
+    let at-points = at-if1 .before in
+    let at-cells = at-points .before in
+    let at-l = at-cells .before .before in
+    let at-read = at-l .before .before in
+    let if1 = at-if1 .if1 in
+    let points = at-points .points in
+    let cells = at-cells .cells in
+    let l = at-l .l in
+    let read = at-read .read in
     let v = read-known _ _ (sym (read .ensures) ∙ l .given .1) in
     let g = le-ltb _ _ (rw (points .ensures) at (if1 .left)) in
-    let t = le-ltb _ _ (rw (c .before .before .before .point-count .ensures .0, cells .ensures) at (c .before .before .if2 .left)) in
+    let t = le-ltb _ _ (rw (at-point-count .point-count .ensures .0, cells .ensures) at (c .before .before .if2 .left)) in
     simp (v .0, v .1, g, t) (c .answer .ensures ∙ ap said (rw (cells .ensures) at (c .before .is-true .ensures)))
 
 pub totals-true-spec : {M : Type 1} → statement M

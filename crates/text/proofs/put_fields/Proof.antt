@@ -15,9 +15,10 @@ put-field-requires c κs =
 
 put-field-requires-2 : tie.Need-put-field-requires-2
 put-field-requires-2 c κs =
-    let start = c .before .before .before .before .before .before .before .before in
-    let a = c .before .before .before .before .before .before .before .before .args in
-    let p = c .before .before .before .put-field in
+    let at-put-field = c .before .before .before in
+    let start = at-put-field .before .before .before .before .before in
+    let a = start .args in
+    let p = at-put-field .put-field in
     omega (arith, start .pre, length-append (a .text .now ++ decimal (a .n)) (a .second .now ++ decimal (a .m)), p .ensures .place, p .kept .0)
 
 same-length : tie.Need-same-length

@@ -14,8 +14,8 @@ use Rattle.text.proofs.put_signed.Statement.{statement}
 use Rattle.text.proofs.put_signed.Tie as tie
 
 -- below zero, and not
-low : (c : tie.Then1) → ltZ (c .before .before .args .z) (pos 0) ≡ true
-low c = rw (toZ-ofZ w32 _ (c .before .before .fits .z)) at (c .if1 .taken)
+below-zero : (c : tie.Then1) → ltZ (c .before .before .args .z) (pos 0) ≡ true
+below-zero c = rw (toZ-ofZ w32 _ (c .before .before .fits .z)) at (c .if1 .taken)
 
 held : (c : tie.Else1) → toZ w32 (ofZ w32 (c .before .before .args .z)) ≡ pos (natAbs (c .before .before .args .z))
 held c = let e = toZ-ofZ w32 _ (c .before .before .fits .z) in e ∙ signed-plus (c .before .before .args .z) (rw e at (c .if1 .left))
@@ -33,7 +33,7 @@ minus-requires c κs = search needs
 put-field-requires : tie.Need-put-field-requires
 put-field-requires c κs =
     let s = c .before .before .before .before .before in
-    let e = rw (signed-minus (s .args .z) (low (c .before .before .before))) at (s .pre) in
+    let e = rw (signed-minus (s .args .z) (below-zero (c .before .before .before))) at (s .pre) in
     rw (c .minus .ensures, toZ-ofZ w32 _ (s .fits .z)) (omega (arith, e))
 
 same-length : tie.Need-same-length
@@ -43,7 +43,7 @@ returns : tie.Need-returns
 returns c =
     let c6 = c .before .before .before .before .before .before in
     let s = c6 .before .before in
-    rw (signed-minus (s .args .z) (low (c .before .before .before .before .before .before))) (rw (
+    rw (signed-minus (s .args .z) (below-zero (c .before .before .before .before .before .before))) (rw (
       c .before .before .before .minus .ensures,
       toZ-ofZ w32 _ (s .fits .z),
     ) at (c .before .before .put-field .ensures))

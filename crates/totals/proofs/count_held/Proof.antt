@@ -46,25 +46,30 @@ shared-slice-read-hold c = omega (
 
 hold-requires : tie.Need-hold-requires Inv-loop μ-loop
 hold-requires c κs =
-    let s = c .before .before .before .before .before .before .before .before .before .before .before in
-    let l = c .before .before .before .loop in
+    let at-loop = c .before .before .before in
+    let at-clear-totals = at-loop .before .before .before .before in
+    let s = at-clear-totals .before .before .before .before in
+    let l = at-loop .loop in
     let h : l .p < pointCount (s .args .n) = omega (arith, l .inv .0, c .before .before .loop-test .taken) in
     let e = ap (λ (i : ℕ). byteMarks (getD (s .args .grid .now) i 0)) (sym (l .inv .2 .is)) in record {
       small = s .pre .0 .small;
       on-grid = at-grid _ (l .p) (l .q) (l .inv .2) h;
-      table-long = omega (arith, l .inv .3 .long, c .before .before .before .before .before .before .before .clear-totals .kept .1 .0, s .pre .1);
+      table-long = omega (arith, l .inv .3 .long, at-clear-totals .clear-totals .kept .1 .0, s .pre .1);
       total-room = scan-room (s .args .n) _ _ (l .table) (l .p) (l .inv .3)
-          (omega (arith, c .before .before .before .before .before .before .before .clear-totals .kept .1 .0, s .pre .1)) (l .q) (l .inv .2) h _ e
+          (omega (arith, at-clear-totals .clear-totals .kept .1 .0, s .pre .1)) (l .q) (l .inv .2) h _ e
           (at-most (s .args .n) (s .args .grid .now));
     }
 
 next-point-requires : tie.Need-next-point-requires Inv-loop μ-loop
 next-point-requires c κs =
-    let l = c .before .before .before .before .before .before .loop in
+    let at-loop-test = c .before .before .before .before .before in
+    let at-loop = at-loop-test .before in
+    let start = at-loop .before .before .before .before .before .before .before .before in
+    let l = at-loop .loop in
     let h : l .p < pointCount
-    (c .before .before .before .before .before .before .before .before .before .before .before .before .before .before .args .n) = omega
-    (arith, l .inv .0, c .before .before .before .before .before .loop-test .taken) in (
-      c .before .before .before .before .before .before .before .before .before .before .before .before .before .before .pre .0 .small,
+    (start .args .n) = omega
+    (arith, l .inv .0, at-loop-test .loop-test .taken) in (
+      start .pre .0 .small,
       at-grid _ (l .p) (l .q)
           (l .inv .2) h,
     )
@@ -81,18 +86,22 @@ loop-less c = omega (arith, c .before .before .before .before .before .before .l
 
 loop-again : tie.Need-loop-again Inv-loop μ-loop
 loop-again c =
-    let s = c .before .before .before .before .before .before .before .before .before .before .before .before .before .before .before in
-    let l = c .before .before .before .before .before .before .before .loop in
-    let h : l .p < pointCount (s .args .n) = omega (arith, l .inv .0, c .before .before .before .before .before .before .loop-test .taken) in
+    let at-hold = c .before .before .before in
+    let at-loop-test = at-hold .before .before .before in
+    let at-loop = at-loop-test .before in
+    let at-clear-totals = at-loop .before .before .before .before in
+    let s = at-clear-totals .before .before .before .before in
+    let l = at-loop .loop in
+    let h : l .p < pointCount (s .args .n) = omega (arith, l .inv .0, at-loop-test .loop-test .taken) in
     let e = ap (λ (i : ℕ). byteMarks (getD (s .args .grid .now) i 0)) (sym (l .inv .2 .is)) in (
       l .inv .0,
-      omega (arith, c .before .before .before .before .before .before .loop-test .taken),
+      omega (arith, at-loop-test .loop-test .taken),
       rw (add-one, c .next-point .ensures) (at-next _ (l .p) (l .q) (l .inv .2) h),
-      rw (add-one, c .before .before .before .hold .ensures)
+      rw (add-one, at-hold .hold .ensures)
           (scan-on (s .args .n) _ _ (l .table) (l .p) (l .inv .3)
           (omega (
             arith,
-            c .before .before .before .before .before .before .before .before .before .before .before .clear-totals .kept .1 .0,
+            at-clear-totals .clear-totals .kept .1 .0,
             s .pre .1,
           )) (l .q) (l .inv .2) h _ e),
     )
@@ -102,12 +111,13 @@ same-length c = c .before .loop .inv .3 .long ∙ c .before .before .before .bef
 
 returns : tie.Need-returns Inv-loop μ-loop
 returns c =
-    let s = c .before .before .before .before .before .before .before .before .before in
+    let at-clear-totals = c .before .before .before .before .before in
+    let s = at-clear-totals .before .before .before .before in
     let l = c .before .loop in
     let g = s .args .grid .now in
-    scan-end (s .args .n) g _ (l .table) (l .p) (omega (arith, c .before .before .before .before .before .clear-totals .kept .1 .0, s .pre .1))
+    scan-end (s .args .n) g _ (l .table) (l .p) (omega (arith, at-clear-totals .clear-totals .kept .1 .0, s .pre .1))
     (omega (arith, l .inv .0, c .loop-test .left)) (l .inv .3)
-    ∙ ap (trued (s .args .n) g) (c .before .before .before .before .before .clear-totals .ensures) ∙ scan-trued (s .args .n) (s .args .table .now)
+    ∙ ap (trued (s .args .n) g) (at-clear-totals .clear-totals .ensures) ∙ scan-trued (s .args .n) (s .args .table .now)
     (s .pre .1) g
 
 pub count-held-spec : {M : Type 1} → statement M

@@ -53,9 +53,11 @@ add-result c = search needs
 returns : tie.Need-returns
 unfolding rowMarks
 returns c =
-    let s = c .before .before .before .before .before .before .before .before .before in
-    let p = c .before .before .before .before .before .before .marks-of .ensures in
-    let q = c .before .before .before .before .marks-of2 .ensures in
+    let at-marks-of2 = c .before .before .before .before in
+    let at-marks-of = at-marks-of2 .before .before in
+    let s = at-marks-of .before .before .before in
+    let p = at-marks-of .marks-of .ensures in
+    let q = at-marks-of2 .marks-of2 .ensures in
     let r = c .before .before .marks-of3 .ensures in
     let t = c .marks-of4 .ensures in
     (sum-four (λ i. byteMarks (getD (s .args .grid .now) i 0)) (s .args .from) _ _ _ _ (p .0) (q .0) (r .0) (t .0), omega (arith, p .1, q .1, r .1, t .1))

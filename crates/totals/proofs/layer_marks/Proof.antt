@@ -35,10 +35,12 @@ sub-row-marks c = search needs
 
 row-marks-requires : tie.Need-row-marks-requires Inv-loop μ-loop
 row-marks-requires c κs =
-    let s = c .before .before .before .before .before .before .before .before .before in
+    let at-if1 = c .before .before .before in
+    let at-loop = at-if1 .before .before in
+    let s = at-loop .before .before .before .before in
     let f = s .pre .box-small in
-    let r = row-fits (s .args .n) (s .args .b) (s .args .grid .now) (c .before .before .before .before .before .loop .j) (s .args .k) (s .pre .sized .small)
-    (s .pre .sized .long) f (c .before .before .before .if1 .taken) (s .pre .layer) in
+    let r = row-fits (s .args .n) (s .args .b) (s .args .grid .now) (at-loop .loop .j) (s .args .k) (s .pre .sized .small)
+    (s .pre .sized .long) f (at-if1 .if1 .taken) (s .pre .layer) in
     record {
       count-most = omega (arith, f .x4, f .xs);
       from-most = rw (c .before .before .number-of .ensures .0) (r .0);
@@ -62,15 +64,18 @@ loop-less c = omega (arith, c .before .before .before .before .if1 .taken)
 
 loop-again : tie.Need-loop-again Inv-loop μ-loop
 loop-again c =
-    let q = c .before .before .before .before .before .before .loop in
-    let s = c .before .before .before .before .before .before .before .before .before .before in
+    let at-number-of = c .before .before .before in
+    let at-if1 = at-number-of .before in
+    let at-loop = at-if1 .before .before in
+    let s = at-loop .before .before .before .before in
+    let q = at-loop .loop in
     let m = c .row-marks .ensures in
-    let e = m .0 ∙ ap (λ (i : ℕ). rowMarks (s .args .grid .now) i (side (s .args .b) X)) (c .before .before .before .number-of .ensures .0) in (
+    let e = m .0 ∙ ap (λ (i : ℕ). rowMarks (s .args .grid .now) i (side (s .args .b) X)) (at-number-of .number-of .ensures .0) in (
       omega arith,
-      omega (arith, c .before .before .before .before .if1 .taken),
+      omega (arith, at-if1 .if1 .taken),
       omega (arith, m .1),
       rw e (sum-on (boxRow (s .args .n) (s .args .grid .now) (s .args .b) (s .args .k)) (s .args .b .hi .j) (q .held) (q .j) _
-          (c .before .before .before .before .if1 .taken) (q .inv .3)),
+          (at-if1 .if1 .taken) (q .inv .3)),
     )
 
 returns : tie.Need-returns Inv-loop μ-loop

@@ -73,15 +73,21 @@ good-is : (n p : ℕ) (g : List ℕ) (q : Point) → At n p q → goodByte n g q
 good-is n p g q a = ap (λ (i : ℕ). byteFits n (getD g i 0) q) (a .is)
 
 same-length : tie.Need-same-length Inv-loop μ-loop
-same-length c = c .before .before .before .before .loop .inv .6 .long
-    ∙ c .before .before .before .before .before .before .before .before .clear-totals .kept .1 .0
+same-length c =
+    let at-loop = c .before .before .before .before in
+    let at-clear-totals = at-loop .before .before .before .before in
+    at-loop .loop .inv .6 .long
+    ∙ at-clear-totals .clear-totals .kept .1 .0
 
 returns : tie.Need-returns Inv-loop μ-loop
 returns c =
-    let l = c .before .before .before .before .loop in
-    let n = c .before .before .before .before .before .before .before .before .before .before .before .before .args .n in
-    let g = c .before .before .before .before .before .before .before .before .before .before .before .before .args .grid .now in
-    let h : l .p < pointCount n = omega (arith, l .inv .0, c .before .before .before .loop-test .taken) in
+    let at-loop-test = c .before .before .before in
+    let at-loop = at-loop-test .before in
+    let start = at-loop .before .before .before .before .before .before .before .before in
+    let l = at-loop .loop in
+    let n = start .args .n in
+    let g = start .args .grid .now in
+    let h : l .p < pointCount n = omega (arith, l .inv .0, at-loop-test .loop-test .taken) in
     let e = good-is _ (l .p) g (l .q) (l .inv .2) ∙ fails (c .before .byte-fits .ensures) (c .if1 .taken) in
     let none : isGrid n g ≡ false = sym (l .inv .3) ∙ all-fails (goodByte _ g) _ (l .p) (l .q) (l .inv .2) h e in
     (ap (λ (x : Bool). cond x (Grid (insideCount n g)) NoGrid) (sym none), λ some. absurd (true≢false (sym some ∙ none)))
@@ -116,22 +122,25 @@ shared-slice-read-hold c = omega (
 
 hold-requires : tie.Need-hold-requires Inv-loop μ-loop
 hold-requires c κs =
-    let s = c .before .before .before .before .before .before .before .before .before .before .before .before .before .before .before .before in
-    let l = c .before .before .before .before .before .before .before .before .loop in
-    let h : l .p < pointCount (s .args .n) = omega (arith, l .inv .0, c .before .before .before .before .before .before .before .loop-test .taken) in
+    let at-loop-test = c .before .before .before .before .before .before .before in
+    let at-loop = at-loop-test .before in
+    let at-clear-totals = at-loop .before .before .before .before in
+    let s = at-clear-totals .before .before .before .before in
+    let l = at-loop .loop in
+    let h : l .p < pointCount (s .args .n) = omega (arith, l .inv .0, at-loop-test .loop-test .taken) in
     let e = ap (λ (i : ℕ). byteMarks (getD (s .args .grid .now) i 0)) (sym (l .inv .2 .is)) in record {
       small = s .pre .0 .small;
       on-grid = at-grid _ (l .p) (l .q) (l .inv .2) h;
       table-long = omega (
         arith,
         l .inv .6 .long,
-        c .before .before .before .before .before .before .before .before .before .before .before .before .clear-totals .kept .1 .0,
+        at-clear-totals .clear-totals .kept .1 .0,
         s .pre .1,
       );
       total-room = scan-room (s .args .n) _ _ (l .table) (l .p) (l .inv .6)
           (omega (
             arith,
-            c .before .before .before .before .before .before .before .before .before .before .before .before .clear-totals .kept .1 .0,
+            at-clear-totals .clear-totals .kept .1 .0,
             s .pre .1,
           )) (l .q) (l .inv .2) h _ e (at-most (s .args .n) (s .args .grid .now));
     }
@@ -156,7 +165,11 @@ loop-less c = omega (arith, c .before .before .before .before .before .before .b
 
 loop-again : tie.Need-loop-again Inv-loop μ-loop
 loop-again c =
-    let far = c .before .before .before .before .before .before .before .before .before .before in
+    let at-hold = c .before .before .before in
+    let at-one-inside = at-hold .before .before .before in
+    let at-if1 = at-one-inside .before .before in
+    let at-byte-fits = at-if1 .before in
+    let far = at-byte-fits .before in
     let end = far .before .before .before .before .before .before .before .before .before .before in
     let s = end in
     let l = far .before .before .loop in
@@ -167,10 +180,10 @@ loop-again c =
       l .inv .0,
       far .before .loop-test .taken,
     ) in
-    let e = good-is _ (l .p) g (l .q) (l .inv .2) ∙ holds (c .before .before .before .before .before .before .before .before .before .byte-fits .ensures)
-    (c .before .before .before .before .before .before .before .before .if1 .left) in
+    let e = good-is _ (l .p) g (l .q) (l .inv .2) ∙ holds (at-byte-fits .byte-fits .ensures)
+    (at-if1 .if1 .left) in
     let m = all-more (goodByte _ g) _ (l .p) (l .q) (l .inv .2) h e in
-    let o = c .before .before .before .before .before .before .one-inside .ensures .0 ∙ ap (λ (i : ℕ). value (saysInside (getD g i 0)) 1)
+    let o = at-one-inside .one-inside .ensures .0 ∙ ap (λ (i : ℕ). value (saysInside (getD g i 0)) 1)
     (sym (l .inv .2 .is)) in
     let i = inside-more n g (l .p) (l .q) (l .inv .2) h in
     let b = ap (λ (k : ℕ). byteMarks (getD g k 0)) (sym (l .inv .2 .is)) in (
@@ -178,10 +191,10 @@ loop-again c =
       omega (arith, far .before .loop-test .taken),
       rw (add-one, c .next-point .ensures) (at-next _ (l .p) (l .q) (l .inv .2) h),
       rw add-one (m ∙ l .inv .3),
-      omega (arith, l .inv .4, c .before .before .before .before .before .before .one-inside .ensures .1),
-      rw add-one (let r : l .found + c .before .before .before .before .before .before .one-inside .result + count (inside n g)
+      omega (arith, l .inv .4, at-one-inside .one-inside .ensures .1),
+      rw add-one (let r : l .found + at-one-inside .one-inside .result + count (inside n g)
           (pointsFrom n (suc (l .p))) ≡ insideCount n g = omega (arith, o, i, l .inv .5) in r),
-      rw (add-one, c .before .before .before .hold .ensures)
+      rw (add-one, at-hold .hold .ensures)
           (scan-on n _ _ (l .table) (l .p) (l .inv .6) (omega
           (arith, far .before .before .before .before .before .before .clear-totals .kept .1 .0, s .pre .1)) (l .q) (l .inv .2) h _ b),
     )
@@ -191,7 +204,8 @@ same-length-2 c = c .before .loop .inv .6 .long ∙ c .before .before .before .b
 
 returns-2 : tie.Need-returns-2 Inv-loop μ-loop
 returns-2 c =
-    let s = c .before .before .before .before .before .before .before .before .before in
+    let at-clear-totals = c .before .before .before .before .before in
+    let s = at-clear-totals .before .before .before .before in
     let l = c .before .loop in
     let n = s .args .n in
     let g = s .args .grid .now in
@@ -200,8 +214,8 @@ returns-2 c =
     let f : l .found ≡ insideCount n g = omega (arith, z, l .inv .5) in
     let some : isGrid n g ≡ true = sym (l .inv .3) ∙ all-end (goodByte _ g) _ (l .p) h in (
       ap Grid f ∙ ap (λ (x : Bool). cond x (Grid (insideCount n g)) NoGrid) (sym some),
-      λ _. scan-end n g _ (l .table) (l .p) (omega (arith, c .before .before .before .before .before .clear-totals .kept .1 .0, s .pre .1)) h (l .inv .6)
-          ∙ ap (trued n g) (c .before .before .before .before .before .clear-totals .ensures) ∙ scan-trued n (s .args .table .now) (s .pre .1) g,
+      λ _. scan-end n g _ (l .table) (l .p) (omega (arith, at-clear-totals .clear-totals .kept .1 .0, s .pre .1)) h (l .inv .6)
+          ∙ ap (trued n g) (at-clear-totals .clear-totals .ensures) ∙ scan-trued n (s .args .table .now) (s .pre .1) g,
     )
 
 pub read-held-spec : {M : Type 1} → statement M

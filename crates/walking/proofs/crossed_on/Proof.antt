@@ -67,12 +67,16 @@ shifted-requires-3 c κs =
 
 returns : tie.Need-returns
 returns c =
-    let same = c .before .before .before .before .same in
-    let index = c .before .before .before .before .before .index in
-    let upper-face = c .before .before .before .before .before .before .before .upper-face in
-    let s = c .before .before .before .before .before .before .before .before in
+    let at-same2 = c .before .before .before in
+    let at-same = at-same2 .before in
+    let at-index = at-same .before in
+    let at-upper-face = at-index .before .before in
+    let s = at-upper-face .before in
+    let same = at-same .same in
+    let index = at-index .index in
+    let upper-face = at-upper-face .upper-face in
     crossed-by (s .args .a) _ (upper-face .ensures) (s .args .c) (s .args .f) _ _ _
-    (index .ensures .0) (same .ensures .0) (c .before .before .before .same2 .ensures .0)
+    (index .ensures .0) (same .ensures .0) (at-same2 .same2 .ensures .0)
     _ _ _ (c .before .before .shifted .ensures) (c .before .shifted2 .ensures) (c .shifted3 .ensures)
 
 pub crossed-on-spec : {M : Type 1} → statement M

@@ -30,12 +30,14 @@ loop-holds c = λ w p l f h. h
 
 walk-on-requires : tie.Need-walk-on-requires Inv-loop μ-loop
 walk-on-requires c κs =
-    let enter-told = c .before .before .before .before .before .before .enter in
-    let s = c .before .before .before .before .before .before .before .before .before in
+    let at-single = c .before .before .before in
+    let at-enter = at-single .before .before .before in
+    let s = at-enter .before .before .before in
+    let enter-told = at-enter .enter in
     let w = s .args .work .now in
     let h = c .before .before .loop .inv w (s .args .seed) (s .pre .sized .long) (s .pre .fine)
     (start-from (s .args .n) w (s .args .seed) (s .pre .sized .long) (s .pre .fine) (s .pre .cell) (s .pre .unseen) _ _
-    (c .before .before .before .single .ensures)
+    (at-single .single .ensures)
     (enter-told .ensures)) in
     let r = ready (s .args .n) w (s .args .seed) (s .pre .sized .long) (s .pre .fine) (s .pre .sized .small) _ h (c .before .loop-test .taken) in
     record {
@@ -48,11 +50,15 @@ walk-on-requires c κs =
 
 loop-less : tie.Need-loop-less Inv-loop μ-loop
 loop-less c =
-    let loop-test = c .before .before .before .before .loop-test in
-    let loop-told = c .before .before .before .before .before .loop in
-    let single = c .before .before .before .before .before .before .single in
-    let enter-told = c .before .before .before .before .before .before .before .before .before .enter in
-    let s = c .before .before .before .before .before .before .before .before .before .before .before .before in
+    let at-loop-test = c .before .before .before .before in
+    let at-loop = at-loop-test .before in
+    let at-single = at-loop .before in
+    let at-enter = at-single .before .before .before in
+    let s = at-enter .before .before .before in
+    let loop-test = at-loop-test .loop-test in
+    let loop-told = at-loop .loop in
+    let single = at-single .single in
+    let enter-told = at-enter .enter in
     let w = s .args .work .now in
     let h = loop-told .inv w (s .args .seed) (s .pre .sized .long) (s .pre .fine)
     (start-from (s .args .n) w (s .args .seed) (s .pre .sized .long) (s .pre .fine) (s .pre .cell) (s .pre .unseen) _ _ (single .ensures)
@@ -61,30 +67,36 @@ loop-less c =
 
 loop-again : tie.Need-loop-again Inv-loop μ-loop
 loop-again c =
-    let loop-test = c .before .before .before .before .loop-test in
-    let loop-told = c .before .before .before .before .before .loop in
-    let start = c .before .before .before .before .before .before .before .before .before .before .before .before in
+    let at-loop-test = c .before .before .before .before in
+    let at-loop = at-loop-test .before in
+    let start = at-loop .before .before .before .before .before .before .before in
+    let loop-test = at-loop-test .loop-test in
+    let loop-told = at-loop .loop in
     λ w p l f h. step-from (start .args .n) w p l f _ _ (c .before .before .walk-on .ensures) (loop-told .inv w p l f h) (loop-test .taken) .0
 
 same-length : tie.Need-same-length Inv-loop μ-loop
 same-length c =
-    let enter-told = c .before .before .before .before .before .before .enter in
-    let s = c .before .before .before .before .before .before .before .before .before in
+    let at-single = c .before .before .before in
+    let at-enter = at-single .before .before .before in
+    let s = at-enter .before .before .before in
+    let enter-told = at-enter .enter in
     let w = s .args .work .now in
     let h = c .before .before .loop .inv w (s .args .seed) (s .pre .sized .long) (s .pre .fine)
     (start-from (s .args .n) w (s .args .seed) (s .pre .sized .long) (s .pre .fine) (s .pre .cell) (s .pre .unseen) _ _
-    (c .before .before .before .single .ensures)
+    (at-single .single .ensures)
     (enter-told .ensures)) in
     h .long
 
 returns : tie.Need-returns Inv-loop μ-loop
 returns c =
-    let enter-told = c .before .before .before .before .before .before .enter in
-    let s = c .before .before .before .before .before .before .before .before .before in
+    let at-single = c .before .before .before in
+    let at-enter = at-single .before .before .before in
+    let s = at-enter .before .before .before in
+    let enter-told = at-enter .enter in
     let w = s .args .work .now in
     let h = c .before .before .loop .inv w (s .args .seed) (s .pre .sized .long) (s .pre .fine)
     (start-from (s .args .n) w (s .args .seed) (s .pre .sized .long) (s .pre .fine) (s .pre .cell) (s .pre .unseen) _ _
-    (c .before .before .before .single .ensures)
+    (at-single .single .ensures)
     (enter-told .ensures)) in
     h .off (c .before .loop-test .left)
 

@@ -70,16 +70,20 @@ seen-bit-requires c κs = search needs
 
 returns : tie.Need-returns
 returns c =
-    let odd-bit = c .before .before .before .before .odd-bit in
-    let number-of = c .before .before .before .before .before .before .number-of in
-    let s = c .before .before .before .before .before .before .before .before .before in
-    let e = c .before .before .before .before .before .before .before .face-rule .ensures in
+    let at-if1 = c .before .before .before in
+    let at-odd-bit = at-if1 .before in
+    let at-number-of = at-odd-bit .before .before in
+    let at-face-rule = at-number-of .before in
+    let s = at-face-rule .before .before in
+    let odd-bit = at-odd-bit .odd-bit in
+    let number-of = at-number-of .number-of in
+    let e = at-face-rule .face-rule .ensures in
     let p = face-number (s .args .n) (s .args .work .now) (s .args .at) (s .args .f) (s .pre .cell) (s .pre .fine) (s .pre .face) _ e _
     (number-of .ensures .0) in
     let o = odd-bit .ensures .0 ∙ ap (λ (x : Bool). value x 1)
     (odd-is (s .args .n) (s .args .work .now) (s .args .at) (s .args .f) (s .pre .cell) (s .pre .fine) (s .pre .face) _ e _ p) in
     open-lower (s .args .n) (s .args .work .now) (s .args .at) (s .args .f) (s .pre .cell) (s .pre .fine) (s .pre .face) _ e
-    (c .before .before .before .if1 .taken) _ _ _ _ o (c .before .before .step .ensures) refl (c .seen-bit .ensures)
+    (at-if1 .if1 .taken) _ _ _ _ o (c .before .before .step .ensures) refl (c .seen-bit .ensures)
 
 shared-slice-read-seen-bit-2 : tie.Need-shared-slice-read-seen-bit-2
 shared-slice-read-seen-bit-2 c =
@@ -94,12 +98,15 @@ seen-bit-requires-2 c κs = search needs
 
 returns-2 : tie.Need-returns-2
 returns-2 c =
-    let number-of = c .before .before .before .before .before .number-of in
-    let s = c .before .before .before .before .before .before .before .before in
-    let e = c .before .before .before .before .before .before .face-rule .ensures in
+    let at-odd-bit = c .before .before .before in
+    let at-number-of = at-odd-bit .before .before in
+    let at-face-rule = at-number-of .before in
+    let s = at-face-rule .before .before in
+    let number-of = at-number-of .number-of in
+    let e = at-face-rule .face-rule .ensures in
     let p = face-number (s .args .n) (s .args .work .now) (s .args .at) (s .args .f) (s .pre .cell) (s .pre .fine) (s .pre .face) _ e _
     (number-of .ensures .0) in
-    let o = c .before .before .before .odd-bit .ensures .0 ∙ ap (λ (x : Bool). value x 1)
+    let o = at-odd-bit .odd-bit .ensures .0 ∙ ap (λ (x : Bool). value x 1)
     (odd-is (s .args .n) (s .args .work .now) (s .args .at) (s .args .f) (s .pre .cell) (s .pre .fine) (s .pre .face) _ e _ p) in
     open-upper (s .args .n) (s .args .work .now) (s .args .at) (s .args .f) (s .pre .cell) (s .pre .fine) (s .pre .face) (c .before .before .if1 .left) _ _ _ o
     p (c .seen-bit2 .ensures)

@@ -34,10 +34,12 @@ across-requires c κs =
 
 enter-requires : tie.Need-enter-requires
 enter-requires c κs =
+    let at-next-face = c .before .before .before in
+    let at-number-of = at-next-face .before in
+    let s = at-number-of .before .before .before .before .before in
     let if1 = c .before .before .if1 in
-    let number-of = c .before .before .before .before .number-of in
-    let s = c .before .before .before .before .before .before .before .before .before in
-    let f = first-of _ _ _ _ _ (s .pre .cell) (number-of .ensures .0) (c .before .before .before .next-face .ensures) in
+    let number-of = at-number-of .number-of in
+    let f = first-of _ _ _ _ _ (s .pre .cell) (number-of .ensures .0) (at-next-face .next-face .ensures) in
     record {
       sized = s .pre .sized;
       on-grid = across-grid _ _ _ _ (if1 .taken) (s .pre .cell) (open-inside _ _ _ _ f (if1 .taken)) (c .before .across .ensures);
@@ -46,11 +48,15 @@ enter-requires c κs =
 
 widen-requires : tie.Need-widen-requires
 widen-requires c κs =
-    let across = c .before .before .before .before .across in
-    let if1 = c .before .before .before .before .before .if1 in
-    let next-face = c .before .before .before .before .before .before .next-face in
-    let number-of = c .before .before .before .before .before .before .before .number-of in
-    let s = c .before .before .before .before .before .before .before .before .before .before .before .before in
+    let at-across = c .before .before .before .before in
+    let at-if1 = at-across .before in
+    let at-next-face = at-if1 .before in
+    let at-number-of = at-next-face .before in
+    let s = at-number-of .before .before .before .before .before in
+    let across = at-across .across in
+    let if1 = at-if1 .if1 in
+    let next-face = at-next-face .next-face in
+    let number-of = at-number-of .number-of in
     let f = first-of _ _ _ _ _ (s .pre .cell) (number-of .ensures .0) (next-face .ensures) in
     (s .pre .sized .small, across-grid _ _ _ _ (if1 .taken) (s .pre .cell) (open-inside _ _ _ _ f (if1 .taken)) (across .ensures))
 
@@ -62,13 +68,18 @@ same-length c = search needs
 
 returns : tie.Need-returns
 returns c =
-    let across = c .before .before .before .before .before .across in
-    let if1 = c .before .before .before .before .before .before .if1 in
-    let next-face = c .before .before .before .before .before .before .before .next-face in
-    let number-of = c .before .before .before .before .before .before .before .before .number-of in
-    let s = c .before .before .before .before .before .before .before .before .before .before .before .before .before in
+    let at-enter = c .before .before .before in
+    let at-across = at-enter .before .before in
+    let at-if1 = at-across .before in
+    let at-next-face = at-if1 .before in
+    let at-number-of = at-next-face .before in
+    let s = at-number-of .before .before .before .before .before in
+    let across = at-across .across in
+    let if1 = at-if1 .if1 in
+    let next-face = at-next-face .next-face in
+    let number-of = at-number-of .number-of in
     let f = first-of _ _ _ _ _ (s .pre .cell) (number-of .ensures .0) (next-face .ensures) in
-    step-push _ _ _ _ _ f _ _ _ (if1 .taken) (across .ensures) (c .before .before .before .enter .ensures) (c .widen .ensures)
+    step-push _ _ _ _ _ f _ _ _ (if1 .taken) (across .ensures) (at-enter .enter .ensures) (c .widen .ensures)
 
 leave-requires : tie.Need-leave-requires
 leave-requires c κs =
@@ -80,22 +91,29 @@ same-length-2 c = search needs
 
 returns-2 : tie.Need-returns-2
 returns-2 c =
-    let if1 = c .before .before .before .before .before .if1 in
-    let next-face = c .before .before .before .before .before .before .next-face in
-    let number-of = c .before .before .before .before .before .before .before .number-of in
-    let s = c .before .before .before .before .before .before .before .before .before .before .before .before in
+    let at-leave = c .before .before .before in
+    let at-if1 = at-leave .before .before in
+    let at-next-face = at-if1 .before in
+    let at-number-of = at-next-face .before in
+    let s = at-number-of .before .before .before .before .before in
+    let if1 = at-if1 .if1 in
+    let next-face = at-next-face .next-face in
+    let number-of = at-number-of .number-of in
     let f = first-of _ _ _ _ _ (s .pre .cell) (number-of .ensures .0) (next-face .ensures) in
-    step-stop _ _ _ _ _ f _ (if1 .left) (c .if2 .taken) (c .before .before .before .leave .ensures .1)
+    step-stop _ _ _ _ _ f _ (if1 .left) (c .if2 .taken) (at-leave .leave .ensures .1)
 
 opposite-face-requires : tie.Need-opposite-face-requires
 opposite-face-requires c κs =
-    let start = c .before .before .before .before .before .before .before .before .before .before .before .before in
-    subst (λ (k : ℕ). k < 6) (sym (c .before .before .before .leave .ensures .0)) (start .pre .way-back (c .if2 .left) .0)
+    let at-leave = c .before .before .before in
+    let start = at-leave .before .before .before .before .before .before .before .before .before in
+    subst (λ (k : ℕ). k < 6) (sym (at-leave .leave .ensures .0)) (start .pre .way-back (c .if2 .left) .0)
 
 across-requires-2 : tie.Need-across-requires-2
 across-requires-2 c κs =
-    let leave = c .before .before .before .before .leave in
-    let s = c .before .before .before .before .before .before .before .before .before .before .before .before .before in record {
+    let at-leave = c .before .before .before .before in
+    let s = at-leave .before .before .before .before .before .before .before .before .before in
+    let leave = at-leave .leave in
+    record {
       small = s .pre .sized .small;
       cell = s .pre .cell;
       face = c .opposite-face .ensures .1;
@@ -111,11 +129,15 @@ same-length-3 c = search needs
 
 returns-3 : tie.Need-returns-3
 returns-3 c =
-    let leave = c .before .before .before .before .before .leave in
-    let if1 = c .before .before .before .before .before .before .before .if1 in
-    let next-face = c .before .before .before .before .before .before .before .before .next-face in
-    let number-of = c .before .before .before .before .before .before .before .before .before .number-of in
-    let s = c .before .before .before .before .before .before .before .before .before .before .before .before .before .before in
+    let at-leave = c .before .before .before .before .before in
+    let at-if1 = at-leave .before .before in
+    let at-next-face = at-if1 .before in
+    let at-number-of = at-next-face .before in
+    let s = at-number-of .before .before .before .before .before in
+    let leave = at-leave .leave in
+    let if1 = at-if1 .if1 in
+    let next-face = at-next-face .next-face in
+    let number-of = at-number-of .number-of in
     let f = first-of _ _ _ _ _ (s .pre .cell) (number-of .ensures .0) (next-face .ensures) in
     step-pop _ _ _ _ _ f _ _ (if1 .left) (c .before .before .if2 .left)
     (c .across2 .ensures ∙ ap (λ (k : ℕ). acrossOf k (s .args .s .cell)) (c .before .opposite-face .ensures .0 ∙ ap opposite (leave .ensures .0)))

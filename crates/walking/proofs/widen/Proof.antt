@@ -33,10 +33,14 @@ most-requires-3 c κs = search needs
 
 returns : tie.Need-returns
 returns c =
-    let most = c .before .before .before .before .most in
-    let least3 = c .before .before .before .before .before .before .least3 in
-    let least2 = c .before .before .before .before .before .before .before .least2 in
-    let least = c .before .before .before .before .before .before .before .before .least in
+    let at-most = c .before .before .before .before in
+    let at-least3 = at-most .before .before in
+    let at-least2 = at-least3 .before in
+    let at-least = at-least2 .before in
+    let most = at-most .most in
+    let least3 = at-least3 .least3 in
+    let least2 = at-least2 .least2 in
+    let least = at-least .least in
     rw (least .ensures, least2 .ensures, least3 .ensures, most .ensures, c .before .before .most2 .ensures, c .most3 .ensures) (simp add-one)
 
 pub widen-spec : {M : Type 1} → statement M

@@ -38,12 +38,13 @@ inside-end-requires c κs =
 
 say-inside-requires : tie.Need-say-inside-requires
 say-inside-requires c κs =
-    let start = c .before .before .before .before .before .before .before .before .before .before .before in
+    let at-turn = c .before .before .before .before in
+    let start = at-turn .before .before .before .before .before .before .before in
     let n = start .args .n in
     let e = end-grid n (start .args .inside) (start .args .a) (start .args .p) (start .pre .1) in (
       record {
         small = start .pre .0 .small;
-        long = subst (λ (k : ℕ). pointCount n ≤ k) (sym (c .before .before .before .before .turn .kept .0))
+        long = subst (λ (k : ℕ). pointCount n ≤ k) (sym (at-turn .turn .kept .0))
             (start .pre .0 .long);
       },
       subst (OfGrid n) (sym (c .before .inside-end .ensures)) e,
@@ -54,12 +55,17 @@ same-length-2 c = search needs
 
 returns-2 : tie.Need-returns-2
 returns-2 c =
-    let inside-end = c .before .before .before .before .inside-end in
-    let turn = c .before .before .before .before .before .before .before .turn in
-    let number-of = c .before .before .before .before .before .before .before .before .before .number-of in
-    let if1 = c .before .before .before .before .before .before .before .before .before .before .if1 in
-    let member = c .before .before .before .before .before .before .before .before .before .before .before .member in
-    let start = c .before .before .before .before .before .before .before .before .before .before .before .before .before .before in
+    let at-inside-end = c .before .before .before .before in
+    let at-turn = at-inside-end .before .before .before in
+    let at-number-of = at-turn .before .before in
+    let at-if1 = at-number-of .before in
+    let at-member = at-if1 .before in
+    let start = at-member .before .before .before in
+    let inside-end = at-inside-end .inside-end in
+    let turn = at-turn .turn in
+    let number-of = at-number-of .number-of in
+    let if1 = at-if1 .if1 in
+    let member = at-member .member in
     place-yes (start .args .n) (start .args .inside) (start .args .a) (start .args .p) _ _ _ _ _
     (sym (member .ensures) ∙ if1 .left)
     (number-of .ensures .0)

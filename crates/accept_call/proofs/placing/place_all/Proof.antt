@@ -82,9 +82,11 @@ mul-read-4 c = search needs
 
 shared-slice-read-read-4 : tie.Need-shared-slice-read-read-4 Inv-loop μ-loop
 shared-slice-read-read-4 c =
-    let start = c .before .before .before .before .before .before .before .before in
-    let l = c .before .before .before .before .before .loop in
-    let h : l .at + 4 ≤ length (start .args .list .now) = room _ _ (c .before .before .before .before .loop-test .taken) (l .inv .1) (start .pre .fours) in
+    let at-loop-test = c .before .before .before .before in
+    let at-loop = at-loop-test .before in
+    let start = at-loop .before .before .before in
+    let l = at-loop .loop in
+    let h : l .at + 4 ≤ length (start .args .list .now) = room _ _ (at-loop-test .loop-test .taken) (l .inv .1) (start .pre .fours) in
     omega arith
 
 read-requires : tie.Need-read-requires Inv-loop μ-loop
@@ -92,56 +94,71 @@ read-requires c κs = let start = c .before .before .before .before .before .bef
 
 put-requires : tie.Need-put-requires Inv-loop μ-loop
 put-requires c κs =
-    let start = c .before .before .before .before .before .before .before .before .before .before in
-    let l = c .before .before .before .before .before .before .before .loop in (
+    let at-loop = c .before .before .before .before .before .before .before in
+    let start = at-loop .before .before .before in
+    let l = at-loop .loop in (
       sized-kept (l .inv .2) (start .pre .sized),
       subst (InnerOrNothing (start .args .n)) (sym (c .before .read .ensures)) (fits-read (start .args .n) (fourAt (start .args .list .now) (l .at))),
     )
 
 same-length : tie.Need-same-length Inv-loop μ-loop
 same-length c =
-    let l = c .before .before .before .before .before .before .before .before .before .before .before .loop in
-    c .before .before .before .put .kept .1 .1 .0
+    let at-put = c .before .before .before in
+    let at-loop = at-put .before .before .before .before .before .before .before .before in
+    let l = at-loop .loop in
+    at-put .put .kept .1 .1 .0
     ∙ l .inv .2
 
 returns : tie.Need-returns Inv-loop μ-loop
 returns c =
-    let read = c .before .before .before .before .before .read in
-    let loop-test = c .before .before .before .before .before .before .before .before .before .before .loop-test in
-    let start = c .before .before .before .before .before .before .before .before .before .before .before .before .before .before in
-    let l = c .before .before .before .before .before .before .before .before .before .before .before .loop in
+    let at-put = c .before .before .before in
+    let at-read = at-put .before .before in
+    let at-loop-test = at-read .before .before .before .before .before in
+    let at-loop = at-loop-test .before in
+    let start = at-loop .before .before .before in
+    let read = at-read .read in
+    let loop-test = at-loop-test .loop-test in
+    let l = at-loop .loop in
     let h : l .at + 4 ≤ length (start .args .list .now) =
     room _ _ (loop-test .taken) (l .inv .1) (start .pre .fours) in
     placing-off (start .args .n) (fourAt (start .args .list .now) (l .at)) (fours (drop (l .at + 4) (start .args .list .now))) _ _ _ _
-    (read .ensures) (c .before .before .before .put .ensures) (not-true _ (c .if1 .taken))
+    (read .ensures) (at-put .put .ensures) (not-true _ (c .if1 .taken))
     ∙ ap (λ (m : List Four). placing (start .args .n) m (l .work)) (sym (fours-step (start .args .list .now) (l .at) h))
     ∙ l .inv .3
 
 add-at : tie.Need-add-at Inv-loop μ-loop
 add-at c =
-    let loop-test = c .before .before .before .before .before .before .before .before .before .before .loop-test in
-    let start = c .before .before .before .before .before .before .before .before .before .before .before .before .before .before in
-    let l = c .before .before .before .before .before .before .before .before .before .before .before .loop in
+    let at-loop-test = c .before .before .before .before .before .before .before .before .before .before in
+    let at-loop = at-loop-test .before in
+    let start = at-loop .before .before .before in
+    let loop-test = at-loop-test .loop-test in
+    let l = at-loop .loop in
     let h : l .at + 4 ≤ length (start .args .list .now) =
     room _ _ (loop-test .taken) (l .inv .1) (start .pre .fours) in
     omega arith
 
 loop-less : tie.Need-loop-less Inv-loop μ-loop
 loop-less c =
-    let loop-test = c .before .before .before .before .before .before .before .before .before .before .loop-test in
-    let start = c .before .before .before .before .before .before .before .before .before .before .before .before .before .before in
-    let l = c .before .before .before .before .before .before .before .before .before .before .before .loop in
+    let at-loop-test = c .before .before .before .before .before .before .before .before .before .before in
+    let at-loop = at-loop-test .before in
+    let start = at-loop .before .before .before in
+    let loop-test = at-loop-test .loop-test in
+    let l = at-loop .loop in
     let h : l .at + 4 ≤ length (start .args .list .now) =
     room _ _ (loop-test .taken) (l .inv .1) (start .pre .fours) in
     omega arith
 
 loop-again : tie.Need-loop-again Inv-loop μ-loop
 loop-again c =
-    let put = c .before .before .before .put in
-    let read = c .before .before .before .before .before .read in
-    let loop-test = c .before .before .before .before .before .before .before .before .before .before .loop-test in
-    let start = c .before .before .before .before .before .before .before .before .before .before .before .before .before .before in
-    let l = c .before .before .before .before .before .before .before .before .before .before .before .loop in
+    let at-put = c .before .before .before in
+    let at-read = at-put .before .before in
+    let at-loop-test = at-read .before .before .before .before .before in
+    let at-loop = at-loop-test .before in
+    let start = at-loop .before .before .before in
+    let put = at-put .put in
+    let read = at-read .read in
+    let loop-test = at-loop-test .loop-test in
+    let l = at-loop .loop in
     let h : l .at + 4 ≤ length (start .args .list .now) =
     room _ _ (loop-test .taken) (l .inv .1) (start .pre .fours) in (
       h,

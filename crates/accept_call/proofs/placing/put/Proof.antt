@@ -27,9 +27,9 @@ same-length c = search needs
 returns-2 : tie.Need-returns-2
 unfolding putOne
 returns-2 c =
-    let start = c .before .before .before .before .before .before .before .before in
-    c .before .before .place .ensures ∙ sym (ap (λ (x : Reading). putOne (start .args .n) x (start .args .work .now)) (c .before .before .before .before
-    .before .r .given .1))
+    let at-r = c .before .before .before .before .before in
+    let start = at-r .before .before .before in
+    c .before .before .place .ensures ∙ sym (ap (λ (x : Reading). putOne (start .args .n) x (start .args .work .now)) (at-r .r .given .1))
 
 pub put-spec : {M : Type 1} → statement M
 put-spec =

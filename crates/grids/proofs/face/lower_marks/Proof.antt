@@ -102,31 +102,40 @@ face-marks-requires-3 c κs =
 returns : tie.Need-returns
 unfolding edgeRule
 returns c =
-    let edge-rule = c .before .before .before .before .edge-rule in
-    let enum-told-told = c .before .before .before .before .before .enum-told in
-    let s = c .before .before .before .before .before .before .before .before in
+    let at-edge-rule2 = c .before .before .before in
+    let at-edge-rule = at-edge-rule2 .before in
+    let at-enum-told = at-edge-rule .before in
+    let s = at-enum-told .before .before .before in
+    let edge-rule = at-edge-rule .edge-rule in
+    let enum-told-told = at-enum-told .enum-told in
     face-told (s .args .n) (s .args .grid .now) (s .pre .sized .long) (s .pre .is-grid) X (s .args .at) (s .pre .layer) (edge-rule .ensures)
-    (c .before .before .before .edge-rule2 .ensures) (c .before .before .edge-rule3 .ensures) (c .before .edge-rule4 .ensures) (c .face-marks .ensures)
+    (at-edge-rule2 .edge-rule2 .ensures) (c .before .before .edge-rule3 .ensures) (c .before .edge-rule4 .ensures) (c .face-marks .ensures)
     ∙ ap (λ (a : Axis). faceMarks (marks (s .args .n) (s .args .grid .now)) a (pointOf (s .args .n) (s .args .at))) (sym (enum-told-told .given .1))
 
 returns-2 : tie.Need-returns-2
 unfolding edgeRule
 returns-2 c =
-    let edge-rule5 = c .before .before .before .before .edge-rule5 in
-    let enum-told2 = c .before .before .before .before .before .enum-told2 in
-    let s = c .before .before .before .before .before .before .before .before in
+    let at-edge-rule6 = c .before .before .before in
+    let at-edge-rule5 = at-edge-rule6 .before in
+    let at-enum-told2 = at-edge-rule5 .before in
+    let s = at-enum-told2 .before .before .before in
+    let edge-rule5 = at-edge-rule5 .edge-rule5 in
+    let enum-told2 = at-enum-told2 .enum-told2 in
     face-told (s .args .n) (s .args .grid .now) (s .pre .sized .long) (s .pre .is-grid) Y (s .args .at) (s .pre .layer) (edge-rule5 .ensures)
-    (c .before .before .before .edge-rule6 .ensures) (c .before .before .edge-rule7 .ensures) (c .before .edge-rule8 .ensures) (c .face-marks2 .ensures)
+    (at-edge-rule6 .edge-rule6 .ensures) (c .before .before .edge-rule7 .ensures) (c .before .edge-rule8 .ensures) (c .face-marks2 .ensures)
     ∙ ap (λ (a : Axis). faceMarks (marks (s .args .n) (s .args .grid .now)) a (pointOf (s .args .n) (s .args .at))) (sym (enum-told2 .given .1))
 
 returns-3 : tie.Need-returns-3
 unfolding edgeRule
 returns-3 c =
-    let edge-rule9 = c .before .before .before .before .edge-rule9 in
-    let enum-told3 = c .before .before .before .before .before .enum-told3 in
-    let s = c .before .before .before .before .before .before .before .before in
+    let at-edge-rule10 = c .before .before .before in
+    let at-edge-rule9 = at-edge-rule10 .before in
+    let at-enum-told3 = at-edge-rule9 .before in
+    let s = at-enum-told3 .before .before .before in
+    let edge-rule9 = at-edge-rule9 .edge-rule9 in
+    let enum-told3 = at-enum-told3 .enum-told3 in
     face-told (s .args .n) (s .args .grid .now) (s .pre .sized .long) (s .pre .is-grid) Z (s .args .at) (s .pre .layer) (edge-rule9 .ensures)
-    (c .before .before .before .edge-rule10 .ensures) (c .before .before .edge-rule11 .ensures) (c .before .edge-rule12 .ensures) (c .face-marks3 .ensures)
+    (at-edge-rule10 .edge-rule10 .ensures) (c .before .before .edge-rule11 .ensures) (c .before .edge-rule12 .ensures) (c .face-marks3 .ensures)
     ∙ ap (λ (a : Axis). faceMarks (marks (s .args .n) (s .args .grid .now)) a (pointOf (s .args .n) (s .args .at))) (sym (enum-told3 .given .1))
 
 pub lower-marks-spec : {M : Type 1} → statement M

@@ -27,8 +27,9 @@ layer-is-clear-requires c κs =
 
 returns : tie.Need-returns Inv-loop μ-loop
 returns c =
-    let loop-told = c .before .before .before .before .loop in
-    let s = c .before .before .before .before .before .before .before .before in
+    let at-loop = c .before .before .before .before in
+    let s = at-loop .before .before .before .before in
+    let loop-told = at-loop .loop in
     let test = layerClear (s .args .n) (s .args .b) (s .args .work .now) in
     sym (range-fails test (loop-told .k) (s .args .b .hi .k) (c .before .before .if1 .taken)
     (fails (c .before .layer-is-clear .ensures) (c .if2 .taken))) ∙ loop-told .inv
@@ -43,8 +44,9 @@ loop-less c = omega (arith, c .before .before .if1 .taken)
 
 loop-again : tie.Need-loop-again Inv-loop μ-loop
 loop-again c =
-    let loop-told = c .before .before .before .before .loop in
-    let s = c .before .before .before .before .before .before .before .before in
+    let at-loop = c .before .before .before .before in
+    let s = at-loop .before .before .before .before in
+    let loop-told = at-loop .loop in
     let test = layerClear (s .args .n) (s .args .b) (s .args .work .now) in
     rw add-one (range-more test (loop-told .k) (s .args .b .hi .k) (c .before .before .if1 .taken)
     (holds (c .before .layer-is-clear .ensures) (c .if2 .left)) ∙ loop-told .inv)

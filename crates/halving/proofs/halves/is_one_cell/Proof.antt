@@ -14,15 +14,19 @@ sub-if2 : tie.Need-sub-if2
 sub-if2 c = search needs
 
 returns-2 : tie.Need-returns-2
-returns-2 c = one-no-y (c .before .before .before .before .before .before .before .before .args .b) (c .before .before .before .if1 .left) (c .if2 .taken)
+returns-2 c =
+    let at-if1 = c .before .before .before in
+    let start = at-if1 .before .before .before .before .before in
+    one-no-y (start .args .b) (at-if1 .if1 .left) (c .if2 .taken)
 
 sub-result : tie.Need-sub-result
 sub-result c = search needs
 
 returns-3 : tie.Need-returns-3
 returns-3 c =
-    let if1 = c .before .before .before .before .before .if1 in
-    let start = c .before .before .before .before .before .before .before .before .before .before in
+    let at-if1 = c .before .before .before .before .before in
+    let start = at-if1 .before .before .before .before .before in
+    let if1 = at-if1 .if1 in
     one-z (start .args .b) (if1 .left) (c .before .before .if2 .left)
 
 pub is-one-cell-spec : {M : Type 1} → statement M

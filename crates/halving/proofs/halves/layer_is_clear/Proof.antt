@@ -37,21 +37,26 @@ sub-row-is-clear c = search needs
 
 row-is-clear-requires : tie.Need-row-is-clear-requires Inv-loop μ-loop
 row-is-clear-requires c κs =
+    let at-if1 = c .before .before .before in
+    let at-loop = at-if1 .before .before in
+    let s = at-loop .before .before .before .before in
     let number-of = c .before .before .number-of in
-    let loop-told = c .before .before .before .before .before .loop in
-    let s = c .before .before .before .before .before .before .before .before .before in
+    let loop-told = at-loop .loop in
     let f = s .pre .fits in
     let e : number-of .result + side (s .args .b) X ≤ length (s .args .work .now) = rw (number-of .ensures .0)
-    (row-fits (s .args .n) (s .args .b) (s .args .work .now) (loop-told .j) (s .args .k) (s .pre .sized .long) f (c .before .before .before .if1 .taken)
+    (row-fits (s .args .n) (s .args .b) (s .args .work .now) (loop-told .j) (s .args .k) (s .pre .sized .long) f (at-if1 .if1 .taken)
     (s .pre .layer)) in
     (omega (arith, s .pre .sized .small, f .hx), e)
 
 returns : tie.Need-returns Inv-loop μ-loop
 returns c =
-    let number-of = c .before .before .before .before .number-of in
-    let if1 = c .before .before .before .before .before .if1 in
-    let loop-told = c .before .before .before .before .before .before .before .loop in
-    let s = c .before .before .before .before .before .before .before .before .before .before .before in
+    let at-number-of = c .before .before .before .before in
+    let at-if1 = at-number-of .before in
+    let at-loop = at-if1 .before .before in
+    let s = at-loop .before .before .before .before in
+    let number-of = at-number-of .number-of in
+    let if1 = at-if1 .if1 in
+    let loop-told = at-loop .loop in
     let test = boxRowClear (s .args .n) (s .args .b) (s .args .work .now) (s .args .k) in
     let e = ap (λ (i : ℕ). rowClear (s .args .work .now) i (side (s .args .b) X)) (sym (number-of .ensures .0)) ∙ fails
     (c .before .row-is-clear .ensures) (c .if2 .taken) in
@@ -59,18 +64,22 @@ returns c =
 
 add-j : tie.Need-add-j Inv-loop μ-loop
 add-j c =
-    let s = c .before .before .before .before .before .before .before .before .before .before .before in
-    omega (arith, c .before .before .before .before .before .if1 .taken, s .pre .sized .small, s .pre .fits .hy)
+    let at-if1 = c .before .before .before .before .before in
+    let s = at-if1 .before .before .before .before .before .before in
+    omega (arith, at-if1 .if1 .taken, s .pre .sized .small, s .pre .fits .hy)
 
 loop-less : tie.Need-loop-less Inv-loop μ-loop
 loop-less c = omega (arith, c .before .before .before .before .before .if1 .taken)
 
 loop-again : tie.Need-loop-again Inv-loop μ-loop
 loop-again c =
-    let number-of = c .before .before .before .before .number-of in
-    let if1 = c .before .before .before .before .before .if1 in
-    let loop-told = c .before .before .before .before .before .before .before .loop in
-    let s = c .before .before .before .before .before .before .before .before .before .before .before in
+    let at-number-of = c .before .before .before .before in
+    let at-if1 = at-number-of .before in
+    let at-loop = at-if1 .before .before in
+    let s = at-loop .before .before .before .before in
+    let number-of = at-number-of .number-of in
+    let if1 = at-if1 .if1 in
+    let loop-told = at-loop .loop in
     let test = boxRowClear (s .args .n) (s .args .b) (s .args .work .now) (s .args .k) in
     let e = ap (λ (i : ℕ). rowClear (s .args .work .now) i (side (s .args .b) X)) (sym (number-of .ensures .0)) ∙ holds
     (c .before .row-is-clear .ensures) (c .if2 .left) in

@@ -37,45 +37,54 @@ put-body-requires c κs =
 
 put-body-requires-2 : tie.Need-put-body-requires-2
 put-body-requires-2 c κs =
-    let start = c .before .before .before .before .before .before .before .before .before .before .before in
+    let at-put-body = c .before .before .before in
+    let at-behind = at-put-body .before .before .before in
+    let start = at-behind .before .before .before .before .before in
     let w = start .args .w in
     let begin = start .args .start in
-    let behind = c .before .before .before .before .before .before .behind in
+    let behind = at-behind .behind in
     let x = (keep (w .grid) 1 (start .args .grid .now)) in
     let y = (keep (w .triangles) 2 (start .args .triangles .now)) in
     let z = (keep (w .quads) 3 (start .args .quads .now)) in
     let e = end-append begin x (y ++ z) ∙ end-append (endFrom begin x) y z in
     let m = end-grows (endFrom (endFrom begin x) y) z in
     let k = ap (λ (n : ℕ). endFrom n y) (behind .ensures) in
-    omega (arith, start .pre .out-room, e, m, k, c .before .before .before .put-body .kept)
+    omega (arith, start .pre .out-room, e, m, k, at-put-body .put-body .kept)
 
 put-body-requires-3 : tie.Need-put-body-requires-3
 put-body-requires-3 c κs =
-    let start = c .before .before .before .before .before .before .before .before .before .before .before .before .before .before .before in
+    let at-put-body2 = c .before .before .before in
+    let at-put-body = at-put-body2 .before .before .before .before in
+    let at-behind2 = at-put-body .before .before in
+    let at-behind = at-behind2 .before in
+    let start = at-behind .before .before .before .before .before in
     let w = start .args .w in
     let begin = start .args .start in
-    let behind2 = c .before .before .before .before .before .before .before .before .before .behind2 in
-    let behind = c .before .before .before .before .before .before .before .before .before .before .behind in
-    let put-body = c .before .before .before .before .before .before .before .put-body in
+    let behind2 = at-behind2 .behind2 in
+    let behind = at-behind .behind in
+    let put-body = at-put-body .put-body in
     let x = (keep (w .grid) 1 (start .args .grid .now)) in
     let y = (keep (w .triangles) 2 (start .args .triangles .now)) in
     let z = (keep (w .quads) 3 (start .args .quads .now)) in
     let e = end-append begin x (y ++ z) ∙ end-append (endFrom begin x) y z in
     let k = ap (λ (n : ℕ). endFrom n z) (behind2 .ensures ∙ ap (λ (n : ℕ). endFrom n y) (behind .ensures)) in
-    omega (arith, start .pre .out-room, e, k, put-body .kept, c .before .before .before .put-body2 .kept)
+    omega (arith, start .pre .out-room, e, k, put-body .kept, at-put-body2 .put-body2 .kept)
 
 same-length : tie.Need-same-length
 same-length c = search needs
 
 returns : tie.Need-returns
 returns c =
-    let places = c .before .before .before .before .before .before .before .before .before .before .before .before in
+    let at-put-body2 = c .before .before .before .before .before .before in
+    let at-put-body = at-put-body2 .before .before .before .before in
+    let places = at-put-body .before .before in
+    let at-behind = places .before in
     let start = places .before .before .before .before .before .before in
     let w = start .args .w in
-    let behind = c .before .before .before .before .before .before .before .before .before .before .before .before .before .behind in
-    let behind2 = c .before .before .before .before .before .before .before .before .before .before .before .before .behind2 in
-    let put-body = c .before .before .before .before .before .before .before .before .before .before .put-body in
-    let put-body2 = c .before .before .before .before .before .before .put-body2 in
+    let behind = at-behind .behind in
+    let behind2 = places .behind2 in
+    let put-body = at-put-body .put-body in
+    let put-body2 = at-put-body2 .put-body2 in
     joined-put (start .args .start) (behind .result) (behind2 .result) (keep (w .grid) 1 (start .args .grid .now))
     (keep (w .triangles) 2 (start .args .triangles .now)) (keep (w .quads) 3 (start .args .quads .now)) (behind .ensures) (behind2 .ensures)
     (start .args .out .now) _ _ _ (put-body .ensures) (put-body2 .ensures) (c .before .before .put-body3 .ensures)

@@ -76,20 +76,22 @@ add-result c = search needs
 
 same-length : tie.Need-same-length
 same-length c =
-    let start = c .before .before .before .before .before .before .before .before .before .before .before in
+    let at-put-word = c .before .before .before .before .before .before in
+    let start = at-put-word .before .before .before .before .before in
     let kept = length-set (start .args .out .now) (start .args .p) (start .args .kind) in
-    omega (arith, c .before .before .before .before .before .before .put-word .kept, c .before .before .put-word2 .kept, kept)
+    omega (arith, at-put-word .put-word .kept, c .before .before .put-word2 .kept, kept)
 
 returns-2 : tie.Need-returns-2
 returns-2 c =
-    let test = c .before .before .before .before .before .before .before .before in
+    let at-put-word = c .before .before .before .before .before .before in
+    let test = at-put-word .before .before in
     let start = test .before .before .before in
     let out = start .args .out .now in
     let p = start .args .p in
     let at = start .args .at in
     let b : Body = record { kind = start .args .kind; bytes = start .args .bytes .now } in
     let one = lines-one at (start .args .kind) (start .args .wanted) (start .args .bytes .now) (not-false _ (test .if1 .left)) in
-    let offset = c .before .before .before .before .before .before .put-word .ensures in
+    let offset = at-put-word .put-word .ensures in
     let size = c .before .before .put-word2 .ensures in (
       ap (λ (m : ℕ). p + m) (sym (line-bytes start (not-false _ (test .if1 .left)))),
       line-put out _ _ p at b offset size ∙ ap (puts out p) (sym one),

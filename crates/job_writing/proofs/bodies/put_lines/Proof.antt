@@ -34,14 +34,16 @@ put-line-requires c κs =
 
 put-line-requires-2 : tie.Need-put-line-requires-2
 put-line-requires-2 c κs =
-    let start = c .before .before .before .before .before .before .before .before .before .before .before in
+    let at-put-line = c .before .before .before in
+    let at-behind = at-put-line .before .before .before in
+    let start = at-behind .before .before .before .before .before in
     let w = start .args .w in
     let g = start .args .grid .now in
     let t = start .args .triangles .now in
     let q = start .args .quads .now in
     let begin = start .args .start in
-    let behind = c .before .before .before .before .before .before .behind in
-    let put-line = c .before .before .before .put-line in
+    let behind = at-behind .behind in
+    let put-line = at-put-line .put-line in
     let s = second-fits begin w g t q (start .pre .sizes) (behind .result) (behind .ensures) in
     let n = chosen-length (keep (w .grid) 1 g) (keep (w .triangles) 2 t) (keep (w .quads) 3 q) in
     let p = lines-length begin (keep (w .grid) 1 g) in
@@ -55,16 +57,20 @@ put-line-requires-2 c κs =
 
 put-line-requires-3 : tie.Need-put-line-requires-3
 put-line-requires-3 c κs =
-    let start = c .before .before .before .before .before .before .before .before .before .before .before .before .before .before .before in
+    let at-put-line2 = c .before .before .before in
+    let at-put-line = at-put-line2 .before .before .before .before in
+    let at-behind2 = at-put-line .before .before in
+    let at-behind = at-behind2 .before in
+    let start = at-behind .before .before .before .before .before in
     let w = start .args .w in
     let g = start .args .grid .now in
     let t = start .args .triangles .now in
     let q = start .args .quads .now in
     let begin = start .args .start in
-    let behind = c .before .before .before .before .before .before .before .before .before .before .behind in
-    let behind2 = c .before .before .before .before .before .before .before .before .before .behind2 in
-    let put-line = c .before .before .before .before .before .before .before .put-line in
-    let put-line2 = c .before .before .before .put-line2 in
+    let behind = at-behind .behind in
+    let behind2 = at-behind2 .behind2 in
+    let put-line = at-put-line .put-line in
+    let put-line2 = at-put-line2 .put-line2 in
     let u = third-fits begin w g t q (start .pre .sizes) (behind .result) (behind .ensures) (behind2 .result) (behind2 .ensures) in
     let n = chosen-length (keep (w .grid) 1 g) (keep (w .triangles) 2 t) (keep (w .quads) 3 q) in
     let p = lines-length begin (keep (w .grid) 1 g) in
@@ -82,13 +88,16 @@ same-length c = search needs
 
 returns : tie.Need-returns
 returns c =
-    let places = c .before .before .before .before .before .before .before .before .before .before .before .before in
+    let at-put-line2 = c .before .before .before .before .before .before in
+    let at-put-line = at-put-line2 .before .before .before .before in
+    let places = at-put-line .before .before in
+    let at-behind = places .before in
     let start = places .before .before .before .before .before .before in
     let w = start .args .w in
-    let behind = c .before .before .before .before .before .before .before .before .before .before .before .before .before .behind in
-    let behind2 = c .before .before .before .before .before .before .before .before .before .before .before .before .behind2 in
-    let put-line = c .before .before .before .before .before .before .before .before .before .before .put-line in
-    let put-line2 = c .before .before .before .before .before .before .put-line2 in
+    let behind = at-behind .behind in
+    let behind2 = places .behind2 in
+    let put-line = at-put-line .put-line in
+    let put-line2 = at-put-line2 .put-line2 in
     lines-put (start .args .start) (behind .result) (behind2 .result) (keep (w .grid) 1 (start .args .grid .now))
     (keep (w .triangles) 2 (start .args .triangles .now)) (keep (w .quads) 3 (start .args .quads .now)) (behind .ensures) (behind2 .ensures)
     (start .args .out .now) _ _ _ 2 (put-line .result) (put-line2 .result) (put-line .ensures .1) (put-line .ensures .0) (put-line2 .ensures .1)

@@ -17,11 +17,11 @@ most : (c : tie.Start) → natAbs (c .args .v) ≤ 2147483648
 most c = natAbs-le (c .args .v) (c .fits .v .sfits)
 
 -- below zero: one less than the size
-low : (c : tie.Then1) → ltZ (c .before .args .v) (pos 0) ≡ true
-low c = rw (toZ-ofZ w32 _ (c .before .fits .v)) at (c .if1 .taken)
+below-zero : (c : tie.Then1) → ltZ (c .before .args .v) (pos 0) ≡ true
+below-zero c = rw (toZ-ofZ w32 _ (c .before .fits .v)) at (c .if1 .taken)
 
 less : (c : tie.Then1) → negsuc 0 -ℤ toZ w32 (ofZ w32 (c .before .args .v)) ≡ pos (natAbs (c .before .args .v) - 1)
-less c = ap (λ (z : ℤ). negsuc 0 -ℤ z) (toZ-ofZ w32 _ (c .before .fits .v)) ∙ size-less (c .before .args .v) (low c)
+less c = ap (λ (z : ℤ). negsuc 0 -ℤ z) (toZ-ofZ w32 _ (c .before .fits .v)) ∙ size-less (c .before .args .v) (below-zero c)
 
 held : (c : tie.Then1) → toZ w32 (ofZ w32 (negsuc 0 -ℤ toZ w32 (ofZ w32 (c .before .args .v)))) ≡ pos (natAbs (c .before .args .v) - 1)
 held c =
@@ -45,7 +45,7 @@ sub-result-2 : tie.Need-sub-result-2
 sub-result-2 c = let m = most (c .before) in rw (held c) (omega arith)
 
 returns : tie.Need-returns
-returns c = rw (held c) (bits-minus (c .before .args .v) (low c))
+returns c = rw (held c) (bits-minus (c .before .args .v) (below-zero c))
 
 cast-result-2 : tie.Need-cast-result-2
 cast-result-2 c = let m = most (c .before) in rw (plain c) (tt, record { fits = omega arith })

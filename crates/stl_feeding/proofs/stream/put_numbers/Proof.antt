@@ -55,15 +55,18 @@ loop-less c = omega (arith, c .before .before .before .before .before .before .l
 
 loop-again : tie.Need-loop-again Inv-loop μ-loop
 loop-again c =
-    let l = c .before .before .before .before .before .before .before .loop in
-    let a = c .before .before .before .before .before .before .before .before .before .args in
-    let c6 = c .before .before .before .before .before .before in
+    let at-bits = c .before .before .before in
+    let c6 = at-bits .before .before .before in
+    let at-loop = c6 .before in
+    let start = at-loop .before .before in
+    let l = at-loop .loop in
+    let a = start .args in
     let below : l .k < length (a .c .now) = omega (arith, c6 .before .before .before .pre .1, c6 .loop-test .taken) in
     let v : Plain w32 (getD (a .c .now) (l .k) (pos 0)) = search needs in (
-      omega (arith, c .before .before .before .before .before .before .loop-test .taken),
+      omega (arith, c6 .loop-test .taken),
       c .before .before .put-word .kept .0 ∙ l .inv .1,
       words-more (a .out .now) (l .out) _ (a .at) (a .c .now) (l .k) _ below (l .inv .2)
-          (c .before .before .before .bits .ensures ∙ ap bitsOf v) (c .before .before .put-word .ensures),
+          (at-bits .bits .ensures ∙ ap bitsOf v) (c .before .before .put-word .ensures),
     )
 
 same-length : tie.Need-same-length Inv-loop μ-loop

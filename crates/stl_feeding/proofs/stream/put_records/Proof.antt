@@ -105,11 +105,14 @@ part-put-record-end c = omega (arith, c .before .before .loop-test .taken, c .if
 
 put-record-requires : tie.Need-put-record-requires Inv-loop μ-loop
 put-record-requires c κs =
-    let l = c .before .before .before .before .before .loop in
-    let a = c .before .before .before .before .before .before .before .before .args in
+    let at-loop-test = c .before .before .before .before in
+    let at-loop = at-loop-test .before in
+    let start = at-loop .before .before .before in
+    let l = at-loop .loop in
+    let a = start .args in
     let h = c .before .before .if2 .left in
-    let t = c .before .before .before .before .loop-test .taken in
-    let p = c .before .before .before .before .before .before .before .before .pre in
+    let t = at-loop-test .loop-test .taken in
+    let p = start .pre in
     record {
       bytes-long = lent (l .at) (a .block .now) h;
       scale = p .scale;
@@ -123,14 +126,19 @@ same-length-3 c =
 
 returns-3 : tie.Need-returns-3 Inv-loop μ-loop
 returns-3 c =
-    let l = c .before .before .before .before .before .before .before .before .before .loop in
-    let a = c .before .before .before .before .before .before .before .before .before .before .before .before .args in
-    let m = c .before .before .before .put-record in
-    let long = lent (l .at) (a .block .now) (c .before .before .before .before .before .before .if2 .left) in
+    let at-put-record = c .before .before .before in
+    let at-if2 = at-put-record .before .before .before in
+    let at-if1 = at-if2 .before in
+    let at-loop = at-if1 .before .before in
+    let start = at-loop .before .before .before in
+    let l = at-loop .loop in
+    let a = start .args in
+    let m = at-put-record .put-record in
+    let long = lent (l .at) (a .block .now) (at-if2 .if2 .left) in
     record {
       ahead = l .triangles - a .count;
       some = c .if3 .taken;
-      fewer = omega (arith, l .inv .2, l .inv .3, c .before .before .before .before .before .before .before .if1 .left);
+      fewer = omega (arith, l .inv .2, l .inv .3, at-if1 .if1 .left);
       none-refused = l .inv .7;
       refused-by = next-fault _ (a .block .now) _ (l .at) (l .inv .7) (l .inv .1) _ (here (l .at) (a .block .now)) long _ (m .ensures .number-is);
     }
@@ -159,18 +167,24 @@ loop-less c =
 
 loop-again : tie.Need-loop-again Inv-loop μ-loop
 loop-again c =
-    let l = c .before .before .before .before .before .before .before .before .before .loop in
-    let a = c .before .before .before .before .before .before .before .before .before .before .before .before .args in
-    let m = c .before .before .before .put-record in
-    let t = c .before .before .before .before .before .before .before .before .loop-test .taken in
-    let h = c .before .before .before .before .before .before .if2 .left in
+    let at-put-record = c .before .before .before in
+    let at-if2 = at-put-record .before .before .before in
+    let at-if1 = at-if2 .before in
+    let at-loop-test = at-if1 .before in
+    let at-loop = at-loop-test .before in
+    let start = at-loop .before .before .before in
+    let l = at-loop .loop in
+    let a = start .args in
+    let m = at-put-record .put-record in
+    let t = at-loop-test .loop-test .taken in
+    let h = at-if2 .if2 .left in
     let long = lent (l .at) (a .block .now) h in
     let z = c .if3 .left in
     let n : l .triangles + 1 - a .count ≡ suc (l .triangles - a .count) = omega (arith, l .inv .2) in (
       omega (arith, t, h),
       omega (arith, l .inv .1, n),
       omega (arith, l .inv .2),
-      omega (arith, l .inv .3, c .before .before .before .before .before .before .before .if1 .left),
+      omega (arith, l .inv .3, at-if1 .if1 .left),
       omega (arith, l .inv .4, n),
       m .kept .1 .1 .1 .0 ∙ l .inv .5,
       stream-more _ _ (a .out .now) (l .out) _ (a .block .now) _ (l .triangles - a .count) _ (l .at) (l .bytes)

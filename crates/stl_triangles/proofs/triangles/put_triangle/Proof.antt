@@ -47,8 +47,9 @@ add-put-vertex-4 c = search needs
 
 put-vertex-requires-3 : tie.Need-put-vertex-requires-3
 put-vertex-requires-3 c κs =
-    let start = c .before .before .before .before .before .before .before .before in
-    let put-vertex = c .before .before .before .before .before .put-vertex in
+    let at-put-vertex = c .before .before .before .before .before in
+    let start = at-put-vertex .before .before .before in
+    let put-vertex = at-put-vertex .put-vertex in
     let put-vertex2 = c .before .before .put-vertex2 in record {
       file-room = omega arith;
       scale = start .pre .scale;
@@ -61,9 +62,11 @@ same-length c = search needs
 
 returns : tie.Need-returns
 returns c =
-    let start = c .before .before .before .before .before .before .before .before .before .before in
-    let put-vertex = c .before .before .before .before .before .before .before .put-vertex in
-    let put-vertex2 = c .before .before .before .before .put-vertex2 in
+    let at-put-vertex2 = c .before .before .before .before in
+    let at-put-vertex = at-put-vertex2 .before .before .before in
+    let start = at-put-vertex .before .before .before in
+    let put-vertex = at-put-vertex .put-vertex in
+    let put-vertex2 = at-put-vertex2 .put-vertex2 in
     let number = roundTimes (exponentOf (start .args .s)) in
     let s = start .args .file .now in
     let from = start .args .from in

@@ -78,9 +78,11 @@ same-length c = search needs
 returns-2 : tie.Need-returns-2
 unfolding byteEdges puts
 returns-2 c =
-    let put-edge2 = c .before .before .before .before .before .before .put-edge2 in
-    let put-edge = c .before .before .before .before .before .before .before .before .before .before .put-edge in
-    let s = c .before .before .before .before .before .before .before .before .before .before .before .before .before .before .before in
+    let at-put-edge2 = c .before .before .before .before .before .before in
+    let at-put-edge = at-put-edge2 .before .before .before .before in
+    let s = at-put-edge .before .before .before .before .before in
+    let put-edge2 = at-put-edge2 .put-edge2 in
+    let put-edge = at-put-edge .put-edge in
     let f : Axis → List ℕ = λ a. byteEdge (s .args .side) (exponentOf (s .args .s)) (s .args .b) (s .args .upward) a (s .args .q) in
     three-written (s .args .out .now) (s .args .at) (f X) (f Y) (f Z) (put-edge .ensures) (put-edge2 .ensures) (c .before .before .put-edge3 .ensures)
 

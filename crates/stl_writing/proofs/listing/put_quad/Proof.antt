@@ -64,16 +64,21 @@ corner-requires-3 c κs =
 
 down-requires-3 : tie.Need-down-requires-3
 down-requires-3 c κs =
-    let down-told = c .before .before .before .before .down in
-    let next2 = c .before .before .before .before .before .next2 in
-    let next = c .before .before .before .before .before .before .next in
-    let s = c .before .before .before .before .before .before .before .before in on-next (s .args .a) (next .result) (next2 .result) (s .args .q)
+    let at-down = c .before .before .before .before in
+    let at-next2 = at-down .before in
+    let at-next = at-next2 .before in
+    let s = at-next .before .before in
+    let down-told = at-down .down in
+    let next2 = at-next2 .next2 in
+    let next = at-next .next in
+    on-next (s .args .a) (next .result) (next2 .result) (s .args .q)
     (down-told .result) (next .ensures) (next2 .ensures) (down-told .ensures) (s .args .side) (s .pre .surrounded)
 
 corner-requires-4 : tie.Need-corner-requires-4
 corner-requires-4 c κs =
-    let next = c .before .before .before .before .before .before .before .next in
-    let s = c .before .before .before .before .before .before .before .before .before in
+    let at-next = c .before .before .before .before .before .before .before in
+    let s = at-next .before .before in
+    let next = at-next .next in
     record {
       side-least = s .pre .side-least;
       scale = s .pre .scale;
@@ -86,16 +91,21 @@ normal-requires c κs = search needs
 
 put-pair-requires : tie.Need-put-pair-requires
 put-pair-requires c κs =
-    let corner3 = c .before .before .before .before .before .corner3 in
-    let corner2 = c .before .before .before .before .before .before .corner2 in
-    let corner = c .before .before .before .before .before .before .before .corner in
-    let start = c .before .before .before .before .before .before .before .before .before .before .before .before .before in record {
+    let at-corner4 = c .before .before .before in
+    let at-corner3 = at-corner4 .before .before in
+    let at-corner2 = at-corner3 .before in
+    let at-corner = at-corner2 .before in
+    let start = at-corner .before .before .before .before .before .before in
+    let corner3 = at-corner3 .corner3 in
+    let corner2 = at-corner2 .corner2 in
+    let corner = at-corner .corner in
+    record {
       out-room = start .pre .out-room;
       normal-held = c .before .before .normal .ensures .1;
       a-held = corner .ensures .1;
       b-held = corner2 .ensures .1;
       c-held = corner3 .ensures .1;
-      d-held = c .before .before .before .corner4 .ensures .1;
+      d-held = at-corner4 .corner4 .ensures .1;
     }
 
 same-length : tie.Need-same-length
@@ -103,21 +113,32 @@ same-length c = search needs
 
 returns : tie.Need-returns
 returns c =
-    let if1 = c .before .before .before .before .if1 in
-    let normal = c .before .before .before .before .before .normal in
-    let corner4 = c .before .before .before .before .before .before .corner4 in
-    let down3 = c .before .before .before .before .before .before .before .down3 in
-    let corner3 = c .before .before .before .before .before .before .before .before .corner3 in
-    let corner2 = c .before .before .before .before .before .before .before .before .before .corner2 in
-    let corner = c .before .before .before .before .before .before .before .before .before .before .corner in
-    let down2 = c .before .before .before .before .before .before .before .before .before .before .before .down2 in
-    let down-told = c .before .before .before .before .before .before .before .before .before .before .before .before .down in
-    let next2 = c .before .before .before .before .before .before .before .before .before .before .before .before .before .next2 in
-    let next = c .before .before .before .before .before .before .before .before .before .before .before .before .before .before .next in
-    let s = c .before .before .before .before .before .before .before .before .before .before .before .before .before .before .before .before in
+    let at-if1 = c .before .before .before .before in
+    let at-normal = at-if1 .before in
+    let at-corner4 = at-normal .before in
+    let at-down3 = at-corner4 .before in
+    let at-corner3 = at-down3 .before in
+    let at-corner2 = at-corner3 .before in
+    let at-corner = at-corner2 .before in
+    let at-down2 = at-corner .before in
+    let at-down = at-down2 .before in
+    let at-next2 = at-down .before in
+    let at-next = at-next2 .before in
+    let s = at-next .before .before in
+    let if1 = at-if1 .if1 in
+    let normal = at-normal .normal in
+    let corner4 = at-corner4 .corner4 in
+    let down3 = at-down3 .down3 in
+    let corner3 = at-corner3 .corner3 in
+    let corner2 = at-corner2 .corner2 in
+    let corner = at-corner .corner in
+    let down2 = at-down2 .down2 in
+    let down-told = at-down .down in
+    let next2 = at-next2 .next2 in
+    let next = at-next .next in
     let e = exponentOf (s .args .s) in
     let at = cornerOf (s .args .side) e in
-    let next-is = c .before .before .before .before .before .before .before .before .before .before .before .before .before .before .next .ensures in
+    let next-is = at-next .next .ensures in
     c .before .before .put-pair .ensures
     ∙ ap (puts (s .args .out .now) (s .args .at)) (quad-upward (s .args .side) e (s .args .a) (s .args .q) (s .args .upward) _ _ _ _ _ (normal .ensures .0)
     (corner .ensures .0 ∙ ap at (first-is (s .args .a) (next .result) (next2 .result) (s .args .q) (down-told .result) (next .ensures)
@@ -130,14 +151,19 @@ returns c =
 
 put-pair-requires-2 : tie.Need-put-pair-requires-2
 put-pair-requires-2 c κs =
-    let corner3 = c .before .before .before .before .before .corner3 in
-    let corner2 = c .before .before .before .before .before .before .corner2 in
-    let corner = c .before .before .before .before .before .before .before .corner in
-    let start = c .before .before .before .before .before .before .before .before .before .before .before .before .before in record {
+    let at-corner4 = c .before .before .before in
+    let at-corner3 = at-corner4 .before .before in
+    let at-corner2 = at-corner3 .before in
+    let at-corner = at-corner2 .before in
+    let start = at-corner .before .before .before .before .before .before in
+    let corner3 = at-corner3 .corner3 in
+    let corner2 = at-corner2 .corner2 in
+    let corner = at-corner .corner in
+    record {
       out-room = start .pre .out-room;
       normal-held = c .before .before .normal .ensures .1;
       a-held = corner .ensures .1;
-      b-held = c .before .before .before .corner4 .ensures .1;
+      b-held = at-corner4 .corner4 .ensures .1;
       c-held = corner3 .ensures .1;
       d-held = corner2 .ensures .1;
     }
@@ -147,21 +173,32 @@ same-length-2 c = search needs
 
 returns-2 : tie.Need-returns-2
 returns-2 c =
-    let if1 = c .before .before .before .before .if1 in
-    let normal = c .before .before .before .before .before .normal in
-    let corner4 = c .before .before .before .before .before .before .corner4 in
-    let down3 = c .before .before .before .before .before .before .before .down3 in
-    let corner3 = c .before .before .before .before .before .before .before .before .corner3 in
-    let corner2 = c .before .before .before .before .before .before .before .before .before .corner2 in
-    let corner = c .before .before .before .before .before .before .before .before .before .before .corner in
-    let down2 = c .before .before .before .before .before .before .before .before .before .before .before .down2 in
-    let down-told = c .before .before .before .before .before .before .before .before .before .before .before .before .down in
-    let next2 = c .before .before .before .before .before .before .before .before .before .before .before .before .before .next2 in
-    let next = c .before .before .before .before .before .before .before .before .before .before .before .before .before .before .next in
-    let s = c .before .before .before .before .before .before .before .before .before .before .before .before .before .before .before .before in
+    let at-if1 = c .before .before .before .before in
+    let at-normal = at-if1 .before in
+    let at-corner4 = at-normal .before in
+    let at-down3 = at-corner4 .before in
+    let at-corner3 = at-down3 .before in
+    let at-corner2 = at-corner3 .before in
+    let at-corner = at-corner2 .before in
+    let at-down2 = at-corner .before in
+    let at-down = at-down2 .before in
+    let at-next2 = at-down .before in
+    let at-next = at-next2 .before in
+    let s = at-next .before .before in
+    let if1 = at-if1 .if1 in
+    let normal = at-normal .normal in
+    let corner4 = at-corner4 .corner4 in
+    let down3 = at-down3 .down3 in
+    let corner3 = at-corner3 .corner3 in
+    let corner2 = at-corner2 .corner2 in
+    let corner = at-corner .corner in
+    let down2 = at-down2 .down2 in
+    let down-told = at-down .down in
+    let next2 = at-next2 .next2 in
+    let next = at-next .next in
     let e = exponentOf (s .args .s) in
     let at = cornerOf (s .args .side) e in
-    let next-is = c .before .before .before .before .before .before .before .before .before .before .before .before .before .before .next .ensures in
+    let next-is = at-next .next .ensures in
     c .before .before .put-pair2 .ensures
     ∙ ap (puts (s .args .out .now) (s .args .at)) (quad-downward (s .args .side) e (s .args .a) (s .args .q) (s .args .upward) _ _ _ _ _ (normal .ensures .0)
     (corner .ensures .0 ∙ ap at (first-is (s .args .a) (next .result) (next2 .result) (s .args .q) (down-told .result) (next .ensures)

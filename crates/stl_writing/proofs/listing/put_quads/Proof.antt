@@ -70,9 +70,11 @@ is-inside-requires c κs = tt
 
 put-edges-requires : tie.Need-put-edges-requires Inv-loop μ-loop
 put-edges-requires c κs =
-    let loop-test = c .before .before .before .before .loop-test in
-    let start = c .before .before .before .before .before .before .before .before .before in
-    let l = c .before .before .before .before .before .loop in
+    let at-loop-test = c .before .before .before .before in
+    let at-loop = at-loop-test .before in
+    let start = at-loop .before .before .before .before in
+    let loop-test = at-loop-test .loop-test in
+    let l = at-loop .loop in
     let n = start .args .n in
     let side = start .args .side in
     let g = start .args .grid .now in
@@ -87,16 +89,20 @@ put-edges-requires c κs =
 
 next-point-requires : tie.Need-next-point-requires Inv-loop μ-loop
 next-point-requires c κs =
-    let loop-test = c .before .before .before .before .before .before .before .loop-test in
-    let start = c .before .before .before .before .before .before .before .before .before .before .before .before in
-    let l = c .before .before .before .before .before .before .before .before .loop in
+    let at-loop-test = c .before .before .before .before .before .before .before in
+    let at-loop = at-loop-test .before in
+    let start = at-loop .before .before .before .before in
+    let loop-test = at-loop-test .loop-test in
+    let l = at-loop .loop in
     let h : l .p < pointCount (start .args .n) = omega (arith, l .inv .0, loop-test .taken) in
     (start .pre .sized .small, at-grid _ (l .p) (l .q) (l .inv .2) h)
 
 add-p : tie.Need-add-p Inv-loop μ-loop
 add-p c =
-    let loop-test = c .before .before .before .before .before .before .before .before .loop-test in
-    let point-count = c .before .before .before .before .before .before .before .before .before .before .point-count in
+    let at-loop-test = c .before .before .before .before .before .before .before .before in
+    let at-point-count = at-loop-test .before .before in
+    let loop-test = at-loop-test .loop-test in
+    let point-count = at-point-count .point-count in
     omega (arith, loop-test .taken, point-count .ensures .1)
 
 loop-less : tie.Need-loop-less Inv-loop μ-loop
@@ -105,10 +111,14 @@ loop-less c = omega (arith, c .before .before .before .before .before .before .b
 loop-again : tie.Need-loop-again Inv-loop μ-loop
 unfolding puts
 loop-again c =
-    let is-inside = c .before .before .before .before .before .is-inside in
-    let loop-test = c .before .before .before .before .before .before .before .before .loop-test in
-    let start = c .before .before .before .before .before .before .before .before .before .before .before .before .before in
-    let l = c .before .before .before .before .before .before .before .before .before .loop in
+    let at-put-edges = c .before .before .before in
+    let at-is-inside = at-put-edges .before .before in
+    let at-loop-test = at-is-inside .before .before .before in
+    let at-loop = at-loop-test .before in
+    let start = at-loop .before .before .before .before in
+    let is-inside = at-is-inside .is-inside in
+    let loop-test = at-loop-test .loop-test in
+    let l = at-loop .loop in
     let n = start .args .n in
     let side = start .args .side in
     let e = exponentOf (start .args .s) in
@@ -116,7 +126,7 @@ loop-again c =
     let pre = start .pre in
     let h : l .p < pointCount n = omega (arith, l .inv .0, loop-test .taken) in
     let put = rw (bytes-byte side e n g (l .p) (l .q) _ (pre .sized .long) (pre .is-grid) (l .inv .2) h (is-inside .ensures)) at
-    (c .before .before .before .put-edges .ensures) in
+    (at-put-edges .put-edges .ensures) in
     let w = given-written n (marks n g) (bytesOf side e (inside n g)) (l .p) (l .q) (l .inv .2) h (l .at) _ (l .out) _ put (l .inv .4) in (
       l .inv .0,
       omega arith,

@@ -29,8 +29,9 @@ slice-aggregate-put-text c = search needs
 
 put-text-requires : tie.Need-put-text-requires
 put-text-requires c κs =
-    let s = c .before .before .before .before .before .before .before .before .before in
-    let p = c .before .before .before .before .put-fields in
+    let at-put-fields = c .before .before .before .before in
+    let s = at-put-fields .before .before .before .before .before in
+    let p = at-put-fields .put-fields in
     omega (
       arith,
       s .pre,
@@ -47,8 +48,9 @@ same-length c = search needs
 returns : tie.Need-returns
 unfolding facesLine
 returns c =
-    let s = c .before .before .before .before .before .before .before .before .before .before .before .before in
-    let p = c .before .before .before .before .before .before .before .put-fields in
+    let at-put-fields = c .before .before .before .before .before .before .before in
+    let s = at-put-fields .before .before .before .before .before in
+    let p = at-put-fields .put-fields in
     let d = c .before .before .put-text in (
       put-both (p .ensures) (d .ensures),
       omega (

@@ -40,9 +40,10 @@ slice-aggregate-put-fields-4 c = search needs
 
 put-fields-requires-2 : tie.Need-put-fields-requires-2
 put-fields-requires-2 c κs =
-    let start = c .before .before .before .before .before .before .before .before .before .before in
-    let d = c .before .before .before .before .before .before .before .before .before .before .args in
-    let p = c .before .before .before .before .before .put-fields in
+    let at-put-fields = c .before .before .before .before .before in
+    let start = at-put-fields .before .before .before .before .before in
+    let d = start .args in
+    let p = at-put-fields .put-fields in
     omega (
       arith,
       start .pre,
@@ -61,10 +62,12 @@ slice-aggregate-put-fields-6 c = search needs
 
 put-fields-requires-3 : tie.Need-put-fields-requires-3
 put-fields-requires-3 c κs =
-    let start = c .before .before .before .before .before .before .before .before .before .before .before .before .before .before .before .before in
-    let d = c .before .before .before .before .before .before .before .before .before .before .before .before .before .before .before .before .args in
-    let p = c .before .before .before .before .before .before .before .before .before .before .before .put-fields in
-    let q = c .before .before .before .before .before .put-fields2 in
+    let at-put-fields2 = c .before .before .before .before .before in
+    let at-put-fields = at-put-fields2 .before .before .before .before .before .before in
+    let start = at-put-fields .before .before .before .before .before in
+    let d = start .args in
+    let p = at-put-fields .put-fields in
+    let q = at-put-fields2 .put-fields2 in
     omega (
       arith,
       start .pre,
@@ -83,12 +86,15 @@ same-length c = search needs
 
 returns : tie.Need-returns
 returns c =
-    let back = c .before .before .before .before .before .before .before .before .before .before in
+    let at-put-fields2 = c .before .before .before .before .before .before .before .before in
+    let at-place = at-put-fields2 .before .before in
+    let at-put-fields = at-place .before .before .before .before in
+    let back = at-place in
     let place = back .before .before .before .before .before .before .before .before .before in
-    let back = c .before .before .before .before .before .before .before .before .before .before in
+    let back = at-place in
     let d = back .before .before .before .before .before .before .before .before .before .args in
-    let p = c .before .before .before .before .before .before .before .before .before .before .before .before .before .before .put-fields in
-    let q = c .before .before .before .before .before .before .before .before .put-fields2 in
+    let p = at-put-fields .put-fields in
+    let q = at-put-fields2 .put-fields2 in
     let r = c .before .before .put-fields3 in (
       put-both (put-both (p .ensures) (q .ensures)) (r .ensures),
       omega (

@@ -27,9 +27,11 @@ same-length c = search needs
 returns : tie.Need-returns
 unfolding listing
 returns c =
-    let start = c .before .before .before .before .before .before .before .before .before .before .before .before .before .before .before .before in
-    let a = c .before .before .before .before .before .before .before .before .before .before .before .put-head in
-    let b = c .before .before .before .before .before .before .before .put-quads in
+    let at-put-quads = c .before .before .before .before .before .before .before in
+    let at-put-head = at-put-quads .before .before .before .before in
+    let start = at-put-head .before .before .before .before .before in
+    let a = at-put-head .put-head in
+    let b = at-put-quads .put-quads in
     let d = c .before .before .put-text in (
       put-both (put-both (a .ensures .0) (b .ensures .0)) (d .ensures),
       omega (arith, start .pre .0, a .ensures .1, b .ensures .1, d .ensures .place, a .kept .0, b .kept .0, d .kept .0),

@@ -39,8 +39,9 @@ wide-requires-2 c κs = search needs
 
 put-fields-requires : tie.Need-put-fields-requires
 put-fields-requires c κs =
-    let start = c .before .before .before .before .before .before .before .before .before in
-    let a = c .before .before .before .wide in
+    let at-wide = c .before .before .before in
+    let start = at-wide .before .before .before .before .before .before in
+    let a = at-wide .wide in
     let b = c .wide2 in
     omega (
       arith,
@@ -82,13 +83,16 @@ wide-requires-4 c κs = search needs
 
 put-fields-requires-2 : tie.Need-put-fields-requires-2
 put-fields-requires-2 c κs =
-    let back = c .before .before .before .before .before .before .before .before .before .before in
+    let at-wide3 = c .before .before .before in
+    let at-put-fields = at-wide3 .before .before .before .before .before .before in
+    let back = at-put-fields .before in
+    let at-wide = back .before .before .before in
     let start = back .before .before .before .before .before .before .before .before .before in
-    let a = c .before .before .before .before .before .before .before .before .before .before .before .before .before .wide in
-    let b = c .before .before .before .before .before .before .before .before .before .before .wide2 in
-    let d = c .before .before .before .wide3 in
+    let a = at-wide .wide in
+    let b = back .wide2 in
+    let d = at-wide3 .wide3 in
     let e = c .wide4 in
-    let p = c .before .before .before .before .before .before .before .before .before .put-fields in
+    let p = at-put-fields .put-fields in
     omega (
       arith,
       start .pre .0,
@@ -107,11 +111,16 @@ same-length c = search needs
 
 returns : tie.Need-returns
 returns c =
-    let a = c .before .before .before .before .before .before .before .before .before .before .before .before .before .before .before .before .wide in
-    let b = c .before .before .before .before .before .before .before .before .before .before .before .before .before .wide2 in
-    let d = c .before .before .before .before .before .before .wide3 in
-    let e = c .before .before .before .wide4 in
-    let p = c .before .before .before .before .before .before .before .before .before .before .before .before .put-fields in
+    let at-wide4 = c .before .before .before in
+    let at-wide3 = at-wide4 .before .before .before in
+    let at-put-fields = at-wide3 .before .before .before .before .before .before in
+    let at-wide2 = at-put-fields .before in
+    let at-wide = at-wide2 .before .before .before in
+    let a = at-wide .wide in
+    let b = at-wide2 .wide2 in
+    let d = at-wide3 .wide3 in
+    let e = at-wide4 .wide4 in
+    let p = at-put-fields .put-fields in
     let q = c .before .before .put-fields2 in (
       rw (sym (a .ensures .0), sym (b .ensures .0), sym (d .ensures .0), sym (e .ensures .0)) (put-both (p .ensures) (q .ensures)),
       omega (

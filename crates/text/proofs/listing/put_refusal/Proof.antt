@@ -19,9 +19,10 @@ slice-aggregate-put-text c = search needs
 
 put-text-requires : tie.Need-put-text-requires
 put-text-requires c κs =
-    let start = c .before .before .before .before .before .before .before .before in
-    let fits = c .before .before .before .before .before .before .before .before .fits in
-    let p = c .before .before .before .before .put-field in
+    let at-put-field = c .before .before .before .before in
+    let start = at-put-field .before .before .before .before in
+    let fits = start .fits in
+    let p = at-put-field .put-field in
     omega (arith, start .pre, u32-digits (start .args .number) (fits .number), p .ensures .place, p .kept .0)
 
 same-length : tie.Need-same-length
@@ -30,9 +31,10 @@ same-length c = search needs
 returns : tie.Need-returns
 unfolding refusedLine
 returns c =
-    let start = c .before .before .before .before .before .before .before .before .before .before .before in
-    let fits = c .before .before .before .before .before .before .before .before .before .before .before .fits in
-    let a = c .before .before .before .before .before .before .before .put-field in
+    let at-put-field = c .before .before .before .before .before .before .before in
+    let start = at-put-field .before .before .before .before in
+    let fits = start .fits in
+    let a = at-put-field .put-field in
     let d = c .before .before .put-text in (
       put-both (a .ensures) (d .ensures),
       omega (arith, start .pre, u32-digits (start .args .number) (fits .number), a .ensures .place, d .ensures .place, a .kept .0, d .kept .0),
