@@ -20,7 +20,7 @@ find_model() {
 }
 
 # The number of triangles that a file counts.
-counted() { od -An -j 80 -N 4 -t u4 --endian=little "$model" 2>/dev/null | awk '{ n = $1 } END { print n + 0 }'; }
+counted() { echo $(($(od -An -j 80 -N 4 -t u4 --endian=little "$model"))); }
 
 # Why the length is wrong.
 wrong_length() {

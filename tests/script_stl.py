@@ -203,6 +203,8 @@ def stl_refusals():
     cases = (("refused 11: .*save it as binary STL", b"solid cube\nfacet\n", []), ("refused 11", read(HOOK.replace("hook", "hook_text")), []),
              ("refused 10: .*has 0 bytes", b"", []), ("refused 10: .*has 83 bytes", bytes(83), []),
              ("refused 10: .*counts 2 .*184 bytes, and has 134", stl(plain, count=2), []),
+             ("refused 10: .*counts 2147483648 .*107374182484 bytes, and has 134", stl(plain, count=2 ** 31), []),
+             ("refused 10: .*counts 4294967295 .*214748364834 bytes, and has 134", stl(plain, count=2 ** 32 - 1), []),
              ("refused 12: .* x of corner A of triangle 2", stl(plain, (nan,) + plain[1:]), []),
              ("refused 12: .* z of corner C of triangle 1", stl(plain[1:] + (-inf,)), []),
              ("refused 12: .* y of corner B of triangle 3", stl(plain, plain, plain[:4] + (nan, inf) + plain[6:]), ["--e", "0"]),
