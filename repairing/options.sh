@@ -7,8 +7,8 @@ usage: ./repair [options] [--] [FILE]
        ./repair --help | --version
 
 Repairs the triangles in FILE, or on standard input when FILE is -, and says what was done. FILE is a binary STL file when
-its name ends in .stl, a job file when it ends in .job, else a stream. Without FILE it repairs the sample
-models/lampshade.bin, a lampshade that lacks a triangle of its outer wall.
+its name ends in .stl, a job file when it ends in .job, else a stream. Without FILE it repairs what is on standard input when
+a kind is named (--stl, --kind), else the sample models/lampshade.bin, a lampshade that lacks a triangle of its outer wall.
 
   -o OUT         writes the repaired surface into the file OUT as binary STL, in the model's own place and units; a stream's
                  and a job's are their coordinates

@@ -128,6 +128,7 @@ def ways_in():
         for words in (["--stl", other], ["--kind", "stl", other], ["--level", "5", HOOK], ["--", HOOK]):
             hold(run(words)[1].split("\n", 1)[1] == right, f"{words}: the same report")
         hold(run(["--stl", "-"], input=read(HOOK)) == (0, "standard input: repaired\n" + right, ""), "from a pipe")
+        hold(run(["--stl"], input=read(HOOK)) == (0, "standard input: repaired\n" + right, ""), "a kind without FILE is on standard input")
         with open(HOOK, "rb") as file:
             hold(run(["--kind", "stl", "-"], stdin=file)[1].split("\n", 1)[1] == right, "from a file on standard input")
         sender = subprocess.Popen(["cp", HOOK, pipe])
