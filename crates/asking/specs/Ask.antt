@@ -6,7 +6,7 @@ use lib.Dec.{eqb}
 use lib.ListN.{getD}
 use Rattle.rules.specs.declared.Point.{Point}
 use Rattle.rules.specs.declared.Box.{Box}
-use Rattle.rules.specs.Lists.{anyOf, allOf}
+use Rattle.rules.specs.Lists.{anyOf, allOf, upto}
 use Rattle.rules.specs.Lattice.{pointNumber, points, cellIn}
 use Rattle.totals.specs.Totals.{boxPoints, blockBox, blocks, totalOf}
 
@@ -54,6 +54,10 @@ unfoldable pub isTrue : ℕ → List ℕ → List ℕ → Bool
 isTrue n g t = allOf (λ c. eqb (entryOf n t c) (totalOf n g c)) (blocks n)
 
 -- ---- for the code
+-- the first entries of two tables are the same
+abbrev pub alike : ℕ → List ℕ → List ℕ → Bool
+alike count h t = allOf (λ q. eqb (getD t q 0) (getD h q 0)) (upto 0 count)
+
 -- a box of points of the grid, or an empty one
 pub record PointBox (n : ℕ) (b : Box) : Type 0 where
   pub x : b .hi .i ≤ suc n

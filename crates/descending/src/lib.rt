@@ -42,7 +42,7 @@ ghost use Rattle.descending.specs.Reach.{below, above, reachOf, reachSpa
 ghost use Rattle.descending.specs.Adds.{AddsAt, AddsIn};
 
 // Ten axes of two numbers each.
-pub const REACHES: usize = 20;
+const REACHES: usize = 20;
 
 // A cube of cells by its lowest cell and its side.
 pub struct Cube {
@@ -96,7 +96,7 @@ fn keep_reach(reach: &mut [i64; REACHES], k: usize, s: Span)
 }
 
 // Answers the reach kept as number k.
-pub fn reach_at(reach: &[i64; REACHES], k: usize) -> Span
+fn reach_at(reach: &[i64; REACHES], k: usize) -> Span
     requires { ⌜ k < 10 ⌝ }
     ensures { λ r. ⌜ r ≡ reachAt (now (reach .entry)) k ⌝ }
 {
@@ -108,7 +108,7 @@ pub fn reach_at(reach: &[i64; REACHES], k: usize) -> Span
 }
 
 // Builds the ten axes behind the unit vectors and their reaches.
-pub fn keep_all(l: Level, t: Triangle, kept: &mut [i64; NUMBERS], reach: &mut [i64; REACHES])
+fn keep_all(l: Level, t: Triangle, kept: &mut [i64; NUMBERS], reach: &mut [i64; REACHES])
     requires { ⌜ record { inside : Inside t; kept-long : length (now kept) ≡ 50; reach-long : length (now reach) ≡ 20 } ⌝ }
     ensures { λ _. ⌜ KeepsAll l t (now (kept .exit)) (now (reach .exit)) ⌝ }
 {
@@ -122,7 +122,7 @@ pub fn keep_all(l: Level, t: Triangle, kept: &mut [i64; NUMBERS], reach: &mut [i
 }
 
 // Answers whether an axis separates a cube of cells from the triangle: one dot product, that of its lowest corner, gives its span.
-pub fn misses(a: Kept, r: Span, p: Vector, side: i64) -> bool
+fn misses(a: Kept, r: Span, p: Vector, side: i64) -> bool
     requires { ⌜ ReachFits (a .axis) r p side ⌝ }
     ensures { λ x. ⌜ x ≡ apart (a .span) (reachSpan (a .axis) r p side) ⌝ }
 {
@@ -162,7 +162,7 @@ fn shares(i: usize, w: usize, lo: usize, hi: usize) -> bool
 }
 
 // Answers whether a cube has a cell of a box. On the unit vectors this tells whether one of them separates it.
-pub fn touches(b: Box, c: Cube) -> bool
+fn touches(b: Box, c: Cube) -> bool
     requires { ⌜ CubeOf 32 c ⌝ }
     ensures { λ r. ⌜ r ≡ touchesOf b c ⌝ }
 {
@@ -213,7 +213,7 @@ fn shifted(i: usize, h: usize, digit: usize) -> usize
 }
 
 // Answers one of the eight cubes of half the side: k's binary digits choose the upper half on x, y and z.
-pub fn eighth(c: Cube, k: usize) -> Cube
+fn eighth(c: Cube, k: usize) -> Cube
     requires { ⌜ CubeOf 32 c ⌝ }
     ensures { λ r. ⌜ r ≡ eighthOf c k ⌝ }
 {
@@ -292,10 +292,10 @@ pub fn mark_cubed(l: Level, grid: &mut [u8], t: Triangle)
 }
 
 // Up to so many cells of the triangle's box the scan takes less time than the descent.
-pub const SCANNED: usize = 2048;
+const SCANNED: usize = 2048;
 
 // Answers the number of cells of a box.
-pub fn cells_in(b: Box) -> usize
+fn cells_in(b: Box) -> usize
     requires { ⌜ record { on-grid : OfGrid 32 (b .hi); x-ordered : b .lo .i ≤ b .hi .i; y-ordered : b .lo .j ≤ b .hi .j; z-ordered : b .lo .k ≤ b .hi .k } ⌝ }
     ensures { λ r. ⌜ r ≡ (b .hi .i - b .lo .i) * ((b .hi .j - b .lo .j) * (b .hi .k - b .lo .k)) ⌝ }
 {

@@ -17,9 +17,9 @@ use Rattle.rules.specs.Lists.{allOf, between}
 use Rattle.rules.specs.Lattice.{points, pointNumber, pointCount, inner, sameAxis, raise, whole}
 use Rattle.rules.specs.Lattice.{OfGrid}
 use Rattle.rules.proofs.Boxes.{inBox←}
-use Rattle.rules.proofs.Bits.{three→, between→, Bounds, &&-left, ands}
+use Rattle.rules.proofs.Bits.{Bounds, &&-left, ands}
 use Rattle.rules.proofs.Numbers.{points-at, points-length, number-below}
-use Rattle.grids.specs.Scans.{nextPoint, innerAlong, deep}
+use Rattle.grids.specs.Scans.{nextPoint, innerAlong}
 
 -- the points of numbers from p on
 unfoldable pub pointsFrom : ℕ → ℕ → List Point
@@ -115,18 +115,13 @@ inner-z n p = &&-last (between 0 n (p .k)) (between 1 n (p .i)) (between 1 n (p 
     &&-last : (a b c : Bool) → a && (b && c) ≡ b && (c && a)
     &&-last a b c = simp ands
 
--- at a deep point every edge is inner
-pub deep-inner : (n : ℕ) (p : Point) → deep n p ≡ true → (a : Axis) → inner n a p ≡ true
-deep-inner n p e a =
-    let b = three→ (between 1 n (p .i)) (between 1 n (p .j)) (between 1 n (p .k)) e in
+-- where all three coordinates lie in 1..n-1, every edge is inner
+pub deep-inner : (n : ℕ) (p : Point) → Bounds 1 n (p .i) → Bounds 1 n (p .j) → Bounds 1 n (p .k) → (a : Axis) → inner n a p ≡ true
+deep-inner n p x y z a =
     let s = not (sameAxis a X) in
     let t = not (sameAxis a Y) in
     let u = not (sameAxis a Z) in
-    inBox← (whole n) s t u p (
-      rest s (p .i) (between→ 1 n (p .i) (b .0)),
-      rest t (p .j) (between→ 1 n (p .j) (b .1)),
-      rest u (p .k) (between→ 1 n (p .k) (b .2)),
-    )
+    inBox← (whole n) s t u p (rest s (p .i) x, rest t (p .j) y, rest u (p .k) z)
   where
     rest : (s : Bool) (i : ℕ) → Bounds 1 n i → Bounds (raise s 0) n i
     rest true i c = c

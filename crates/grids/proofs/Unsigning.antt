@@ -1,27 +1,23 @@
--- A grid without its signs, and the points inside counted one after the other. Assumes nothing.
-use mathlib.Core.Path.{_≡_, refl, sym, ap, _∙_}
-use mathlib.Core.Bool.{Bool, true, false, cond}
-use mathlib.Core.List.{List, [], _∷_, map, map-map, _++_}
-use Prim.Native.Nat.{ℕ, suc, _+_, _%_, _≤_, _<_}
+-- A grid without its signs. Assumes nothing.
+use mathlib.Core.Path.{_≡_, sym, ap, _∙_}
+use mathlib.Core.Bool.{true}
+use mathlib.Core.List.{List, map, map-map, _++_}
+use Prim.Native.Nat.{ℕ, suc, _%_, _≤_, _<_}
 use native.Mathlib.Omega.{arith}
 use lib.ListN.{length, getD, drop, length-append, length-drop, take-append-drop}
 use lib.Seq.{drop-at}
-use Rattle.rules.specs.declared.Point.{Point}
-use Rattle.rules.specs.Lists.{upto, count, All}
+use Rattle.rules.specs.Lists.{upto}
 use Rattle.rules.specs.Lattice.{Set, points, pointNumber, pointCount, pointOf}
-use Rattle.rules.specs.Grid.{value, byteAt, bytes, marks, inside, Unsigned, isGrid}
+use Rattle.rules.specs.Grid.{byteAt, bytes, marks, Unsigned, isGrid}
 use Rattle.rules.proofs.Numbers.{rising, take-upto, bytes-length, marks-inner}
-use Rattle.rules.proofs.PointOf.{number-pointOf, pointOf-grid, over-points, all-points, at-point}
+use Rattle.rules.proofs.PointOf.{number-pointOf, pointOf-grid, over-points, all-points}
 use Rattle.rules.proofs.Same.{map-same}
 use Rattle.lattice.specs.declared.level.Level.{Level}
 use Rattle.lattice.specs.Levels.{cellsOf, pointsOf}
 use Rattle.lattice.specs.Buffers.{Ready}
-use Rattle.grids.specs.declared.GridRead.{GridRead}
-use Rattle.grids.specs.declared.GridRead.the-variants.{NoGrid, Grid}
-use Rattle.grids.specs.Scans.{insideCount, readOf, unsigned}
+use Rattle.grids.specs.Scans.{unsigned}
 use Rattle.grids.proofs.GridFacts.{grid-byte, unsigned-byte}
 use Rattle.grids.proofs.Ahead.{bytes-are-grid, bytes-have-marks, bytes-unsigned}
-use Rattle.grids.proofs.Points.{pointsFrom, points-start, points-more, points-end, At, at-grid}
 
 -- ---- byte by byte
 -- the byte of a point, by its number
@@ -80,62 +76,3 @@ unsigned-ready l g long =
     let n = cellsOf l in
     let e = unsigned-length n g long in
     record { long = omega arith; grid = unsigned-grid n g; unsigned = unsigned-none n g }
-
--- ---- the points inside, counted
-module _ (n : ℕ) (g : List ℕ) where
-  pub inside-start : count (inside n g) (pointsFrom n 0) ≡ insideCount n g
-  unfolding insideCount
-  inside-start = ap (count (inside n g)) (points-start n)
-
-  pub inside-more : (p : ℕ) (q : Point) → At n p q → p < pointCount n →
-      count (inside n g) (pointsFrom n p) ≡ value (inside n g q) 1 + count (inside n g) (pointsFrom n (suc p))
-  inside-more p q a h =
-      ap (λ (i : ℕ). count (inside n g) (pointsFrom n i)) (sym (a .is)) ∙ ap (count (inside n g)) (points-more n q (at-grid n p q a h))
-      ∙ go (inside n g q) _ ∙ ap (λ (i : ℕ). value (inside n g q) 1 + count (inside n g) (pointsFrom n (suc i))) (a .is)
-    where
-      go : (b : Bool) (k : ℕ) → cond b (suc k) k ≡ value b 1 + k
-      go true k = omega arith
-      go false k = omega arith
-
-  pub inside-end : (p : ℕ) → pointCount n ≤ p → count (inside n g) (pointsFrom n p) ≡ 0
-  inside-end p h = ap (count (inside n g)) (points-end n p h)
-
-  none-counted : (l : List Point) → count (inside n g) l ≡ 0 → All (λ p. inside n g p ≡ false) l
-  none-counted [] e = tt
-  none-counted (p ∷ l) e = go (inside n g p) refl e (none-counted l)
-    where
-      go : (b : Bool) → inside n g p ≡ b → cond b (suc (count (inside n g) l)) (count (inside n g) l) ≡ 0 →
-          (count (inside n g) l ≡ 0 → All (λ q. inside n g q ≡ false) l) → All (λ q. inside n g q ≡ false) (p ∷ l)
-      go true x y r = absurd (omega arith)
-      go false x y r = (x, r y)
-
-  -- none: no sign is set
-  pub none-inside : insideCount n g ≡ 0 → Unsigned n g
-  unfolding insideCount
-  none-inside e = at-point (λ p. inside n g p ≡ false) n (none-counted (points (suc n)) e)
-
--- ---- what a buffer is read as
-abbrev aGrid : GridRead → Bool
-aGrid NoGrid = false
-aGrid (Grid k) = true
-
-abbrev found : GridRead → ℕ
-found NoGrid = 0
-found (Grid k) = k
-
-module _ (n : ℕ) (g : List ℕ) where
-  is-read : aGrid (readOf n g) ≡ isGrid n g
-  is-read = go (isGrid n g)
-    where
-      go : (b : Bool) → aGrid (cond b (Grid (insideCount n g)) NoGrid) ≡ b
-      go true = refl
-      go false = refl
-
-  pub read-none : readOf n g ≡ NoGrid → isGrid n g ≡ false
-  read-none e = sym is-read ∙ ap aGrid e
-
-  pub read-some : (k : ℕ) → readOf n g ≡ Grid k → isGrid n g ≡ true
-  read-some k e = sym is-read ∙ ap aGrid e
-
-  pub read-inside : (k : ℕ) → readOf n g ≡ Grid k → insideCount n g ≡ k
-  read-inside k e = ap (λ (b : Bool). found (cond b (Grid (insideCount n g)) NoGrid)) (sym (read-some k e)) ∙ ap found e

@@ -1,16 +1,14 @@
 -- A scan of the points by rising number. Assumes nothing.
 use mathlib.Core.Bool.{Bool, not, _&&_, cond}
 use mathlib.Core.List.{List, _++_}
-use Prim.Native.Nat.{ℕ, suc, _+_}
+use Prim.Native.Nat.{ℕ, _+_}
 use lib.Dec.{ltb}
 use lib.ListN.{drop}
-use Rattle.rules.specs.Lists.{between, allOf, count}
+use Rattle.rules.specs.Lists.{between, allOf}
 use Rattle.rules.specs.declared.Point.{Point}
-use Rattle.rules.specs.Lattice.{Set, isIn, placesAt, points, pointCount}
-use Rattle.rules.specs.Grid.{bytes, marks, inside, isGrid}
+use Rattle.rules.specs.Lattice.{Set, isIn, placesAt, pointCount}
+use Rattle.rules.specs.Grid.{bytes, marks}
 use Rattle.rules.specs.Cell.{oddFace}
-use Rattle.grids.specs.declared.GridRead.{GridRead}
-use Rattle.grids.specs.declared.GridRead.the-variants.{NoGrid, Grid}
 
 -- the point whose number is one more
 unfoldable pub nextPoint : ℕ → Point → Point
@@ -25,18 +23,6 @@ innerAlong n l u v = between 0 n l && (between 1 n u && between 1 n v)
 -- none of the cell's three lower faces is odd
 abbrev pub lowerEven : Set → Point → Bool
 lowerEven E c = allOf (λ f. not (isIn (oddFace E) f)) (placesAt c)
-
--- all three coordinates lie in 1..n-1
-abbrev pub deep : ℕ → Point → Bool
-deep n p = between 1 n (p .i) && (between 1 n (p .j) && between 1 n (p .k))
-
--- the points that a buffer has inside
-unfoldable pub insideCount : ℕ → List ℕ → ℕ
-insideCount n g = count (inside n g) (points (suc n))
-
--- what a buffer is read as
-abbrev pub readOf : ℕ → List ℕ → GridRead
-readOf n g = cond (isGrid n g) (Grid (insideCount n g)) NoGrid
 
 -- a grid without its signs
 unfoldable pub unsigned : ℕ → List ℕ → List ℕ

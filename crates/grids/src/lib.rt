@@ -4,7 +4,6 @@ pub mod face;
 use crate::face::is_odd;
 use crate::face::lower_marks;
 use lattice::byte::bit;
-use lattice::byte::one_inside;
 use lattice::byte::with_sign;
 use lattice::level::point_count;
 use lattice::number_of;
@@ -12,15 +11,17 @@ use rules::Axis;
 use rules::Point;
 ghost use mathlib.Core.Path.{_≡_};
 ghost use mathlib.Core.Bool.{true, not, _||_};
-ghost use Prim.Native.Nat.{_≤_};
+ghost use Prim.Native.Nat.{_≤_, max};
+ghost use lib.ListN.{length};
 ghost use Rattle.rules.specs.Lists.{between};
 ghost use Rattle.rules.specs.Lattice.{inner};
-ghost use Rattle.rules.specs.Grid.{has, byteFits, isGrid, marks};
+ghost use Rattle.rules.specs.Grid.{has, isGrid, marks};
 ghost use Rattle.rules.specs.Lattice.{OfGrid};
 ghost use Rattle.rules.specs.Rims.{evenFaces};
 ghost use Rattle.lattice.specs.Cells.{Cell};
 ghost use Rattle.grids.specs.declared.GridRead.the-variants.{Grid};
-ghost use Rattle.grids.specs.Scans.{nextPoint, innerAlong, deep, lowerEven, readOf, unsigned};
+ghost use Rattle.grids.specs.Scans.{nextPoint, innerAlong, lowerEven, unsigned};
+ghost use Rattle.grids.specs.Reading.{marksFit, behindFirst, RowFrom, rowFits, allFit, largest, readOf};
 ghost use Rattle.lattice.specs.Buffers.{Sized};
 
 // The point after a point, by rising number.
@@ -93,30 +94,11 @@ fn mark_fits(n: usize, b: u8, a: Axis, p: Point) -> bool
     is_inner(n, a, p)
 }
 
-// Whether all three coordinates of a point lie in 1..n-1, so that its three edges are inner.
-fn is_deep(n: usize, p: Point) -> bool
-    ensures { λ r. ⌜ r ≡ deep n p ⌝ }
-{
-    if !is_between(1, n, p.i) {
-        return false;
-    }
-    if !is_between(1, n, p.j) {
-        return false;
-    }
-    is_between(1, n, p.k)
-}
-
-// Whether a byte may stand at a point of a grid. Most points are deep, and there any byte up to 15 may.
-pub fn byte_fits(n: usize, b: u8, p: Point) -> bool
-    ensures { λ r. ⌜ r ≡ byteFits n b p ⌝ }
+// Whether each mark of a byte stands at an inner edge. Most bytes have none.
+fn marks_fit(n: usize, b: u8, p: Point) -> bool
+    ensures { λ r. ⌜ r ≡ marksFit n b p ⌝ }
 {
     if b == 0 {
-        return true;
-    }
-    if 15 < b {
-        return false;
-    }
-    if is_deep(n, p) {
         return true;
     }
     if !mark_fits(n, b, Axis::X, p) {
@@ -128,30 +110,105 @@ pub fn byte_fits(n: usize, b: u8, p: Point) -> bool
     mark_fits(n, b, Axis::Z, p)
 }
 
-// What the first P bytes of a buffer are: no grid, or one with so many points inside.
-pub enum GridRead {
-    NoGrid,
-    Grid { inside: usize },
+// Where the row (j, k) is looked at behind its first point: at its last, where j and k lie in 1..n-1, so that between the two every edge is inner.
+fn behind_first(n: usize, j: usize, k: usize) -> usize
+    ensures { λ r. ⌜ r ≡ behindFirst n j k ⌝ }
+{
+    if !is_between(1, n, j) {
+        return 1;
+    }
+    if !is_between(1, n, k) {
+        return 1;
+    }
+    n
 }
 
-// Looks at every byte of a buffer.
+// Whether each mark of the row (j, k) stands at an inner edge, given the number of its first point.
+fn row_fits(n: usize, grid: &[u8], from: usize, j: usize, k: usize) -> bool
+    requires { ⌜ record { sized : Sized n (now grid); row : RowFrom n from j k } ⌝ }
+    ensures { λ r. ⌜ r ≡ rowFits n (now (grid .entry)) j k ⌝ }
+{
+    if !marks_fit(n, grid[from], Point { i: 0, j: j, k: k }) {
+        return false;
+    }
+    let mut i = behind_first(n, j, k);
+    while i <= n {
+        if !marks_fit(n, grid[from + i], Point { i: i, j: j, k: k }) {
+            return false;
+        }
+        i += 1;
+    }
+    true
+}
+
+// Whether each mark of a buffer stands at an inner edge, row by row.
+fn all_fit(n: usize, grid: &[u8]) -> bool
+    requires { ⌜ Sized n (now grid) ⌝ }
+    ensures { λ r. ⌜ r ≡ allFit n (now (grid .entry)) ⌝ }
+{
+    let count = point_count(n);
+    let mut q = Point { i: 0, j: 0, k: 0 };
+    let mut p: usize = 0;
+    while p < count {
+        if !row_fits(n, grid, p, q.j, q.k) {
+            return false;
+        }
+        q = next_point(
+            n,
+            Point {
+                i: n,
+                j: q.j,
+                k: q.k,
+            },
+        );
+        p += n + 1;
+    }
+    true
+}
+
+// The larger of two bytes.
+fn larger(a: u8, b: u8) -> u8
+    ensures { λ r. ⌜ r ≡ max a b ⌝ }
+{
+    if a < b {
+        return b;
+    }
+    a
+}
+
+// The largest of the first bytes of a buffer. The loop has no branch, so that many bytes are looked at at once.
+fn largest(count: usize, grid: &[u8]) -> u8
+    requires { ⌜ count ≤ length (now grid) ⌝ }
+    ensures { λ r. ⌜ r ≡ largest count (now (grid .entry)) ⌝ }
+{
+    let mut found: u8 = 0;
+    let mut p: usize = 0;
+    while p < count {
+        found = larger(found, grid[p]);
+        p += 1;
+    }
+    found
+}
+
+// What the first P bytes of a buffer are: no grid, or one in which a point is inside, or none.
+pub enum GridRead {
+    NoGrid,
+    Grid { signed: bool },
+}
+
+// Looks at every byte of a buffer: whether one is above 15, or above 7, and at the marks where an edge need not be inner.
 pub fn read_grid(n: usize, grid: &[u8]) -> GridRead
     requires { ⌜ Sized n (now grid) ⌝ }
     ensures { λ r. ⌜ r ≡ readOf n (now (grid .entry)) ⌝ }
 {
-    let count = point_count(n);
-    let mut q = Point { i: 0, j: 0, k: 0 };
-    let mut found: usize = 0;
-    let mut p: usize = 0;
-    while p < count {
-        if !byte_fits(n, grid[p], q) {
-            return GridRead::NoGrid;
-        }
-        found += one_inside(grid[p]);
-        q = next_point(n, q);
-        p += 1;
+    let most = largest(point_count(n), grid);
+    if 15 < most {
+        return GridRead::NoGrid;
     }
-    GridRead::Grid { inside: found }
+    if !all_fit(n, grid) {
+        return GridRead::NoGrid;
+    }
+    GridRead::Grid { signed: 7 < most }
 }
 
 // Whether the first P bytes of a buffer are a grid.
@@ -161,7 +218,7 @@ pub fn is_grid(n: usize, grid: &[u8]) -> bool
 {
     match read_grid(n, grid) {
         GridRead::NoGrid => false,
-        GridRead::Grid { inside: _ } => true,
+        GridRead::Grid { signed: _ } => true,
     }
 }
 
@@ -178,12 +235,12 @@ fn keep_marks(n: usize, grid: &mut [u8])
     }
 }
 
-// Takes the signs out of a grid that was read, given how many points are inside. A grid without signs is left as it is.
-pub fn clear_signs(n: usize, grid: &mut [u8], inside: usize)
-    requires { ⌜ Sized n (now grid) × (readOf n (now grid) ≡ Grid inside) ⌝ }
+// Takes the signs out of a grid that was read, given whether it has any. A grid without signs is left as it is.
+pub fn clear_signs(n: usize, grid: &mut [u8], signed: bool)
+    requires { ⌜ Sized n (now grid) × (readOf n (now grid) ≡ Grid signed) ⌝ }
     ensures { λ _. ⌜ now (grid .exit) ≡ unsigned n (now (grid .entry)) ⌝ }
 {
-    if inside == 0 {
+    if !signed {
         return;
     }
     keep_marks(n, grid);

@@ -1,4 +1,5 @@
 // The call mark_all: mark for each triangle of a list in turn. The grid is looked at once for the whole list.
+use columns::count_held;
 use descending::mark_fast;
 use grids::GridRead;
 use grids::clear_signs;
@@ -11,7 +12,6 @@ use list_marking::out_of_range;
 use ranging::first_out;
 use ranging::triangle_of;
 use refusals::Refusal;
-use totals::count_held;
 ghost use mathlib.Core.Path.{_≡_};
 ghost use mathlib.Core.Bool.{true};
 ghost use Prim.Native.Nat.{_%_, _≤_};
@@ -41,7 +41,7 @@ fn mark_ranged(l: Level, grid: &mut [u8], list: &[i32], totals: &mut [u16]) -> M
     ensures { λ r. ⌜ told r (now (grid .exit)) (now (totals .exit)) ≡ rangedCall l (now (grid .entry)) (now (list .entry)) (now (totals .entry)) ⌝ }
 {
     let n = l.cells();
-    let GridRead::Grid { inside } = read_grid(n, grid) else {
+    let GridRead::Grid { signed } = read_grid(n, grid) else {
         return MarkAllAnswer::Refused(Refusal::NoGrid);
     };
     if totals.len() < point_count(n / 4) {
@@ -50,7 +50,7 @@ fn mark_ranged(l: Level, grid: &mut [u8], list: &[i32], totals: &mut [u16]) -> M
     if list.len() == 0 {
         return MarkAllAnswer::Done;
     }
-    clear_signs(n, grid, inside);
+    clear_signs(n, grid, signed);
     mark_each(l, grid, list);
     count_held(n, grid, totals);
     MarkAllAnswer::Done

@@ -1,7 +1,9 @@
 // The calls open and mark, and mark once more by the descent.
+use columns::count_held;
 use descending::mark_cubed;
 use grids::GridRead;
 use grids::clear_signs;
+use grids::read_grid;
 use lattice::clear;
 use lattice::level::Level;
 use lattice::level::LevelRead;
@@ -10,13 +12,10 @@ use marking::MarkAnswer;
 use marking::out_of_range;
 use ranging::first_out;
 use ranging::triangle_of;
-use recounting::recount_met;
 use refusals::Answer;
 use refusals::Refusal;
 use scanning::mark_grid;
 use totals::clear_totals;
-use totals::read_held;
-use totals::store;
 use triangles::Triangle;
 ghost use mathlib.Core.Path.{_≡_};
 ghost use Prim.Native.Nat.{_≤_};
@@ -82,31 +81,22 @@ fn mark_edges(l: Level, grid: &mut [u8], t: Triangle, w: Way)
     }
 }
 
-// Room for the totals of any level.
-fn no_totals() -> [u16; 729]
-    ensures { λ r. ⌜ length r ≡ 729 ⌝ }
-{
-    [0u16; 729]
-}
-
-// What is left of mark for a triangle in range. The totals are counted in the scan that reads the grid, and held until nothing can be refused;
-// then only blocks that the triangle can have added a mark to are counted anew.
+// What is left of mark for a triangle in range. The totals are counted behind the marks, all of them: that takes less time than to find the blocks
+// that the triangle can have changed.
 fn mark_passed(l: Level, grid: &mut [u8], t: Triangle, totals: &mut [u16], w: Way) -> MarkAnswer
     requires { ⌜ TriangleWithin l t × (pointsOf l ≤ length (now grid)) ⌝ }
     ensures { λ r. ⌜ markTold r (now (grid .exit)) (now (totals .exit)) ≡ markPassed l t (now (grid .entry)) (now (totals .entry)) ⌝ }
 {
     let n = l.cells();
-    let mut held = no_totals();
-    let GridRead::Grid { inside } = read_held(n, grid, &mut held) else {
+    let GridRead::Grid { signed } = read_grid(n, grid) else {
         return MarkAnswer::Refused(Refusal::NoGrid);
     };
     if totals.len() < point_count(n / 4) {
         return MarkAnswer::Refused(Refusal::ShortTable);
     }
-    clear_signs(n, grid, inside);
-    store(n, &held, totals);
+    clear_signs(n, grid, signed);
     mark_edges(l, grid, t, w);
-    recount_met(l, grid, t, totals);
+    count_held(n, grid, totals);
     MarkAnswer::Done
 }
 

@@ -1,7 +1,7 @@
 // The call patch.
+use columns::count_held;
 use finding::find_odd;
 use finishing::finish;
-use finishing::finish_held;
 use finishing::put_by;
 use grids::is_grid;
 use lattice::level::Level;
@@ -73,14 +73,9 @@ fn patch_held(n: usize, grid: &mut [u8], work: &mut [u8], totals: &mut [u16]) ->
     ensures { λ r. ⌜ counted (r .rims) (r .flips) (r .ones) (r .threes) (now (grid .exit)) (now (work .exit)) (now (totals .exit))
         ≡ patchDone n (now (grid .entry)) (now (work .entry)) (now (totals .entry)) ⌝ }
 {
-    let found = patch_rims(n, grid, work);
-    let flips = finish_held(n, grid, work, totals);
-    Counts {
-        rims: found.rims,
-        flips: flips,
-        ones: found.ones,
-        threes: found.threes,
-    }
+    let counts = patch_grid(n, grid, work);
+    count_held(n, grid, totals);
+    counts
 }
 
 // The same without a table: whatever table there is, once it is true of the grid that is left, the call has done what it promises.

@@ -9,7 +9,7 @@ use native.Mathlib.Omega.{arith}
 use native.Mathlib.Nat.{le-of-suc-le-suc, not-suc-le-zero}
 use lib.ListN.{length, getD}
 use Rattle.rules.specs.Lists.{keep, count, anyOf, allOf, All, each, upto}
-use Rattle.rules.proofs.Bits.{Bounds, and-left, and-right, both, ands}
+use Rattle.rules.proofs.Bits.{Bounds, &&-assoc, and-left, and-right, both, ands}
 
 -- ---- what holds of each member of a list
 module _ {A : Type 0} where
@@ -86,6 +86,10 @@ module _ {A : Type 0} where
   pub allOf-and : (v w : A → Bool) (l : List A) → allOf (λ x. v x && w x) l ≡ allOf v l && allOf w l
   allOf-and v w [] = refl
   allOf-and v w (x ∷ l) = rw (allOf-and v w l) (simp ands)
+
+  pub allOf-append : (w : A → Bool) (l m : List A) → allOf w (l ++ m) ≡ allOf w l && allOf w m
+  allOf-append w [] m = refl
+  allOf-append w (x ∷ l) m = ap (λ (b : Bool). w x && b) (allOf-append w l m) ∙ sym (&&-assoc (w x) (allOf w l) (allOf w m))
 
   -- not every member passes: one does not
   pub one-fails : (w : A → Bool) (P : A → Type 0) (l : List A) → All P l → allOf w l ≡ false → (x : A) × P x × (w x ≡ false)

@@ -71,6 +71,10 @@ module _ {A : Type 0} where
   sum-plus f g [] = refl
   sum-plus f g (x ∷ l) = let e = sum-plus f g l in omega arith
 
+  pub sum-zero : (l : List A) → sumOf (λ x. 0) l ≡ 0
+  sum-zero [] = refl
+  sum-zero (x ∷ l) = let e = sum-zero l in omega arith
+
   pub sum-keep : (f : A → ℕ) (w : A → Bool) (l : List A) → sumOf f (keep w l) ≡ sumOf (λ x. value (w x) (f x)) l
   sum-keep f w [] = refl
   sum-keep f w (x ∷ l) = go (w x) (sum-keep f w l)
@@ -101,6 +105,11 @@ module _ {A B : Type 0} where
   pub sum-each : (f : B → ℕ) (g : A → List B) (l : List A) → sumOf f (each g l) ≡ sumOf (λ x. sumOf f (g x)) l
   sum-each f g [] = refl
   sum-each f g (x ∷ l) = sum-append f (g x) (each g l) ∙ ap (λ (k : ℕ). sumOf f (g x) + k) (sum-each f g l)
+
+  -- the order of two sums does not matter
+  pub sum-swap : (f : A → B → ℕ) (l : List A) (m : List B) → sumOf (λ x. sumOf (f x) m) l ≡ sumOf (λ y. sumOf (λ x. f x y) l) m
+  sum-swap f [] m = sym (sum-zero m)
+  sum-swap f (x ∷ l) m = ap (λ (k : ℕ). sumOf (f x) m + k) (sum-swap f l m) ∙ sym (sum-plus (f x) (λ y. sumOf (λ z. f z y) l) m)
 
 -- the last number apart
 pub sum-last : (f : ℕ → ℕ) (i k : ℕ) → sumOf f (upto i (suc k)) ≡ sumOf f (upto i k) + f (i + k)

@@ -1,6 +1,6 @@
 // The calls that ask a table of totals, or make it true: any_mark, totals_true, count_totals.
 use asking::AskAnswer;
-use grids::next_point;
+use columns::count_held;
 use lattice::level::Level;
 use lattice::level::LevelRead;
 use lattice::level::point_count;
@@ -8,15 +8,12 @@ use looking::table_says;
 use refusals::Answer;
 use refusals::Refusal;
 use rules::Point;
-use totals::block_box;
-use totals::box_marks;
-use totals::count_held;
 ghost use mathlib.Core.Path.{_≡_};
 ghost use Prim.Native.Nat.{_≤_};
 ghost use lib.ListN.{length};
 ghost use Rattle.lattice.specs.Buffers.{Sized};
 ghost use Rattle.totals.specs.Totals.{blockCount};
-ghost use Rattle.asking.specs.Ask.{isTrue};
+ghost use Rattle.asking.specs.Ask.{isTrue, alike};
 ghost use Rattle.asking.specs.Call.{said, told, badAlong, badBox, anyCall, trueCall, countTold, countCall};
 
 // Answers yes or no.
@@ -73,23 +70,36 @@ pub fn any_mark(level: u32, grid: &[u8], totals: &[u16], low: Point, high: Point
     answer(table_says(n, grid, totals, low, high))
 }
 
-// Whether every total is true: each block is counted, up to the first whose total is not.
+// Room for the totals of any level.
+fn no_totals() -> [u16; 729]
+    ensures { λ r. ⌜ length r ≡ 729 ⌝ }
+{
+    [0u16; 729]
+}
+
+// Whether the first entries of two tables are the same.
+fn alike(count: usize, held: &[u16], totals: &[u16]) -> bool
+    requires { ⌜ (count ≤ length (now held)) × (count ≤ length (now totals)) ⌝ }
+    ensures { λ r. ⌜ r ≡ alike count (now (held .entry)) (now (totals .entry)) ⌝ }
+{
+    let mut q: usize = 0;
+    while q < count {
+        if totals[q] != held[q] {
+            return false;
+        }
+        q += 1;
+    }
+    true
+}
+
+// Whether every total is true: all blocks are counted, into a table of its own.
 fn is_true(n: usize, grid: &[u8], totals: &[u16]) -> bool
     requires { ⌜ Sized n (now grid) × (blockCount n ≤ length (now totals)) ⌝ }
     ensures { λ r. ⌜ r ≡ isTrue n (now (grid .entry)) (now (totals .entry)) ⌝ }
 {
-    let last = n / 4;
-    let count = point_count(last);
-    let mut c = Point { i: 0, j: 0, k: 0 };
-    let mut q: usize = 0;
-    while q < count {
-        if totals[q] != box_marks(n, grid, block_box(n, c)) {
-            return false;
-        }
-        c = next_point(last, c);
-        q += 1;
-    }
-    true
+    let mut held = no_totals();
+    count_held(n, grid, &mut held);
+    alike(point_count(n / 4), &held, totals)
 }
 
 // The call totals true: whether the table is true. It refuses an unknown level, a grid buffer shorter than P, and a short table.

@@ -1,22 +1,15 @@
--- A sum over the numbers from one on and below another, and over the points of a box, row by row. Assumes nothing.
-use mathlib.Core.Path.{_≡_, refl, sym, ap, fun-ext, _∙_}
+-- A sum over the numbers from one on and below another, and over points, along one axis after the other. Assumes nothing.
+use mathlib.Core.Path.{_≡_, ap, fun-ext, _∙_}
 use mathlib.Core.List.{List, map}
 use Prim.Native.Nat.{ℕ, zero, suc, _+_, _*_, _-_, _≤_, _<_}
-use native.Mathlib.Nat.{suc-add}
+use native.Mathlib.Nat.{add-zero, mul-suc, mul-le-mul-left}
 use native.Mathlib.Omega.{arith}
-use lib.ListN.{length, getD}
-use Rattle.rules.specs.declared.Axis.the-variants.{X, Y, Z}
 use Rattle.rules.specs.declared.Point.{Point}
-use Rattle.rules.specs.declared.Box.{Box}
 use Rattle.rules.specs.Lists.{upto, sumOf, each}
-use Rattle.rules.specs.Lattice.{pointNumber, pointCount}
-use Rattle.rules.specs.Grid.{byteMarks}
-use Rattle.rules.specs.Patch.{side, extent}
-use Rattle.rules.proofs.Lists.{upto-more}
-use Rattle.rules.proofs.Sums.{sum-each, sum-map}
-use Rattle.lattice.proofs.Laws.{num-parts, num-below}
-use Rattle.totals.specs.Totals.{marksAt, marksIn}
-use Rattle.totals.specs.Counting.{rowMarks, layerMarks, SmallBox}
+use Rattle.rules.proofs.Bits.{Bounds}
+use Rattle.rules.proofs.Lists.{all-upto, all-weaken, upto-more}
+use Rattle.rules.proofs.Same.{sum-same}
+use Rattle.rules.proofs.Sums.{sum-zero, sum-each, sum-map}
 
 -- where a loop over the numbers from a on and below c stands at p: what is held and what is left come to the whole
 module _ (f : ℕ → ℕ) (c : ℕ) where
@@ -44,6 +37,27 @@ sum-four f p a b c d u v w x =
     let s = x ∙ ap f m in
     omega (arith, u, q, r, s)
 
+-- a range in two parts
+pub sum-split : (f : ℕ → ℕ) (i a b : ℕ) → sumOf f (upto i (a + b)) ≡ sumOf f (upto i a) + sumOf f (upto (i + a) b)
+sum-split f i zero b = let e : 0 + b ≡ b = omega arith in rw (e, add-zero i) (omega arith)
+sum-split f i (suc a) b =
+    let e : suc a + b ≡ suc (a + b) = omega arith in
+    let k : i + suc a ≡ suc i + a = omega arith in
+    let m = sum-split f (suc i) a b in
+    rw (e, k) (omega arith)
+
+-- a range in which nothing counts
+pub sum-none : (f : ℕ → ℕ) (i k : ℕ) → ((j : ℕ) → Bounds i (i + k) j → f j ≡ 0) → sumOf f (upto i k) ≡ 0
+sum-none f i k h = sum-same f (λ j. 0) (upto i k) (all-weaken _ _ h (upto i k) (all-upto i k)) ∙ sum-zero (upto i k)
+
+-- a range in which no number is above m, and one of at most four
+sum-most : (f : ℕ → ℕ) (m i k : ℕ) → ((j : ℕ) → f j ≤ m) → sumOf f (upto i k) ≤ m * k
+sum-most f m i zero h = omega arith
+sum-most f m i (suc k) h = let e = sum-most f m (suc i) k h in let a = h i in rw (mul-suc m k) (omega arith)
+
+pub four-most : (f : ℕ → ℕ) (m i k : ℕ) → ((j : ℕ) → f j ≤ m) → k ≤ 4 → sumOf f (upto i k) ≤ 4 * m
+four-most f m i k h l = let e = sum-most f m i k h in let a = mul-le-mul-left m l in omega arith
+
 -- ---- the points of a box
 -- a sum over points, along one axis after the other
 pub nested-sum : (f : Point → ℕ) (A B C : List ℕ) → sumOf f (each (λ z. each (λ y. map (λ x. record { i = x; j = y; k = z }) A) B) C)
@@ -52,24 +66,3 @@ nested-sum f A B C =
     sum-each f (λ z. each (λ y. map (λ x. record { i = x; j = y; k = z }) A) B) C
     ∙ ap (λ (g : ℕ → ℕ). sumOf g C) (fun-ext (λ z. sum-each f (λ y. map (λ x. record { i = x; j = y; k = z }) A) B
     ∙ ap (λ (g : ℕ → ℕ). sumOf g B) (fun-ext (λ y. sum-map f (λ x. record { i = x; j = y; k = z }) A))))
-
--- numbers that all lie r further on
-sum-moved : (f : ℕ → ℕ) (r a c : ℕ) → sumOf (λ x. f (x + r)) (upto a c) ≡ sumOf f (upto (a + r) c)
-sum-moved f r a zero = refl
-sum-moved f r a (suc c) = rw (sym (suc-add a r)) (ap (λ (k : ℕ). f (a + r) + k) (sum-moved f r (suc a) c))
-
--- the numbers of a row's points follow each other
-pub by-layers : (n : ℕ) (g : List ℕ) (b : Box) → marksIn n g b ≡ sumOf (layerMarks n g b) (extent b Z)
-unfolding marksIn layerMarks rowMarks
-by-layers n g b =
-    nested-sum (marksAt n g) (extent b X) (extent b Y) (extent b Z)
-    ∙ ap (λ (f : ℕ → ℕ). sumOf f (extent b Z)) (fun-ext (λ z.
-    ap (λ (f : ℕ → ℕ). sumOf f (extent b Y)) (fun-ext (λ y. sum-moved (λ i. byteMarks (getD g i 0)) (suc n * (y + suc n * z)) (b .lo .i) (side b X)))))
-
--- the bytes of a box's row lie in the buffer
-pub row-fits : (n : ℕ) (b : Box) (w : List ℕ) (j k : ℕ) → n ≤ 32 → pointCount n ≤ length w → SmallBox n b → j < b .hi .j → k ≤ n →
-    (pointNumber n (record { i = b .lo .i; j = j; k = k }) ≤ 35937) × (pointNumber n (record { i = b .lo .i; j = j; k = k }) + side b X ≤ length w)
-row-fits n b w j k m l f h r =
-    let p = num-parts n (record { i = b .lo .i; j = j; k = k }) m (record { i = f .xl; j = omega (arith, f .ye); k = r }) in
-    let e = num-below n (record { i = n; j = j; k = k }) (record { i = omega arith; j = omega (arith, f .ye); k = r }) in
-    (omega (arith, p .1, f .xl), omega (arith, e, f .xe, f .xs))

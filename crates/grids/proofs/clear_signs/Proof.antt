@@ -1,7 +1,10 @@
 -- `clear_signs` meets its contract: a grid without signs is left as it is, and is what it is without them. Assumes nothing.
-use mathlib.Core.Path.{_∙_}
+use mathlib.Core.Path.{refl, ap, _∙_}
 use borrow.Author.Needs.{needs}
-use Rattle.grids.proofs.Unsigning.{read-some, read-inside, none-inside, unsigned-same}
+use Rattle.lattice.proofs.Tests.{fails}
+use Rattle.grids.specs.declared.GridRead.the-variants.{Grid}
+use Rattle.grids.proofs.Reading.{read-some, read-unsigned}
+use Rattle.grids.proofs.Unsigning.{unsigned-same}
 use Rattle.grids.proofs.clear_signs.Statement.{statement}
 use Rattle.grids.proofs.clear_signs.Tie as tie
 
@@ -10,7 +13,7 @@ returns c =
     let s = c .before .before in
     let n = s .args .n in
     let g = s .args .grid .now in
-    let none = none-inside n g (read-inside n g _ (s .pre .1) ∙ c .if1 .taken) in
+    let none = read-unsigned n g (s .pre .1 ∙ ap Grid (fails refl (c .if1 .taken))) in
     unsigned-same n g (s .pre .0 .long) (read-some n g _ (s .pre .1)) none
 
 keep-marks-requires : tie.Need-keep-marks-requires

@@ -1,7 +1,7 @@
--- `is_grid` is what `read_grid` tells: there is a count of points inside exactly where there is a grid. Assumes nothing.
+-- `is_grid` is what `read_grid` tells: that it is a grid, and whether with signs, exactly where it is one. Assumes nothing.
 use mathlib.Core.Path.{sym, _∙_}
 use borrow.Author.Needs.{needs}
-use Rattle.grids.proofs.Unsigning.{read-none, read-some}
+use Rattle.grids.proofs.Reading.{read-none, read-some}
 use Rattle.grids.proofs.is_grid.Statement.{statement}
 use Rattle.grids.proofs.is_grid.Tie as tie
 

@@ -14,8 +14,9 @@ use Rattle.lattice.specs.declared.level.Level.{Level}
 use Rattle.lattice.specs.Levels.{cellsOf}
 use Rattle.lattice.proofs.LevelFacts.{cells-most}
 use Rattle.grids.specs.declared.GridRead.the-variants.{Grid}
-use Rattle.grids.specs.Scans.{readOf}
-use Rattle.grids.proofs.Unsigning.{read-none, read-some, unsigned-ready}
+use Rattle.grids.specs.Reading.{readOf}
+use Rattle.grids.proofs.Reading.{read-none, read-some}
+use Rattle.grids.proofs.Unsigning.{unsigned-ready}
 use Rattle.list_marking.specs.Triangles.{trianglesOf, markedAll}
 use Rattle.list_marking.proofs.Marked.{none-marked, some-marked}
 use Rattle.list_call.proofs.mark_ranged.Statement.{statement}
@@ -29,8 +30,8 @@ read-grid-requires c κs =
     let s = c .before .before .before .before in
     rw (c .before .cells .ensures) (record { small = cells-most (s .args .l); long = s .pre .grid-long })
 
-enum-known-inside : tie.Need-enum-known-inside
-enum-known-inside c = search needs
+enum-known-signed : tie.Need-enum-known-signed
+enum-known-signed c = search needs
 
 enum-told : tie.Need-enum-told
 enum-told c = search needs
@@ -70,9 +71,9 @@ module _ (p : tie.After-point-count) where
   cells-are : looked .before .before .cells .result ≡ cellsOf level
   cells-are = looked .before .before .cells .ensures
 
-  -- it is a grid, with so many points inside
-  read : readOf (cellsOf level) grid ≡ Grid (p .before .before .inside .given .0 .0)
-  read = sym (ap (λ (n : ℕ). readOf n grid) cells-are) ∙ sym (looked .read-grid .ensures) ∙ p .before .before .inside .given .1
+  -- it is a grid, with signs or without
+  read : readOf (cellsOf level) grid ≡ Grid (p .before .before .signed .given .0 .0)
+  read = sym (ap (λ (n : ℕ). readOf n grid) cells-are) ∙ sym (looked .read-grid .ensures) ∙ p .before .before .signed .given .1
 
   is : isGrid (cellsOf level) grid ≡ true
   is = read-some (cellsOf level) grid _ read
@@ -148,7 +149,7 @@ mark-ranged-spec =
     (tie.spec
     cells-requires
     read-grid-requires
-    enum-known-inside
+    enum-known-signed
     enum-told
     same-length
     returns

@@ -1,43 +1,39 @@
--- `mark_passed` counts totals while it reads the grid; only blocks near the triangle get marks, so that these alone are counted anew. Assumes nothing.
-use mathlib.Core.Path.{sym, ap, ap₂, _∙_}
-use mathlib.Core.List.{List, _++_}
-use Prim.Native.Nat.{ℕ, _≤_, _<_}
+-- `mark_passed`: each return is a row of the grid or of the table; behind them the marks are those of the grid without its signs, and the totals are
+-- counted of what is left. Assumes nothing.
+use mathlib.Core.Path.{_≡_, sym, ap, ap₂, _∙_}
+use mathlib.Core.Bool.{true}
+use mathlib.Core.List.{List}
+use Prim.Native.Nat.{ℕ, _/_, _≤_, _<_}
 use native.Mathlib.Omega.{arith}
 use borrow.Author.Tests.{lt-ltb, le-ltb}
 use borrow.Author.Needs.{needs}
-use lib.ListN.{length, take, drop}
+use lib.ListN.{length}
+use Rattle.rules.specs.Lattice.{pointCount}
+use Rattle.rules.specs.Grid.{isGrid}
+use Rattle.lattice.specs.declared.level.Level.{Level}
 use Rattle.lattice.specs.Levels.{cellsOf}
 use Rattle.lattice.proofs.LevelFacts.{cells-most}
-use Rattle.grids.proofs.Unsigning.{read-none, read-some, unsigned-ready}
-use Rattle.totals.specs.Totals.{blockCount}
+use Rattle.grids.specs.declared.GridRead.the-variants.{Grid}
+use Rattle.grids.specs.Reading.{readOf}
+use Rattle.grids.proofs.Reading.{read-none, read-some}
+use Rattle.grids.proofs.Unsigning.{unsigned-ready}
+use Rattle.totals.specs.Totals.{trued}
 use Rattle.meeting.specs.Met.{marked}
 use Rattle.meeting.proofs.Written.{marked-unsigned}
 use Rattle.marking.specs.Mark.{done, markPassed}
-use Rattle.marking.proofs.Calls.{blocks-most}
-use Rattle.mark_calls.proofs.Recount.{recounted}
 use Rattle.mark_calls.proofs.mark_passed.Statement.{statement}
 use Rattle.mark_calls.proofs.mark_passed.Tie as tie
 
 cells-requires : tie.Need-cells-requires
 cells-requires c κs = search needs
 
-no-totals-requires : tie.Need-no-totals-requires
-no-totals-requires c κs = search needs
+read-grid-requires : tie.Need-read-grid-requires
+read-grid-requires c κs =
+    let s = c .before .before .before .before in
+    rw (c .before .cells .ensures) (record { small = cells-most (s .args .l); long = s .pre .1 })
 
-slice-aggregate-read-held : tie.Need-slice-aggregate-read-held
-slice-aggregate-read-held c = search needs
-
-read-held-requires : tie.Need-read-held-requires
-read-held-requires c κs =
-    let l = c .before .before .before .before .before .before .args .l in
-    let m = blocks-most l in
-    rw (c .before .before .before .cells .ensures) (
-      record { small = cells-most l; long = c .before .before .before .before .before .before .pre .1 },
-      omega (arith, m, c .before .before .no-totals .ensures),
-    )
-
-enum-known-inside : tie.Need-enum-known-inside
-enum-known-inside c = search needs
+enum-known-signed : tie.Need-enum-known-signed
+enum-known-signed c = search needs
 
 enum-told : tie.Need-enum-told
 enum-told c = search needs
@@ -48,21 +44,43 @@ same-length c = search needs
 returns : tie.Need-returns
 unfolding markPassed
 returns c =
-    let at-read-held = c .before .before .before in
-    let at-cells = at-read-held .before .before .before .before in
-    let start = at-cells .before .before .before in
-    let none = read-none (cellsOf (start .args .l))
-    (start .args .grid .now)
-    (rw (at-cells .cells .ensures) at
-    (sym (at-read-held .read-held .ensures .0) ∙ c .enum-told .given .1)) in
-    simp none
+    let at-read-grid = c .before .before in
+    let at-cells = at-read-grid .before .before in
+    let s = at-cells .before .before .before in
+    let e = rw (at-cells .cells .ensures) at (sym (at-read-grid .read-grid .ensures) ∙ c .enum-told .given .1) in
+    simp (read-none (cellsOf (s .args .l)) (s .args .grid .now) e)
 
 point-count-requires : tie.Need-point-count-requires
 point-count-requires c κs =
-    let at-cells = c .before .before .before .before .before .before .before .before in
-    let start = at-cells .before .before .before in
-    let m = cells-most (start .args .l) in
-    omega (arith, m, at-cells .cells .ensures)
+    let at-cells = c .before .before .before .before .before in
+    omega (arith, at-cells .cells .ensures, cells-most (at-cells .before .before .before .args .l))
+
+-- ---- once the buffer is read
+module _ (p : tie.After-point-count) where
+  abbrev looked : tie.After-read-grid
+  looked = p .before .before .before .before
+
+  abbrev start : tie.Start
+  start = looked .before .before .before .before .before
+
+  abbrev level : Level
+  level = start .args .l
+
+  abbrev grid : List ℕ
+  grid = start .args .grid .now
+
+  abbrev table : List ℕ
+  table = start .args .totals .now
+
+  cells-are : looked .before .before .cells .result ≡ cellsOf level
+  cells-are = looked .before .before .cells .ensures
+
+  -- it is a grid, with signs or without
+  read : readOf (cellsOf level) grid ≡ Grid (p .before .before .signed .given .0 .0)
+  read = sym (ap (λ (n : ℕ). readOf n grid) cells-are) ∙ sym (looked .read-grid .ensures) ∙ p .before .before .signed .given .1
+
+  is : isGrid (cellsOf level) grid ≡ true
+  is = read-some (cellsOf level) grid _ read
 
 same-length-2 : tie.Need-same-length-2
 same-length-2 c = search needs
@@ -70,80 +88,34 @@ same-length-2 c = search needs
 returns-2 : tie.Need-returns-2
 unfolding markPassed
 returns-2 c =
-    let at-inside = c .before .before .before in
-    let at-read-held = at-inside .before .before .before in
-    let far = at-read-held .before .before .before .before in
-    let l = far .before .before .before .args .l in
-    let e = rw (far .cells .ensures) at
-    (sym (at-read-held .read-held .ensures .0) ∙ at-inside .inside .given .1) in
-    let k : length (far .before .before .before .args .totals .now) < blockCount (cellsOf l) = rw
-    (c .before .point-count .ensures .0, far .cells .ensures) at (c .if1 .taken) in
-    simp (
-      read-some (cellsOf l)
-          (far .before .before .before .args .grid .now) _ e,
-      lt-ltb _ _ k,
-    )
+    let p = c .before in
+    let short : length (table p) < pointCount (cellsOf (level p) / 4) = rw (p .point-count .ensures .0, cells-are p) at (c .if1 .taken) in
+    simp (is p, lt-ltb _ _ short)
+
+-- and the table has room
+room : (e : tie.Else1) → pointCount (cellsOf (level (e .before)) / 4) ≤ length (table (e .before))
+room e = rw (e .before .point-count .ensures .0, cells-are (e .before)) at (e .if1 .left)
 
 clear-signs-requires : tie.Need-clear-signs-requires
 clear-signs-requires c κs =
-    let read = c .before .before .before .before .before .before .before in
-    let counted = read .before .before .before .before in
-    let s = counted .before .before .before in
-    let cells = counted .cells .ensures in
-    let e = rw cells at (sym (read .read-held .ensures .0) ∙ c .before .before .before .before .inside .given .1) in
-    rw cells (record { small = cells-most (s .args .l); long = s .pre .1 }, e)
-
-slice-aggregate-store : tie.Need-slice-aggregate-store
-slice-aggregate-store c = search needs
-
-store-requires : tie.Need-store-requires
-store-requires c κs =
-    let at-if1 = c .before .before .before .before .before .before in
-    let at-point-count = at-if1 .before in
-    let far = at-point-count .before .before .before in
-    let l = far .before .before .before .before .before .before .before .before .before .args .l in
-    let m = blocks-most l in
-    let k : blockCount (cellsOf l) ≤ length
-    (far .before .before .before .before .before .before .before .before .before .args .totals .now) = rw (
-      at-point-count .point-count .ensures .0,
-      far .before .before .before .before .before .before .cells .ensures,
-    ) at (at-if1 .if1 .left) in
-    rw (far .before .before .before .before .before .before .cells .ensures) (record {
-      small = cells-most l;
-      held-long = omega (
-        arith,
-        m,
-        far .before .before .before .before .before .no-totals .ensures,
-        far .before .before .read-held .kept .1 .1 .0,
-      );
-      table-long = k;
-    })
+    let p = c .before .before in
+    rw (cells-are p) (record { small = cells-most (level p); long = start p .pre .1 }, read p)
 
 mark-edges-requires : tie.Need-mark-edges-requires
 mark-edges-requires c κs =
-    let at-clear-signs = c .before .before .before .before .before .before .before .before in
-    let far = at-clear-signs .before .before in
-    let end = far .before .before .before .before .before .before .before .before .before .before in
-    let s = end .before .before .before in
-    let u = rw (end .cells .ensures) at (at-clear-signs .clear-signs .ensures) in
-    (s .pre .0, rw u (unsigned-ready (s .args .l) (s .args .grid .now) (s .pre .1)))
+    let k = c .before .before .before in
+    let p = k .before .before .before in
+    let u = rw (cells-are p) at (k .clear-signs .ensures) in
+    (start p .pre .0, rw u (unsigned-ready (level p) (grid p) (start p .pre .1)))
 
-recount-met-requires : tie.Need-recount-met-requires
-recount-met-requires c κs =
-    let at-mark-edges = c .before .before .before .before in
-    let at-store = at-mark-edges .before .before .before .before in
-    let far = at-store .before .before in
-    let end = far .before .before .before .before .before .before .before .before .before .before in
-    let s = end .before .before .before .before .before .before .before .before in
-    let l = s .args .l in
-    let count = far .before .before .before .before .before .before .point-count .ensures .0 in
-    let cells = end .before .before .before .before .before .cells .ensures in
-    let room = far .before .before .before .before .before .if1 .left in
-    let k : blockCount (cellsOf l) ≤ length (s .args .totals .now) = rw (count, cells) at room in record {
-      within = s .pre .0;
-      grid-long = omega (arith, s .pre .1, far .before .before .before .clear-signs .kept .1 .0, at-mark-edges .mark-edges .kept .1 .0);
-      table-long = omega (arith, k, at-store .store .kept .1 .1 .0);
-    }
+count-held-requires : tie.Need-count-held-requires
+count-held-requires c κs =
+    let m = c .before .before .before .before in
+    let k = m .before .before .before .before in
+    let e = k .before .before in
+    let p = e .before in
+    let same = m .mark-edges .kept .1 .0 ∙ k .clear-signs .kept .1 .0 in
+    rw (cells-are p) (record { small = cells-most (level p); long = rw same (start p .pre .1) }, room e)
 
 same-length-3 : tie.Need-same-length-3
 same-length-3 c = search needs
@@ -154,39 +126,25 @@ same-length-4 c = search needs
 returns-3 : tie.Need-returns-3
 unfolding markPassed
 returns-3 c =
-    let at-mark-edges = c .before .before .before .before .before .before .before in
-    let far = at-mark-edges .before .before .before in
-    let end = far .before .before .before .before .before .before .before .before .before .before in
-    let first = end .before .before .before .before .before .before .before .before .before .before in
-    let s = first .before in
-    let l = s .args .l in
-    let x = s .args .t in
-    let g = s .args .grid .now in
-    let t = s .args .totals .now in
-    let n = cellsOf l in
-    let cells = end .before .before .before .before .before .before .before .before .cells .ensures in
-    let e = rw cells at (sym (end .before .before .before .before .read-held .ensures .0) ∙ end .before .inside .given .1) in
-    let some = read-some n g _ e in
-    let count = far .before .before .before .before .before .before .before .before .before .point-count .ensures .0 in
-    let room = far .before .before .before .before .before .before .before .before .if1 .left in
-    let k : blockCount n ≤ length t = rw (count, cells) at room in
-    let h = rw cells at (end .before .before .before .before .read-held .ensures .1) in
-    let u = rw cells at (far .before .before .before .before .before .before .clear-signs .ensures) in
-    let p = rw cells at (far .before .store .ensures) in
-    let m = at-mark-edges .mark-edges .ensures ∙ ap (marked l x) u ∙ marked-unsigned l x g in
-    let q = p ∙ ap (λ (j : List ℕ). take (blockCount n) j ++ drop (blockCount n) t) (h some) in
-    let r = rw (m, q) at (c .before .before .recount-met .ensures) in
-    simp (some, le-ltb _ _ k) (ap₂ done m (recounted l x (s .pre .0) g (s .pre .1) some _ t _ k r))
+    let h = c .before .before in
+    let b = h .before .before .before .before .before in
+    let k = b .before .before .before .before in
+    let e = k .before .before in
+    let p = e .before in
+    let l = level p in
+    let x = start p .args .t in
+    let u = rw (cells-are p) at (k .clear-signs .ensures) in
+    let m = b .mark-edges .ensures ∙ ap (marked l x) u ∙ marked-unsigned l x (grid p) in
+    let counted = rw (cells-are p) at (h .count-held .ensures) ∙ ap (λ (g : List ℕ). trued (cellsOf l) g (table p)) m in
+    simp (is p, le-ltb _ _ (room e)) (ap₂ done m counted)
 
 pub mark-passed-spec : {M : Type 1} → statement M
 mark-passed-spec =
     tie.close
     (tie.spec
     cells-requires
-    no-totals-requires
-    slice-aggregate-read-held
-    read-held-requires
-    enum-known-inside
+    read-grid-requires
+    enum-known-signed
     enum-told
     same-length
     returns
@@ -194,10 +152,8 @@ mark-passed-spec =
     same-length-2
     returns-2
     clear-signs-requires
-    slice-aggregate-store
-    store-requires
     mark-edges-requires
-    recount-met-requires
+    count-held-requires
     same-length-3
     same-length-4
     returns-3)

@@ -108,7 +108,7 @@ unfolding opened
 opened-true l g t h k =
     let rest = drop (pointsOf l) g in
     let e = cleared-length (pointsOf l) g h in
-    blank-true (cellsOf l) (replicate (pointsOf l) 0 ++ rest) t (omega arith) (open-grid (cellsOf l) rest) (open-marks (cellsOf l) rest) k
+    blank-true (cellsOf l) (replicate (pointsOf l) 0 ++ rest) (omega arith) (open-grid (cellsOf l) rest) (open-marks (cellsOf l) rest) t
 
 returns-4 : tie.Need-returns-4
 unfolding openRows openCall opened
