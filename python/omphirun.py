@@ -224,7 +224,7 @@ def _fault_of(parameter, view):
     code = (view.format or b"B").decode().lstrip("@=<")
     if len(code) != 1 or code not in _FORMATS[parameter.c] or view.size != ctypes.sizeof(parameter.type):
         return TypeError(f"{parameter.name} has to hold {parameter.c} ('{_FORMATS[parameter.c][0]}'), and not '{(view.format or b'B').decode()}'")
-    if (view.at or 0) % view.size:
+    if view.bytes and view.at % view.size:  # an empty array may point anywhere
         return ValueError(f"{parameter.name} is not aligned")
     return None
 

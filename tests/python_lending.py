@@ -33,7 +33,8 @@ def refusals():
         refused(5, "NO_GRID", None, None, call, 2, bytearray(b"\1" * 125), good, totals)
         refused(16, "SHORT_TABLE", None, None, call, 2, grid, good, totals[:-1])
     refused(4, "BELOW_RANGE", 9 * 1000 + 5, 2, om.mark_all, 2, grid, good * 1000 + array("i", [MIDDLE] * 5 + [0] * 4), totals)
-    for none in (array("i"), memoryview(good)[:0], b""):
+    nowhere = (ctypes.c_int32 * 0).from_buffer(bytearray(40), 2)  # no memory, and not aligned
+    for none in (array("i"), memoryview(good)[:0], nowhere, b""):
         if none != b"":
             om.mark_all(2, grid, none, totals)
     hold(not any(grid), "a point marks nothing, nor do no triangles")

@@ -15,7 +15,8 @@ ROOT = os.path.dirname(TESTS)
 FAULTS = {
     "what cannot be written is lent for writing": ('(_WRITABLE if parameter.kind == "written" else 0)', "0"),
     "memory with gaps is lent": ("_WITHOUT_GAPS = 0x01, 0x04, 0x38", "_WITHOUT_GAPS = 0x01, 0x04, 0x18"),
-    "memory that is not aligned is lent": ("    if (view.at or 0) % view.size:\n", "    if False:\n"),
+    "memory that is not aligned is lent": ("    if view.bytes and view.at % view.size:", "    if False:"),
+    "no memory has to be aligned": ("    if view.bytes and view.at % view.size:", "    if (view.at or 0) % view.size:"),
     "memory is lent twice": ("        _hold_apart(lent)\n", ""),
     "what is only read may not overlap": ('if "written" in (one.kind, other.kind) and', "if"),
     "numbers of 64 bits are lent": (" or view.size != ctypes.sizeof(parameter.type)", ""),
