@@ -92,10 +92,10 @@ lock() {
 
 unlock() { exec 9<&-; }
 
-# How many provers rt starts at a time. It waits for all of them before it starts the next, so twice as many as there are processors keep these
-# busy meanwhile; each takes about a gigabyte of memory.
+# How many provers rt starts at a time: as many as there are processors. Twice as many would keep these busy while rt waits for the last of a
+# batch, but a check that shares its processor takes an eighth longer (docs/BENCH.md). Each takes up to a gigabyte of memory.
 provers() {
-    count=$((2 * $(nproc 2>/dev/null || echo 1)))
+    count=$(nproc 2>/dev/null || echo 1)
     [ "$count" -le 8 ] || count=8
     echo "$count"
 }

@@ -2,8 +2,8 @@
 pub mod placing;
 
 use accepting::AcceptAnswer;
-use grids::all_even;
-use lattice::byte::is_inside;
+use byte::is_inside;
+use faces::all_even;
 use lattice::clear;
 use lattice::level::Level;
 use lattice::level::LevelRead;

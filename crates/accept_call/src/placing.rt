@@ -1,7 +1,7 @@
 // The quads of a list put into a buffer: the mark of each edge, and the end of it that its quad says is inside.
-use lattice::byte::turn;
-use lattice::byte::with_sign;
-use lattice::member;
+use byte::member;
+use byte::turn;
+use byte::with_sign;
 use lattice::number_of;
 use lattice::up;
 use quad_reading::Reading;

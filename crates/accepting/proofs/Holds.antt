@@ -19,10 +19,10 @@ use Rattle.rules.proofs.Cuts.{samePoint→}
 use Rattle.rules.proofs.Chains.{same-point}
 use Rattle.rules.proofs.Store.{number-inj}
 use Rattle.rules.proofs.Again.{held-grid, held-marks}
-use Rattle.lattice.specs.Byte.{above, withSign}
+use Rattle.byte.specs.Byte.{above, withSign}
 use Rattle.lattice.specs.Cells.{turnAt}
 use Rattle.lattice.proofs.Laws.{num-below}
-use Rattle.lattice.proofs.Parts.{toggle-any, toggle-above}
+use Rattle.byte.proofs.Parts.{toggle-any, toggle-above}
 use Rattle.accepting.specs.Placing.{sayAt}
 
 -- the marks are E and the signs I, and nothing else is in a point's byte

@@ -9,7 +9,7 @@ use Rattle.rules.specs.Lists.{allOf}
 use Rattle.rules.specs.Lattice.{up, points, pointNumber}
 use Rattle.rules.specs.Grid.{has, inside, marks}
 use Rattle.rules.specs.Signs.{sign}
-use Rattle.lattice.specs.Byte.{withSign}
+use Rattle.byte.specs.Byte.{withSign}
 use Rattle.lattice.specs.Cells.{turnAt}
 use Rattle.surfacing.specs.Sides.{Four}
 use Rattle.quad_reading.specs.declared.Reading.{Reading}

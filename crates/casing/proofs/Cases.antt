@@ -17,10 +17,10 @@ use Rattle.stl_feeding.proofs.Streamed.{stream-none, stream-length}
 use Rattle.telling.specs.Told.{lentList}
 use Rattle.telling.proofs.Tells.{list-long}
 use Rattle.wording.specs.declared.Order.{Order}
-use Rattle.planning.specs.declared.Words.{Words}
-use Rattle.planning.specs.declared.Planned.the-variants.{Stands, Stops}
-use Rattle.planning.specs.Plan.{saidOf}
-use Rattle.planning.specs.Read.{Marked}
+use Rattle.plans.specs.declared.Words.{Words}
+use Rattle.plans.specs.declared.Planned.the-variants.{Stands, Stops}
+use Rattle.plans.specs.Plan.{saidOf}
+use Rattle.plans.specs.Read.{Marked}
 use Rattle.job_making.specs.declared.Parts.{Parts}
 use Rattle.job_making.specs.Parts.{JobRoom, AllOrNone, Makes}
 use Rattle.casing.specs.Case.{lentJob, casedMarks, caseOf, said, placed}

@@ -9,9 +9,9 @@ use Rattle.rounding.specs.Scales.{exponentOf}
 use Rattle.standing.specs.declared.Standing.{Standing}
 use Rattle.stl_feeding.specs.Stream.{streamOf}
 use Rattle.telling.specs.Told.{lentList}
-use Rattle.planning.specs.declared.Source.{Source}
-use Rattle.planning.specs.Plan.{saidOf}
-use Rattle.planning.specs.Marks.{Marks, marks, says, marksOf}
+use Rattle.plans.specs.declared.Source.{Source}
+use Rattle.plans.specs.Plan.{saidOf}
+use Rattle.plans.specs.Marks.{Marks, marks, says, marksOf}
 use Rattle.job_making.specs.declared.Parts.{Parts}
 use Rattle.job_making.specs.Job.{jobOfGrid}
 use Rattle.casing.specs.declared.Case.{Case}

@@ -6,7 +6,7 @@ use Prim.Native.Nat.{ℕ, _≤_}
 use lib.ListN.{length, take}
 use Rattle.rounding.specs.Scales.{exponentOf}
 use Rattle.stl_feeding.specs.Stream.{streamOf}
-use Rattle.planning.specs.declared.Source.{Source}
+use Rattle.plans.specs.declared.Source.{Source}
 use Rattle.casing.specs.declared.Case.{Case}
 use Rattle.casing.specs.Case.{caseOf}
 

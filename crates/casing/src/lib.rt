@@ -2,14 +2,14 @@
 use job_making::Parts;
 use job_making::make_job;
 use lattice::level::Level;
+use lending::empty_grid;
 use passes::stream_again;
 use passes::write_part;
-use planning::Planned;
 use planning::mark_model;
-use planning::put_words;
+use plans::Planned;
+use plans::put_words;
 use shifting::Shift;
 use standing::Standing;
-use streaming::empty_grid;
 use telling::empty_list;
 use wording::Word;
 use wording::read_word;

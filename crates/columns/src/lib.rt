@@ -1,6 +1,6 @@
 // The totals of all blocks, counted by columns: a row of blocks adds up its rows of points byte by byte, and only then every four columns.
+use byte::mark_bit;
 use grids::next_point;
-use lattice::byte::mark_bit;
 use lattice::level::point_count;
 use lattice::number_of;
 use rules::Axis;

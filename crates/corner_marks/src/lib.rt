@@ -1,9 +1,9 @@
 // The marks of the edges met at the lowest corner of a cell.
+use byte::bit;
+use byte::turn;
 use cells::corner_edge;
 use corners::NUMBERS;
 use corners::numbers_of;
-use lattice::byte::bit;
-use lattice::byte::turn;
 use lattice::level::Level;
 use lattice::number_of;
 use rules::Axis;

@@ -11,9 +11,9 @@ use Rattle.meeting.specs.Met.{met}
 use Rattle.meeting.specs.Covered.{Covers}
 use Rattle.meeting.specs.Adding.{Added, atCell}
 use Rattle.corners.specs.Corner.{Reaches}
-use Rattle.descending.specs.declared.Cube.{Cube}
-use Rattle.descending.specs.Cubes.{inCube}
-use Rattle.descending.specs.Reach.{KeepsAll}
+use Rattle.cubes.specs.declared.Cube.{Cube}
+use Rattle.cubes.specs.Cubes.{inCube}
+use Rattle.cubes.specs.Reach.{KeepsAll}
 
 -- the edges met at the lowest corner of the cell c, which the triangle's box that begins at lo reaches
 abbrev pub AddsAt : Level → List ℤ → List ℤ → Point → Point → List ℕ → List ℕ → Type 0

@@ -7,14 +7,15 @@ use borrow.Author.Tests.{le-ltb}
 use lib.ListN.{length, length-replicate}
 use Rattle.lattice.specs.declared.level.Level.{Level}
 use Rattle.lattice.specs.Levels.{cellsOf}
+use Rattle.lattice.proofs.LevelFacts.{cells-most}
 use Rattle.refusals.specs.Columns.{shortTable}
 use Rattle.totals.specs.Totals.{blockCount}
-use Rattle.marking.proofs.Calls.{blocks-most}
+use Rattle.totals.proofs.Blocks.{blocks-most}
 use Rattle.feeding.specs.Lent.{lentTotals}
 
 pub lent-room : (l : Level) → blockCount (cellsOf l) ≤ length lentTotals
 unfolding lentTotals
-lent-room l = let m = blocks-most l in let e = length-replicate {A = ℕ} 729 0 in omega (arith, m, e)
+lent-room l = let m = blocks-most (cellsOf l) (cells-most l) in let e = length-replicate {A = ℕ} 729 0 in omega (arith, m, e)
 
 -- so that 16 never applies
 pub lent-long : (l : Level) → shortTable (cellsOf l) lentTotals ≡ false

@@ -16,7 +16,7 @@ use Rattle.stl_records.proofs.File.{file-length}
 use Rattle.stl_writing.specs.declared.WriteAnswer.the-variants.{Done, Refused}
 use Rattle.stl_writing.specs.Call.{Outcome, told, writeCall}
 use Rattle.stl_writing.proofs.Done.{write-done}
-use Rattle.stl_writing.proofs.Files.{facings-count}
+use Rattle.stl_listing.proofs.Counted.{facings-count}
 use Rattle.text.specs.Listing.{refusedLine}
 use Rattle.reporting.specs.Report.{lentBytes, closed}
 use Rattle.reporting.specs.Close.{Closed}

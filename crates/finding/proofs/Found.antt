@@ -27,9 +27,9 @@ use Rattle.rules.proofs.Listed.{count-places}
 use Rattle.rules.proofs.PointOf.{pointOf-number, places-by-number}
 use Rattle.rules.proofs.FaceMarks.{one-or-three}
 use Rattle.rules.proofs.FaceCounts.{Below, face-beyond, faces-all}
-use Rattle.lattice.specs.Byte.{oddPutBy}
+use Rattle.byte.specs.Byte.{oddPutBy}
 use Rattle.lattice.proofs.Laws.{num-below}
-use Rattle.grids.proofs.Wraps.{step-below}
+use Rattle.faces.proofs.Wraps.{step-below}
 use Rattle.finding.specs.Finding.{oddByte, OddFound}
 use Rattle.patching.specs.Paint.{paint, zeroByte}
 use Rattle.patching.proofs.PaintLaws.{paint-length, paint-at, paint-past}

@@ -7,7 +7,7 @@ use Rattle.rules.specs.declared.Axis.the-variants.{X, Y, Z}
 use Rattle.rules.specs.declared.Point.{Point}
 use Rattle.rules.specs.Lattice.{Set, OfGrid, pointNumber, pointCount}
 use Rattle.rules.specs.Cell.{oddFace}
-use Rattle.lattice.specs.Byte.{oddPutBy}
+use Rattle.byte.specs.Byte.{oddPutBy}
 
 -- the work byte of a point: the odd ones of its three faces put by
 abbrev pub oddByte : Set → Point → ℕ

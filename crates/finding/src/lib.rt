@@ -1,7 +1,7 @@
 // The faces of the grid as it came: which are odd, how many have one mark and how many three.
-use grids::face::is_odd;
-use grids::face::lower_marks;
-use lattice::byte::odd_put_by;
+use byte::odd_put_by;
+use faces::is_odd;
+use faces::lower_marks;
 use lattice::clear;
 use lattice::level::point_count;
 use rules::Axis;

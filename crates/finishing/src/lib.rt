@@ -1,11 +1,11 @@
 // The passes of patch over every byte: the marks put by as they came before the first rim, and what is kept, cleared and counted after the last.
-use lattice::byte::changes;
-use lattice::byte::low;
-use lattice::byte::marks_put_by;
+use byte::changes;
+use byte::low;
+use byte::marks_put_by;
 ghost use mathlib.Core.Path.{_≡_};
 ghost use Prim.Native.Nat.{_≤_};
 ghost use lib.ListN.{length};
-ghost use Rattle.lattice.specs.Byte.{low, marksPutBy};
+ghost use Rattle.byte.specs.Byte.{low, marksPutBy};
 ghost use Rattle.patching.specs.Paint.{paint, allChanges, zeroByte};
 
 // Puts the marks by as they came.

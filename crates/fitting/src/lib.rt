@@ -1,8 +1,8 @@
 // Whether the signs of a grid fit its marks: point (0,0,0) outside, and a sign change exactly where there is a mark.
+use byte::bit;
+use byte::is_inside;
 use cells::step;
 use grids::next_point;
-use lattice::byte::bit;
-use lattice::byte::is_inside;
 use lattice::coordinate;
 use lattice::level::point_count;
 use rules::Axis;

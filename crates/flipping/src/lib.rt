@@ -1,8 +1,8 @@
 // Edges flipped: the mark of each, and its four faces in the working set; one edge, a row of them, and the path between two faces.
+use byte::turn;
 use cells::lower_face;
 use cells::upper_edge;
 use cells::upper_face;
-use lattice::byte::turn;
 use lattice::earlier;
 use lattice::later;
 use lattice::least;

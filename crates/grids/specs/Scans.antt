@@ -1,14 +1,13 @@
 -- A scan of the points by rising number. Assumes nothing.
-use mathlib.Core.Bool.{Bool, not, _&&_, cond}
+use mathlib.Core.Bool.{Bool, _&&_, cond}
 use mathlib.Core.List.{List, _++_}
 use Prim.Native.Nat.{ℕ, _+_}
 use lib.Dec.{ltb}
 use lib.ListN.{drop}
-use Rattle.rules.specs.Lists.{between, allOf}
+use Rattle.rules.specs.Lists.{between}
 use Rattle.rules.specs.declared.Point.{Point}
-use Rattle.rules.specs.Lattice.{Set, isIn, placesAt, pointCount}
+use Rattle.rules.specs.Lattice.{pointCount}
 use Rattle.rules.specs.Grid.{bytes, marks}
-use Rattle.rules.specs.Cell.{oddFace}
 
 -- the point whose number is one more
 unfoldable pub nextPoint : ℕ → Point → Point
@@ -19,10 +18,6 @@ nextPoint n p =
 -- both crosswise coordinates u and v lie in 1..n-1, and the edge exists
 abbrev pub innerAlong : ℕ → ℕ → ℕ → ℕ → Bool
 innerAlong n l u v = between 0 n l && (between 1 n u && between 1 n v)
-
--- none of the cell's three lower faces is odd
-abbrev pub lowerEven : Set → Point → Bool
-lowerEven E c = allOf (λ f. not (isIn (oddFace E) f)) (placesAt c)
 
 -- a grid without its signs
 unfoldable pub unsigned : ℕ → List ℕ → List ℕ

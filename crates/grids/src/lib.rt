@@ -1,12 +1,7 @@
-// What every scan of the points needs: the point after a point, inner edges, "is a grid", signs taken out, "no face is odd".
-pub mod face;
-
-use crate::face::is_odd;
-use crate::face::lower_marks;
-use lattice::byte::bit;
-use lattice::byte::with_sign;
+// What every scan of the points needs: the point after a point, inner edges, "is a grid", signs taken out.
+use byte::bit;
+use byte::with_sign;
 use lattice::level::point_count;
-use lattice::number_of;
 use rules::Axis;
 use rules::Point;
 ghost use mathlib.Core.Path.{_≡_};
@@ -15,12 +10,10 @@ ghost use Prim.Native.Nat.{_≤_, max};
 ghost use lib.ListN.{length};
 ghost use Rattle.rules.specs.Lists.{between};
 ghost use Rattle.rules.specs.Lattice.{inner};
-ghost use Rattle.rules.specs.Grid.{has, isGrid, marks};
+ghost use Rattle.rules.specs.Grid.{has, isGrid};
 ghost use Rattle.rules.specs.Lattice.{OfGrid};
-ghost use Rattle.rules.specs.Rims.{evenFaces};
-ghost use Rattle.lattice.specs.Cells.{Cell};
 ghost use Rattle.grids.specs.declared.GridRead.the-variants.{Grid};
-ghost use Rattle.grids.specs.Scans.{nextPoint, innerAlong, lowerEven, unsigned};
+ghost use Rattle.grids.specs.Scans.{nextPoint, innerAlong, unsigned};
 ghost use Rattle.grids.specs.Reading.{marksFit, behindFirst, RowFrom, rowFits, allFit, largest, readOf};
 ghost use Rattle.lattice.specs.Buffers.{Sized};
 
@@ -244,38 +237,4 @@ pub fn clear_signs(n: usize, grid: &mut [u8], signed: bool)
         return;
     }
     keep_marks(n, grid);
-}
-
-// Whether none of a cell's three lower faces is odd.
-fn lower_even(n: usize, grid: &[u8], c: Point) -> bool
-    requires { ⌜ record { sized : Sized n (now grid); is-grid : isGrid n (now grid) ≡ true; cell : Cell n c } ⌝ }
-    ensures { λ r. ⌜ r ≡ lowerEven (marks n (now (grid .entry))) c ⌝ }
-{
-    let at = number_of(n, c);
-    if is_odd(lower_marks(n, grid, at, Axis::X)) {
-        return false;
-    }
-    if is_odd(lower_marks(n, grid, at, Axis::Y)) {
-        return false;
-    }
-    !is_odd(lower_marks(n, grid, at, Axis::Z))
-}
-
-// Whether no face of a grid is odd. Each face that can be is a lower face of one cell.
-pub fn all_even(n: usize, grid: &[u8]) -> bool
-    requires { ⌜ record { some : 1 ≤ n; sized : Sized n (now grid); is-grid : isGrid n (now grid) ≡ true } ⌝ }
-    ensures { λ r. ⌜ r ≡ evenFaces n (marks n (now (grid .entry))) ⌝ }
-{
-    let last = n - 1;
-    let count = point_count(last);
-    let mut c = Point { i: 0, j: 0, k: 0 };
-    let mut k: usize = 0;
-    while k < count {
-        if !lower_even(n, grid, c) {
-            return false;
-        }
-        c = next_point(last, c);
-        k += 1;
-    }
-    true
 }

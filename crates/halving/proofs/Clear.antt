@@ -20,7 +20,7 @@ use Rattle.rules.proofs.Lists.{allOf→, at-upto, range-at}
 use Rattle.rules.proofs.Boxes.{inBox→}
 use Rattle.rules.proofs.Cells.{face-cells}
 use Rattle.rules.proofs.PatchOf.{patchOf-clear}
-use Rattle.lattice.specs.Byte.{low}
+use Rattle.byte.specs.Byte.{low}
 use Rattle.lattice.specs.Cells.{turns, faceTurns}
 use Rattle.lattice.proofs.Laws.{num-below}
 use Rattle.rules.proofs.Numbers.{has-low, zero-has}

@@ -23,10 +23,10 @@ use Rattle.rules.proofs.Cuts.{samePoint→}
 use Rattle.rules.proofs.PointOf.{number-pointOf, pointOf-number}
 use Rattle.rules.proofs.Store.{stored-set}
 use Rattle.rules.specs.Lattice.{OfGrid}
-use Rattle.lattice.specs.Byte.{above}
+use Rattle.byte.specs.Byte.{above}
 use Rattle.lattice.specs.Cells.{lowerFace, upperFace, upperEdge, turnAt, turnOne, turns, facesOf, faceTurns, pointStep}
 use Rattle.lattice.proofs.Laws.{num-below}
-use Rattle.lattice.proofs.Parts.{toggle-any, toggle-above}
+use Rattle.byte.proofs.Parts.{toggle-any, toggle-above}
 use Rattle.lattice.proofs.PointSteps.{number-up, number-step, number-down, step-grid, down-grid}
 use Rattle.halving.specs.Halving.{Edged}
 

@@ -8,7 +8,7 @@ use Rattle.rules.specs.declared.Axis.the-variants.{X, Y, Z}
 use Rattle.rules.specs.declared.Box.{Box}
 use Rattle.rules.specs.Lattice.{pointNumber}
 use Rattle.rules.specs.Patch.{side, extent}
-use Rattle.lattice.specs.Byte.{noneWorking}
+use Rattle.byte.specs.Byte.{noneWorking}
 
 -- the byte has no working face
 abbrev pub byteClear : List ℕ → ℕ → Bool

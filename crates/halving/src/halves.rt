@@ -1,5 +1,5 @@
 // A box: whether it has one cell or no working face, its longest side, and its two halves.
-use lattice::byte::low;
+use byte::low;
 use lattice::coordinate;
 use lattice::number_of;
 use rules::Axis;

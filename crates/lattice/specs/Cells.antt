@@ -9,7 +9,6 @@ use Rattle.rules.specs.declared.Point.{Point}
 use Rattle.rules.specs.declared.Place.{Place}
 use Rattle.rules.specs.Lattice.{earlier, later, up, down, origin, pointAt, Set, isIn, OfGrid, pointNumber, pointCount}
 use Rattle.rules.specs.Grid.{has, toggle}
-use Rattle.lattice.specs.Byte.{high}
 
 -- 0, 1, 2 are x, y, z
 abbrev pub axisOf : ℕ → Axis
@@ -82,10 +81,6 @@ pub record EdgeReached (n p : ℕ) (e : Place) : Type 0 where
 -- how many of four edges are in the set
 abbrev pub marksOf : Set → Place → Place → Place → Place → ℕ
 marksOf E e f g h = count (isIn E) (e ∷ (f ∷ (g ∷ (h ∷ []))))
-
--- the set that the highest part of each byte holds, beside the one in its lowest part
-abbrev pub aside : ℕ → List ℕ → Set
-aside n s a p = has a (high (getD s (pointNumber n p) 0))
 
 -- the member of an axis turned in one byte
 unfoldable pub turnAt : ℕ → Axis → List ℕ → List ℕ

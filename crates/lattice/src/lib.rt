@@ -1,19 +1,14 @@
 // A point's number and its neighbours, and the small tools of every scan.
-pub mod byte;
 pub mod level;
 
-use crate::byte::bit;
 use rules::Axis;
-use rules::Place;
 use rules::Point;
 ghost use mathlib.Core.Path.{_≡_};
 ghost use Prim.Native.Nat.{_≤_, _<_, min, max};
 ghost use mathlib.Core.List.{_++_};
-ghost use lib.ListN.{length, getD, drop, replicate};
+ghost use lib.ListN.{length, drop, replicate};
 ghost use Rattle.rules.specs.Lattice.{coord, earlier, later, up, pointNumber, pointCount, OfGrid};
-ghost use Rattle.rules.specs.Grid.{has};
 ghost use Rattle.lattice.specs.Cells.{indexOf};
-ghost use Rattle.lattice.specs.Buffers.{Sized};
 
 // The number of a point.
 pub fn number_of(n: usize, p: Point) -> usize
@@ -94,16 +89,6 @@ pub fn clear(count: usize, s: &mut [u8])
         s[p] = 0;
         p += 1;
     }
-}
-
-// Whether the set that a buffer's lowest three bits hold has a member.
-pub fn member(n: usize, s: &[u8], f: Place) -> bool
-    requires { ⌜ Sized n (now s) × OfGrid n (f .at) ⌝ }
-    ensures { λ r. ⌜ r ≡ has (f .axis) (getD (now (s .entry)) (pointNumber n (f .at)) 0) ⌝ }
-{
-    let at = number_of(n, f.at);
-    let a = f.axis;
-    bit(s[at], a)
 }
 
 pub fn least(a: usize, b: usize) -> usize

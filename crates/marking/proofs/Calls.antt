@@ -5,7 +5,6 @@ use mathlib.Core.Bool.{Bool, true, false, cond}
 use mathlib.Core.List.{List, [], _∷_}
 use mathlib.Core.Logic.{_↔_, _⊎_}
 use Prim.Native.Nat.{ℕ, _≤_}
-use native.Mathlib.Omega.{arith}
 use borrow.Author.Tests.{eqb-true, not-false, ltb-false}
 use lib.Dec.{eqb}
 use lib.IntN.{ℤ}
@@ -14,7 +13,6 @@ use Rattle.rules.specs.declared.Axis.{Axis}
 use Rattle.rules.specs.declared.Point.{Point}
 use Rattle.rules.specs.Grid.{marks, Unsigned, isGrid}
 use Rattle.lattice.specs.declared.level.Level.{Level}
-use Rattle.lattice.specs.declared.level.Level.the-variants.{Two, Three, Four, Five}
 use Rattle.lattice.specs.Levels.{numberOf, cellsOf, pointsOf}
 use Rattle.grids.proofs.Ahead.{open-grid, open-marks, open-unsigned}
 use Rattle.refusals.specs.Rows.{Row, answered, noneOf}
@@ -267,11 +265,3 @@ mark-done k g c t e =
 -- ---- a refusal of open changes no buffer
 pub open-keeps : (g t : List ℕ) (k : ℕ) → ((Opening.refused g t k) .grid ≡ g) × ((Opening.refused g t k) .totals ≡ t)
 open-keeps g t k = (refl, refl)
-
--- ---- room
--- the totals of every level have room where mark holds them
-pub blocks-most : (l : Level) → blockCount (cellsOf l) ≤ 729
-blocks-most Two = omega arith
-blocks-most Three = omega arith
-blocks-most Four = omega arith
-blocks-most Five = omega arith

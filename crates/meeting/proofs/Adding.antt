@@ -18,10 +18,10 @@ use Rattle.rules.specs.Grid.{has, stored, toggle}
 use Rattle.rules.proofs.Bits.{⊕-false, and-left, and-right}
 use Rattle.rules.proofs.Cuts.{sameAxis→, samePoint→, samePlace→}
 use Rattle.rules.proofs.Store.{stored-set}
-use Rattle.lattice.specs.Byte.{above}
+use Rattle.byte.specs.Byte.{above}
 use Rattle.lattice.specs.Cells.{turnAt, turnOne, cornerEdge, Cell}
 use Rattle.lattice.proofs.Laws.{num-below}
-use Rattle.lattice.proofs.Parts.{toggle-any, toggle-above}
+use Rattle.byte.proofs.Parts.{toggle-any, toggle-above}
 use Rattle.meeting.specs.Met.{added}
 use Rattle.meeting.specs.Adding.{Added, atEdge, atCell}
 

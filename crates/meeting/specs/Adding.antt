@@ -9,7 +9,7 @@ use Rattle.rules.specs.declared.Point.{Point}
 use Rattle.rules.specs.declared.Place.{Place}
 use Rattle.rules.specs.Lattice.{samePoint, samePlace, Set, OfGrid, pointCount}
 use Rattle.rules.specs.Grid.{stored}
-use Rattle.lattice.specs.Byte.{above}
+use Rattle.byte.specs.Byte.{above}
 
 -- the bytes h are the bytes g with the marks of a set added
 pub record Added (n : ℕ) (E : Set) (g h : List ℕ) : Type 0 where

@@ -27,9 +27,9 @@ use Rattle.rules.proofs.Scan.{count-or-one}
 use Rattle.rules.proofs.Patched.{odd-in, rims-all}
 use Rattle.rules.proofs.FaceMarks.{odd-kept}
 use Rattle.rules.proofs.Same.{count-same, anyOf-same, parity-same}
-use Rattle.lattice.specs.Byte.{above, high}
+use Rattle.byte.specs.Byte.{above, high}
 use Rattle.lattice.specs.Cells.{Cell, turns, faceTurns, facesOf}
-use Rattle.lattice.proofs.Parts.{above-high}
+use Rattle.byte.proofs.Parts.{above-high}
 use Rattle.lattice.proofs.PointSteps.{cell-grid}
 use Rattle.walking.specs.Walks.{seenB, New, Found}
 use Rattle.walking.proofs.Bytes.{odd-same, seen-same, seen-above}

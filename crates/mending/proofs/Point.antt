@@ -16,9 +16,9 @@ use Rattle.rules.specs.Cell.{oddFace}
 use Rattle.rules.specs.Grid.{has, stored}
 use Rattle.rules.proofs.PointOf.{number-pointOf, pointOf-grid}
 use Rattle.rules.specs.Patch.{patchOf}
-use Rattle.lattice.specs.Byte.{high, noneOdd, seen}
-use Rattle.lattice.specs.Cells.{Cell, aside, turns, faceTurns, facesOf}
-use Rattle.lattice.proofs.Parts.{some-has, above-high}
+use Rattle.byte.specs.Byte.{high, noneOdd, seen, aside}
+use Rattle.lattice.specs.Cells.{Cell, turns, faceTurns, facesOf}
+use Rattle.byte.proofs.Parts.{some-has, above-high}
 use Rattle.rules.proofs.Numbers.{zero-has}
 use Rattle.lattice.proofs.PointSteps.{cell-grid}
 use Rattle.walking.specs.Walks.{oddIn, Fine, seenB, Found}

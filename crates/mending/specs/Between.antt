@@ -14,7 +14,7 @@ use Rattle.rules.specs.Cell.{oddFace}
 use Rattle.rules.specs.Rims.{rims, touch, facesWith}
 use Rattle.rules.specs.Patch.{flips, patchRim}
 use Rattle.rules.specs.Grid.{stored, marks}
-use Rattle.lattice.specs.Byte.{high, marksPutBy}
+use Rattle.byte.specs.Byte.{high, marksPutBy}
 use Rattle.lattice.specs.Cells.{Cell}
 use Rattle.walking.specs.Walks.{oddIn, seenB}
 use Rattle.patching.specs.Paint.{paint}

@@ -1,6 +1,6 @@
 // The rims of a grid, one after the other: each is found by a walk and patched by halving its box.
-use lattice::byte::is_seen;
-use lattice::byte::none_odd;
+use byte::is_seen;
+use byte::none_odd;
 use lattice::level::point_count;
 use pairing::patch_box;
 use rules::Point;

@@ -28,9 +28,9 @@ use Rattle.stl_records.specs.File.{Facing, facings, fileOf}
 use Rattle.stl_records.proofs.Centres.{centre-least, centre-most}
 use Rattle.stl_records.proofs.File.{file-length}
 use Rattle.stl_writing.specs.Call.{writeCall}
-use Rattle.stl_writing.proofs.Corners.{side-wide}
+use Rattle.stl_listing.proofs.Corners.{side-wide}
 use Rattle.stl_writing.proofs.Done.{write-done}
-use Rattle.stl_writing.proofs.Files.{facings-count}
+use Rattle.stl_listing.proofs.Counted.{facings-count}
 use Rattle.stl_trips.specs.Facets.{Facet, facets, InLattice}
 use Rattle.stl_trips.specs.Turning.{Corner, Going, cornerAt, cornerBits, goingsAt, facetGoings}
 use Rattle.stl_trips.proofs.Done.{quads-in, quads-few, centre-even}

@@ -1,4 +1,5 @@
 // The working faces of a plane joined in pairs, and the patch of a box, by halving it.
+use byte::member;
 use flipping::join;
 use flipping::point_at;
 use halving::Unpaired;
@@ -11,7 +12,6 @@ use halving::halves::upper_half;
 use lattice::coordinate;
 use lattice::earlier;
 use lattice::later;
-use lattice::member;
 use rules::Axis;
 use rules::Box;
 use rules::Place;

@@ -17,12 +17,11 @@ use Rattle.rules.specs.Rims.{rims, touch}
 use Rattle.rules.specs.Patch.{patchRim}
 use Rattle.rules.proofs.Numbers.{marks-inner, zero-has, has-low, has-bit, three-of, byte-most}
 use Rattle.rules.proofs.Patched.{odd-in}
-use Rattle.lattice.specs.Byte.{low, came, marksPutBy, odd, seen}
-use Rattle.lattice.specs.Cells.{aside}
+use Rattle.byte.specs.Byte.{low, came, marksPutBy, odd, seen, aside}
 use Rattle.lattice.proofs.Laws.{num-below}
 use Rattle.grids.proofs.GridFacts.{grid-marks}
 use Rattle.walking.specs.Walks.{oddIn, Fine, seenB}
-use Rattle.lattice.proofs.Parts.{packed-has, packed-flag, packed-high}
+use Rattle.byte.proofs.Parts.{packed-has, packed-flag, packed-high}
 use Rattle.lattice.proofs.PointSteps.{cell-grid}
 use Rattle.walking.proofs.Faces.{face-cell}
 use Rattle.patching.specs.Paint.{paint}

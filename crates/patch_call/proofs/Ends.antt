@@ -18,8 +18,8 @@ use Rattle.rules.proofs.Numbers.{take-upto, rising, marks-inner}
 use Rattle.rules.proofs.PointOf.{points-grid}
 use Rattle.rules.proofs.Same.{map-same}
 use Rattle.lattice.proofs.Laws.{num-below}
-use Rattle.lattice.specs.Byte.{low, marksPutBy}
-use Rattle.lattice.proofs.Parts.{low-is}
+use Rattle.byte.specs.Byte.{low, marksPutBy}
+use Rattle.byte.proofs.Parts.{low-is}
 use Rattle.totals.specs.Totals.{trued}
 use Rattle.patching.specs.Paint.{paint, zeroByte, allChanges}
 use Rattle.finding.specs.Finding.{OddFound}

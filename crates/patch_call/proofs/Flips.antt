@@ -16,7 +16,7 @@ use Rattle.rules.specs.declared.Axis.the-variants.{X, Y, Z}
 use Rattle.rules.specs.declared.Point.{Point}
 use Rattle.rules.specs.Lattice.{Set, isIn, symdiff, places, points, pointNumber, pointCount, placesAt}
 use Rattle.rules.specs.Grid.{has, value}
-use Rattle.lattice.specs.Byte.{came, changes}
+use Rattle.byte.specs.Byte.{came, changes}
 use Rattle.patching.specs.Paint.{allChanges}
 
 changes-sum : (k : ℕ) (s : List ℕ) → allChanges k s ≡ sumOf (λ i. changes (getD s i 0)) (upto 0 k)

@@ -10,7 +10,7 @@ use native.Mathlib.Numerals.{add-one}
 use native.Mathlib.Decide.{ℕ-discrete}
 use lib.ListN.{length, getD, set, drop, replicate, length-set}
 use lib.Seq.{getD-set-same, getD-set-other}
-use Rattle.lattice.specs.Byte.{came, changes}
+use Rattle.byte.specs.Byte.{came, changes}
 use Rattle.lattice.proofs.Clearing.{cleared-more}
 use Rattle.rules.proofs.Numbers.{value-most}
 use Rattle.patching.specs.Paint.{paint, zeroByte, allChanges}

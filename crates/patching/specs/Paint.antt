@@ -2,7 +2,7 @@
 use mathlib.Core.List.{List}
 use Prim.Native.Nat.{ℕ, zero, suc, _+_}
 use lib.ListN.{getD, set}
-use Rattle.lattice.specs.Byte.{changes}
+use Rattle.byte.specs.Byte.{changes}
 
 -- the first k bytes of s, each replaced by f of itself
 unfoldable pub paint : (ℕ → ℕ) → ℕ → List ℕ → List ℕ

@@ -1,8 +1,8 @@
 // The points inside: how many there are, and the layers of points as characters; and the faces with one mark or three, likewise.
-use grids::face::lower_marks;
+use byte::is_inside;
+use byte::one_inside;
+use faces::lower_marks;
 use grids::next_point;
-use lattice::byte::is_inside;
-use lattice::byte::one_inside;
 use lattice::level::Level;
 use lattice::level::point_count;
 use rules::Axis;

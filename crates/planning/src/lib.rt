@@ -5,66 +5,24 @@ use libc::SEEK_END;
 use libc::SEEK_SET;
 use libc::STDIN_FILENO;
 use measuring::Extent;
-use octets::begins_with;
 use octets::word_at;
 use passes::feed_again;
 use passes::measure_all;
+use plans::Planned;
+use plans::Source;
+use plans::Words;
+use plans::length_number;
 use standing::Plan;
-use standing::Standing;
 use standing::plan_for;
 use stl_feeding::measure::Measured;
-use text::listing::put_refusal;
-use text::put_text;
 use wording::Order;
 use wording::Word;
 use wording::read_word;
 ghost use mathlib.Core.Path.{_≡_};
-ghost use Prim.Native.Nat.{_≤_, _<_};
-ghost use lib.ListN.{length};
-ghost use Rattle.text.specs.Text.{Put};
+ghost use Prim.Native.Nat.{_<_};
 ghost use Rattle.placing.specs.Fitted.{Measured as Measurable};
-ghost use Rattle.planning.specs.Plan.{saidOf, rightSize, lengthNumber};
-ghost use Rattle.planning.specs.Read.{SoundOrder, PlansMeasured, PlansRecords, PlansFile, PlansInput, Planned as PlannedBy, Marked};
+ghost use Rattle.plans.specs.Read.{SoundOrder, PlansMeasured, PlansRecords, PlansFile, PlansInput, Planned as PlannedBy, Marked};
 ghost use Rattle.reporting.specs.Report.{lentBytes};
-
-// What standard input is: a file of so many bytes, or something else.
-pub enum Source {
-    File(usize),
-    Other,
-}
-
-// What is said in place of everything.
-pub enum Words {
-    BadWord,
-    NotAFile,
-    Refused(u32),
-    NoTriangles,
-    TooLarge,
-}
-
-// What is asked for of a model, its triangles, and where it stands; or what is said in its place.
-pub enum Planned {
-    Stands {
-        order: Order,
-        all: u32,
-        at: Standing,
-    },
-    Stops(Words),
-}
-
-// Puts what is said in place of everything, and answers its length.
-pub fn put_words(out: &mut [u8], words: Words) -> usize
-    requires { ⌜ 106 ≤ length (now out) ⌝ }
-    ensures { λ r. ⌜ Put (now (out .entry)) 0 (saidOf words) (now (out .exit)) r × (r ≤ length (now (out .exit))) ⌝ }
-{
-    match words {
-        Words::BadWord => put_text(out, 0, b"bad word\n"),
-        Words::NotAFile => put_text(out, 0, b"not a file\n"),
-        Words::Refused(number) => put_refusal(out, number),
-        Words::NoTriangles => put_text(out, 0, b"no triangles\n"),
-        Words::TooLarge => put_text(out, 0, b"too large\n"),
-    }
-}
 
 // Answers the size of standard input, which is then read from its start.
 fn size_of_input() -> Source {
@@ -76,30 +34,6 @@ fn size_of_input() -> Source {
         return Source::Other;
     }
     Source::File(size as usize)
-}
-
-// Answers whether a file with these 84 bytes at its front, or those there are, has so many bytes as they count triangles for.
-fn is_right_length(front: &[u8], size: usize) -> bool
-    ensures { λ r. ⌜ r ≡ rightSize (now (front .entry)) size ⌝ }
-{
-    if front.len() != 84 {
-        return false;
-    }
-    let n = word_at(front, 80) as usize;
-    size == 84 + 50 * n
-}
-
-// The number that a file of so many bytes is refused by for its length; 0 where it is right.
-fn length_number(front: &[u8], size: usize) -> u32
-    ensures { λ r. ⌜ r ≡ lengthNumber (now (front .entry)) size ⌝ }
-{
-    if is_right_length(front, size) {
-        return 0;
-    }
-    if begins_with(front, b"solid") {
-        return 11;
-    }
-    10
 }
 
 // Finds where a model with this extent stands.

@@ -5,9 +5,9 @@ use Rattle.lattice.specs.Levels.{levelOf}
 use Rattle.wording.specs.Word.{digitOf, scaleOf, isMode, isWant, wordOf}
 use Rattle.text.specs.Text.{ascii}
 use Rattle.text.specs.Listing.{badWord, notAFile}
-use Rattle.planning.specs.declared.Source.the-variants.{Other}
-use Rattle.planning.specs.Plan.{planOfWord}
-use Rattle.planning.specs.Marks.{marksOf}
+use Rattle.plans.specs.declared.Source.the-variants.{Other}
+use Rattle.plans.specs.Plan.{planOfWord}
+use Rattle.plans.specs.Marks.{marksOf}
 use Rattle.plating.specs.Plate.{plateOf}
 
 no-word : plateOf (ascii "5f0r") Other [] [] [] ≡ ascii "bad word\n"

@@ -6,10 +6,10 @@ use native.Mathlib.Omega.{arith}
 use lib.ListN.{length, take}
 use Rattle.standing.specs.declared.Standing.{Standing}
 use Rattle.wording.specs.declared.Order.{Order}
-use Rattle.planning.specs.declared.Words.{Words}
-use Rattle.planning.specs.declared.Planned.the-variants.{Stands, Stops}
-use Rattle.planning.specs.Plan.{saidOf}
-use Rattle.planning.specs.Read.{Marked}
+use Rattle.plans.specs.declared.Words.{Words}
+use Rattle.plans.specs.declared.Planned.the-variants.{Stands, Stops}
+use Rattle.plans.specs.Plan.{saidOf}
+use Rattle.plans.specs.Read.{Marked}
 use Rattle.telling.specs.declared.Parts.{Parts}
 use Rattle.telling.specs.Parts.{alone, Tells}
 use Rattle.plating.specs.Plate.{toldMarks, plateOf, Plated}

@@ -4,9 +4,9 @@ use mathlib.Core.Path.{_≡_}
 use mathlib.Core.List.{List}
 use Prim.Native.Nat.{ℕ}
 use Rattle.lattice.specs.Levels.{numberOf}
-use Rattle.planning.specs.declared.Source.{Source}
-use Rattle.planning.specs.Plan.{saidOf}
-use Rattle.planning.specs.Marks.{Marks, marks, says, marksOf}
+use Rattle.plans.specs.declared.Source.{Source}
+use Rattle.plans.specs.Plan.{saidOf}
+use Rattle.plans.specs.Marks.{Marks, marks, says, marksOf}
 use Rattle.telling.specs.declared.Parts.{Parts}
 use Rattle.telling.specs.Told.{toldOf}
 use Rattle.telling.specs.Parts.{writes, PartsFit}

@@ -1,8 +1,8 @@
 // A word and a binary STL file in, everything that is told of the model's repair out.
-use planning::Planned;
+use lending::empty_grid;
 use planning::mark_model;
-use planning::put_words;
-use streaming::empty_grid;
+use plans::Planned;
+use plans::put_words;
 use telling::Parts;
 use telling::alone;
 use telling::tell;

@@ -1,8 +1,8 @@
 // The list of quads: the four cells around each marked edge, by rising point number, x before y before z at one point.
+use byte::bit;
+use byte::is_inside;
+use byte::low;
 use grids::next_point;
-use lattice::byte::bit;
-use lattice::byte::is_inside;
-use lattice::byte::low;
 use lattice::level::point_count;
 use rules::Axis;
 use rules::Point;

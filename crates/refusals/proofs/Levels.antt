@@ -79,3 +79,7 @@ good-number k e = go (level-cases k)
     go : ((l : Level) × (k ≡ numberOf l)) ⊎ ((badLevel k ≡ true) × (levelOf k ≡ Unknown)) → k ≡ numberOf (orTwo (levelOf k))
     go (inl h) = h .1 ∙ ap numberOf (sym (ap orTwo (ap levelOf (h .1) ∙ level-known (h .0))))
     go (inr h) = absurd (true≢false (sym (h .0) ∙ e))
+
+-- the number of a level that was read
+pub read-number : (k : ℕ) (l : Level) → levelOf k ≡ Known l → k ≡ numberOf l
+read-number k l e = let r = read-known k l e in good-number k (r .0) ∙ ap numberOf (r .1)

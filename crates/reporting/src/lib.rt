@@ -1,7 +1,7 @@
 // What is done with the marks once all triangles are in: patch and sign, then surface and the listing, the layers of points, or their masks; or
 // nothing, and the faces with one mark and with three are shown as they came.
 use lattice::level::Level;
-use masks::put_masks;
+use mask_call::put_masks;
 use patch_call::Counts;
 use patch_call::patch_grid;
 use picture::Drawn;

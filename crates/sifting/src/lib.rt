@@ -2,12 +2,12 @@
 // product; then the other axes, N first, are tried in turn until no edge is left. An axis is built when it is first reached, and
 // kept for the rest of the triangle. One dot product serves the three edges, since their upper ends' differ from it by a
 // coordinate of the axis. What is left is a byte as in the grid: 1 for the x edge, 2 for y, 4 for z.
+use byte::low;
 use corners::NUMBERS;
 use corners::Tested;
 use corners::keep;
 use corners::kept_at;
 use corners::numbers_of;
-use lattice::byte::low;
 use lattice::level::Level;
 use meeting::signed;
 use rules::Point;

@@ -1,8 +1,8 @@
 // The call sign: which points are inside.
-use grids::all_even;
+use byte::bit;
+use byte::with_sign;
+use faces::all_even;
 use grids::is_grid;
-use lattice::byte::bit;
-use lattice::byte::with_sign;
 use lattice::level::Level;
 use lattice::level::LevelRead;
 use lattice::level::point_count;

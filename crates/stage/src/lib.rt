@@ -329,5 +329,5 @@ pub extern "C" fn omphirun_masks(level: u32, grid: &[u8], out: &mut [u8], size: 
         (record { number = r; bytes = now (size .exit); out = now (out .exit) })
         (masksCall level (now (grid .entry)) (now (out .entry))) ⌝ }
 {
-    tell_masks(masks::masks(level, grid, out), size)
+    tell_masks(mask_call::masks(level, grid, out), size)
 }

@@ -25,9 +25,9 @@ use Rattle.stl_reading.specs.Call.{readCall}
 use Rattle.stl_records.specs.Records.{CellInLattice, centreOf}
 use Rattle.stl_records.specs.File.{Facing, facing, facings}
 use Rattle.stl_writing.specs.Call.{writeCall}
-use Rattle.stl_writing.proofs.Corners.{side-wide, cell-placed}
+use Rattle.stl_listing.proofs.Corners.{side-wide, cell-placed}
 use Rattle.stl_writing.proofs.Done.{write-done}
-use Rattle.stl_writing.proofs.Files.{facings-count}
+use Rattle.stl_listing.proofs.Counted.{facings-count}
 use Rattle.stl_trips.specs.Facets.{InLattice}
 use Rattle.stl_trips.specs.Turning.{Corner, isGoing, goingsIn, goings}
 use Rattle.stl_trips.proofs.Trip.{readQuads, trip, file-goings}

@@ -21,7 +21,7 @@ use Rattle.surfacing.proofs.Misfit.{fit-exactly}
 use Rattle.stl_records.specs.File.{facings, fileOf}
 use Rattle.stl_records.proofs.File.{file-length}
 use Rattle.stl_writing.specs.Call.{Outcome, refused, writeDone, writeRows, writeCall}
-use Rattle.stl_writing.proofs.Files.{facings-count}
+use Rattle.stl_listing.proofs.Counted.{facings-count}
 
 -- the file is in front, 84 bytes and 100 a quad, and what is behind it is as it was
 pub record Written (v : Level) (g : List ℕ) (e : ℤ) (out : List ℕ) (o : Outcome) : Type 0 where

@@ -1,38 +1,21 @@
 -- The header and the whole file, put into the buffer. Assumes nothing.
 use mathlib.Core.Path.{_≡_, refl, sym, ap, _∙_}
-use mathlib.Core.Bool.{Bool, true, false, cond}
-use mathlib.Core.List.{List, [], _∷_, _++_}
-use Prim.Native.Nat.{ℕ, suc, _+_, _*_, _≤_, _<_}
+use mathlib.Core.List.{List, _++_}
+use Prim.Native.Nat.{ℕ, _+_, _*_, _≤_, _<_}
 use native.Mathlib.Omega.{arith}
 use borrow.Author.Tests.{lt-ltb, le-ltb}
 use lib.IntN.{ℤ}
-use lib.ListN.{length, drop, replicate, length-map}
-use Rattle.rules.specs.declared.Point.{Point}
-use Rattle.rules.specs.Lists.{count, keep, each}
-use Rattle.rules.specs.Lattice.{Set, isIn, places}
+use lib.ListN.{length, drop, replicate}
+use Rattle.rules.specs.Lists.{each}
 use Rattle.octets.specs.Octets.{word, puts}
 use Rattle.octets.proofs.Puts.{puts-next, puts-front}
-use Rattle.surfacing.specs.Listing.{quadCount}
-use Rattle.stl_records.specs.File.{Facing, facing, facings, quadBytes, header, fileOf}
+use Rattle.stl_records.specs.File.{Facing, quadBytes, header, fileOf}
 use Rattle.stl_records.proofs.File.{header-length, file-length}
 use Rattle.stl_writing.specs.Call.{Outcome, refused, shortFile, writeDone, written}
 
 pub header-put : (l k h : List ℕ) (c : ℕ) → 84 ≤ length l → k ≡ replicate 80 0 ++ drop 80 l → h ≡ puts k 80 (word c) → h ≡ puts l 0 (header c)
 unfolding header
 header-put l k h c r e f = puts-next l k h (replicate 80 0) (word c) 0 80 80 (e ∙ sym (puts-front l (replicate 80 0) (omega arith))) f refl refl
-
--- a quad for each marked edge
-kept-count : {A : Type 0} (w : A → Bool) (l : List A) → length (keep w l) ≡ count w l
-kept-count w [] = refl
-kept-count w (x ∷ l) = go (w x) (kept-count w l)
-  where
-    go : (c : Bool) → length (keep w l) ≡ count w l → length (cond c (x ∷ keep w l) (keep w l)) ≡ cond c (suc (count w l)) (count w l)
-    go true e = let f : suc (length (keep w l)) ≡ suc (count w l) = ap suc e in f
-    go false e = e
-
-pub facings-count : (n : ℕ) (E : Set) (s : Point → Bool) → length (facings n E s) ≡ quadCount n E
-unfolding facings quadCount
-facings-count n E s = length-map (keep (isIn E) (places (suc n))) (facing s) ∙ kept-count (isIn E) (places (suc n))
 
 -- ---- the answer, by the room for the file of so many quads
 module _ (side : ℕ) (e : ℤ) (l : List Facing) (out : List ℕ) (quads : ℕ) (many : quads ≡ length l) where

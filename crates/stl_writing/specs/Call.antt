@@ -13,7 +13,7 @@ use Rattle.refusals.specs.Columns.{badLevel, levelAt, someShort}
 use Rattle.rounding.specs.Scales.{badScale}
 use Rattle.surfacing.specs.Fit.{signsFit}
 use Rattle.stl_records.specs.File.{Facing, fileOf}
-use Rattle.stl_writing.specs.Listing.{facingsIn}
+use Rattle.stl_listing.specs.Listing.{facingsIn}
 use Rattle.stl_writing.specs.declared.WriteAnswer.{WriteAnswer}
 use Rattle.stl_writing.specs.declared.WriteAnswer.the-variants.{Done, Refused}
 

@@ -1,17 +1,15 @@
 // The call that writes a surface as binary STL.
-pub mod listing;
-
 use fitting::signs_fit;
 use grids::is_grid;
 use lattice::clear;
 use lattice::level::Level;
 use lattice::level::LevelRead;
-use listing::put_quads;
 use octets::put_word;
 use quads::count_quads;
 use refusals::Refusal;
 use rounding::Scale;
 use rounding::scale_of;
+use stl_listing::put_quads;
 ghost use mathlib.Core.Path.{_≡_};
 ghost use mathlib.Core.Bool.{true};
 ghost use Prim.Native.Nat.{_≤_, _*_};
@@ -22,7 +20,7 @@ ghost use Rattle.octets.specs.Octets.{puts};
 ghost use Rattle.rounding.specs.Scales.{exponentOf};
 ghost use Rattle.stl_records.specs.File.{header};
 ghost use Rattle.stl_writing.specs.Call.{told, written, writeCall};
-ghost use Rattle.stl_writing.specs.Listing.{facingsIn};
+ghost use Rattle.stl_listing.specs.Listing.{facingsIn};
 
 // What the call answers: done, with the number of bytes written, or why not.
 pub enum WriteAnswer {

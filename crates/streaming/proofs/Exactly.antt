@@ -45,8 +45,8 @@ use Rattle.reporting.specs.Close.{Closed}
 use Rattle.feeding.proofs.Marked.{known, mark-short, mark-out, mark-in, ready-after}
 use Rattle.reporting.proofs.Called.{surface-listed, left-marks, closing}
 use Rattle.feeding.proofs.Taken.{taken-refused, taken-one}
-use Rattle.reporting.proofs.Lent.{bytes-long}
-use Rattle.streaming.proofs.Opened.{lent-ready, open-still, printed-level}
+use Rattle.reporting.proofs.Lent.{bytes-long, lent-ready}
+use Rattle.streaming.proofs.Opened.{open-still, printed-level}
 use Rattle.reporting.proofs.Reports.{closed-is}
 
 -- a text is the refusal by a number that is not 0, and a listing where the number is 0

@@ -1,30 +1,26 @@
 -- Laws of a stream's beginning and end: what open makes of the bytes lent, and what is printed. Assumes nothing.
-use mathlib.Core.Path.{_≡_, refl, sym, ap, subst, _∙_}
+use mathlib.Core.Path.{_≡_, refl, sym, ap, _∙_}
 use mathlib.Core.Bool.{false, true≢false}
 use mathlib.Core.List.{List, [], _∷_, _++_}
 use Prim.Native.Nat.{ℕ, _+_, _-_, _≤_}
 use native.Mathlib.Omega.{arith}
-use lib.ListN.{length, drop, replicate, length-replicate, replicate-append-replicate}
+use lib.ListN.{length, drop, replicate, length-replicate}
 use lib.Seq.{drop-at}
 use borrow.Author.Tests.{le-ltb}
-use Rattle.rules.specs.Grid.{isGrid, Unsigned}
 use Rattle.lattice.specs.declared.level.Level.{Level}
-use Rattle.lattice.specs.declared.level.LevelRead.the-variants.{Known, Unknown}
+use Rattle.lattice.specs.declared.level.LevelRead.the-variants.{Unknown}
 use Rattle.lattice.specs.Levels.{levelOf, numberOf, cellsOf, pointsOf}
-use Rattle.grids.proofs.Ahead.{open-grid, open-unsigned}
-use Rattle.lattice.specs.Buffers.{Ready}
-use Rattle.refusals.proofs.Levels.{read-unknown, read-known, good-number}
+use Rattle.refusals.proofs.Levels.{read-unknown}
 use Rattle.totals.specs.Totals.{trued}
 use Rattle.marking.specs.Outcome.{done}
 use Rattle.marking.specs.Open.{opened, openRows, openCall}
 use Rattle.text.specs.Listing.{refusedLine}
-use Rattle.picture.proofs.Inside.{points-most}
 use Rattle.streaming.specs.declared.Wanted.{Wanted}
 use Rattle.streaming.specs.declared.Wanted.the-variants.{Listing, Layers, Masks, Faces, Surface}
 use Rattle.feeding.specs.declared.Fed.the-variants.{Marked, Refused}
 use Rattle.feeding.specs.Taken.{taken, mostTriangles}
 use Rattle.reporting.specs.Report.{lentBytes}
-use Rattle.reporting.proofs.Lent.{bytes-long}
+use Rattle.reporting.proofs.Lent.{bytes-long, lent-parts}
 use Rattle.streaming.specs.Stream.{shown, printedTaken, printed}
 use Rattle.filing.proofs.Filed.{file-long}
 use Rattle.streaming.specs.Read.{isFile, Room, Streamed}
@@ -34,28 +30,14 @@ use Rattle.feeding.proofs.Marked.{known}
 use Rattle.feeding.proofs.Taken.{taken-end}
 
 module _ (l : Level) where
-  split : lentBytes ≡ replicate (pointsOf l) 0 ++ replicate (35937 - pointsOf l) 0
-  unfolding lentBytes
-  split =
-      ap (λ (k : ℕ). replicate k 0) (let h : 35937 ≡ pointsOf l + (35937 - pointsOf l) = omega (arith, points-most l) in h)
-      ∙ sym (replicate-append-replicate (pointsOf l) (35937 - pointsOf l) 0)
-
-  -- 35,937 bytes of 0 are a grid of any level
-  pub lent-ready : Ready l lentBytes
-  lent-ready = record {
-    long = bytes-long l;
-    grid = ap (isGrid (cellsOf l)) split ∙ open-grid (cellsOf l) (replicate (35937 - pointsOf l) 0);
-    unsigned = subst (Unsigned (cellsOf l)) (sym split) (open-unsigned (cellsOf l) (replicate (35937 - pointsOf l) 0));
-  }
-
-  -- and open leaves them as they are
+  -- open leaves the bytes lent as they are
   pub open-still : opened l lentBytes ≡ lentBytes
   unfolding opened
   open-still =
       ap (λ (b : List ℕ). replicate (pointsOf l) 0 ++ b)
-      (ap (drop (pointsOf l)) split ∙ drop-at (replicate (pointsOf l) 0) (replicate (35937 - pointsOf l) 0) (pointsOf l)
+      (ap (drop (pointsOf l)) (lent-parts l) ∙ drop-at (replicate (pointsOf l) 0) (replicate (35937 - pointsOf l) 0) (pointsOf l)
       (length-replicate {A = ℕ} (pointsOf l) 0))
-      ∙ sym split
+      ∙ sym (lent-parts l)
 
   pub open-done : openCall (numberOf l) lentBytes lentTotals ≡ done lentBytes (trued (cellsOf l) lentBytes lentTotals)
   unfolding openRows openCall
@@ -76,10 +58,6 @@ module _ (w : Wanted) (l : Level) (h : List ℕ) where
 pub printed-none : (w : Wanted) → refusedLine 1 ≡ printed w []
 unfolding printed
 printed-none w = refl
-
--- the number of a level that was read
-pub read-number : (level : ℕ) (l : Level) → levelOf level ≡ Known l → level ≡ numberOf l
-read-number level l e = let k = read-known level l e in good-number level (k .0) ∙ ap numberOf (k .1)
 
 module _ (w : Wanted) (s : List ℕ) where
   -- a bad level byte is 1, whatever follows

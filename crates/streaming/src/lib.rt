@@ -4,6 +4,8 @@ use feeding::feed;
 use filing::write_surface;
 use lattice::level::Level;
 use lattice::level::LevelRead;
+use lending::empty_grid;
+use lending::empty_list;
 use libc::STDIN_FILENO;
 use libc::STDOUT_FILENO;
 use octets::wide;
@@ -30,20 +32,6 @@ pub enum Wanted {
 
 // The bytes that are read at once: 113 triangles.
 const BLOCK: usize = 4068;
-
-// Bytes for the points of any level: an empty grid.
-pub fn empty_grid() -> [u8; 35937]
-    ensures { λ r. ⌜ r ≡ replicate 35937 0 ⌝ }
-{
-    [0u8; 35937]
-}
-
-// The list that is lent to surface.
-pub fn empty_list() -> [u16; 32768]
-    ensures { λ r. ⌜ r ≡ replicate 32768 0 ⌝ }
-{
-    [0u16; 32768]
-}
 
 // Room for the longest listing, of 8,192 quads.
 fn empty_text() -> [u8; 213098]

@@ -21,7 +21,7 @@ use Rattle.rules.proofs.Listed.{count-places}
 use Rattle.rules.proofs.Numbers.{has-low, zero-has}
 use Rattle.rules.proofs.Same.{each-same}
 use Rattle.rules.proofs.PointOf.{points-grid}
-use Rattle.lattice.specs.Byte.{low}
+use Rattle.byte.specs.Byte.{low}
 use Rattle.grids.proofs.Points.{pointsFrom, points-start, points-more, points-end, At, at-grid}
 use Rattle.grids.proofs.GridFacts.{grid-marks}
 use Rattle.lattice.proofs.Written.{sets-append}

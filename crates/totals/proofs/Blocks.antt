@@ -2,6 +2,7 @@
 use mathlib.Core.Path.{_≡_, sym, ap, _∙_}
 use mathlib.Core.List.{List, _++_}
 use Prim.Native.Nat.{ℕ, suc, _/_, _≤_}
+use native.Mathlib.Nat.{mul-le-mul}
 use native.Mathlib.Omega.{arith}
 use lib.ListN.{length, getD, drop, length-map, length-append, length-drop, take-append-drop, List·getD-append}
 use lib.Seq.{take-at, drop-at}
@@ -29,6 +30,10 @@ block-small n c h =
       yl = omega (arith, h .j);
       zl = omega (arith, h .k);
     }
+
+-- at most 729 blocks
+pub blocks-most : (n : ℕ) → n ≤ 32 → blockCount n ≤ 729
+blocks-most n h = let m : suc (n / 4) ≤ 9 = omega arith in mul-le-mul (mul-le-mul m m) m
 
 -- ---- the totals
 pub totals-length : (n : ℕ) (g : List ℕ) → length (totals n g) ≡ blockCount n

@@ -16,10 +16,9 @@ use Rattle.rules.specs.Grid.{has, value, stored}
 use Rattle.rules.proofs.Bits.{and-left, and-right, both, same-test}
 use Rattle.rules.proofs.Boxes.{faceIn→}
 use Rattle.rules.proofs.Store.{number-inj}
-use Rattle.lattice.specs.Byte.{above, high, odd, seen, wayBack, entered}
-use Rattle.lattice.specs.Cells.{aside}
+use Rattle.byte.specs.Byte.{above, high, odd, seen, wayBack, entered, aside}
 use Rattle.lattice.proofs.Laws.{num-below}
-use Rattle.lattice.proofs.Parts.{packed-low, packed-has, packed-flag, packed-high, above-flag}
+use Rattle.byte.proofs.Parts.{packed-low, packed-has, packed-flag, packed-high, above-flag}
 use Rattle.walking.specs.Walks.{oddIn, Fine, seenB, seeOf, wayOf}
 
 -- 0 before 1: not the one, and the other

@@ -11,7 +11,7 @@ use Rattle.rules.specs.declared.Point.{Point}
 use Rattle.rules.specs.declared.Box.{Box}
 use Rattle.rules.specs.Lattice.{OfGrid, Set, pointNumber, samePoint, pointCount, Sub}
 use Rattle.rules.specs.Grid.{stored}
-use Rattle.lattice.specs.Cells.{aside}
+use Rattle.byte.specs.Byte.{aside}
 use Rattle.walking.specs.Walks.{cellBox, Walked, New, AllSeen, Found}
 use Rattle.walking.specs.Bound.{unseenCells}
 use Rattle.walking.proofs.Trail.{trailOf, Trail}

@@ -14,8 +14,7 @@ use Rattle.rules.specs.Lattice.{OfGrid, Set, pointNumber, faceIn, whole, samePo
 use Rattle.rules.specs.Grid.{has, stored}
 use Rattle.rules.proofs.Bits.{both}
 use Rattle.rules.proofs.Cuts.{samePoint→}
-use Rattle.lattice.specs.Byte.{high}
-use Rattle.lattice.specs.Cells.{aside}
+use Rattle.byte.specs.Byte.{high, aside}
 use Rattle.walking.specs.Walks.{seenB, acrossOf, leaveOf, oddAt, backOf, firstOpen, cellBox, Walked, popOf, stopOf, New, AllSeen, Found}
 use Rattle.walking.specs.Bound.{unseenCells}
 use Rattle.lattice.proofs.PointSteps.{cell-grid}

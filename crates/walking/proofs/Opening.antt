@@ -14,7 +14,7 @@ use Rattle.rules.specs.declared.Place.{Place}
 use Rattle.rules.specs.Lattice.{OfGrid, down, faceIn, whole, pointNumber, pointCount, pointOf}
 use Rattle.rules.specs.Grid.{value}
 use Rattle.rules.proofs.PointOf.{number-pointOf}
-use Rattle.lattice.specs.Byte.{odd, seen}
+use Rattle.byte.specs.Byte.{odd, seen}
 use Rattle.lattice.specs.Cells.{faceRule, faceOf, indexOf, moved, pointStep, Cell}
 use Rattle.lattice.proofs.Laws.{face-small, num-below}
 use Rattle.lattice.proofs.PointSteps.{number-moved, number-down}

@@ -13,7 +13,8 @@ use Rattle.rules.specs.declared.Point.{Point}
 use Rattle.rules.specs.declared.Box.{Box}
 use Rattle.rules.specs.Lattice.{OfGrid, Set, faceIn, whole, samePoint, pointCount, Sub}
 use Rattle.rules.proofs.Bits.{or-no-left}
-use Rattle.lattice.specs.Cells.{aside, Cell}
+use Rattle.lattice.specs.Cells.{Cell}
+use Rattle.byte.specs.Byte.{aside}
 use Rattle.walking.specs.Walks.{seenB, seeOf, firstOpen, cellBox, Walked, pushOf, popOf, stopOf, stepOf, here, New}
 use Rattle.walking.specs.Bound.{unseenCells}
 use Rattle.lattice.proofs.PointSteps.{cell-grid}

@@ -14,7 +14,7 @@ use Rattle.rules.proofs.Cuts.{samePoint→}
 use Rattle.rules.proofs.Chains.{same-point}
 use Rattle.rules.proofs.Bits.{is-false, or-no-left, or-no-right}
 use Rattle.rules.proofs.Store.{number-inj}
-use Rattle.lattice.specs.Byte.{wayBack}
+use Rattle.byte.specs.Byte.{wayBack}
 use Rattle.lattice.specs.Cells.{Cell}
 use Rattle.walking.specs.Walks.{seenB, seeOf, wayOf, oddAt, acrossOf, opposite, backOf, New, AllSeen}
 use Rattle.lattice.proofs.PointSteps.{cell-grid}

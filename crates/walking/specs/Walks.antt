@@ -13,8 +13,8 @@ use Rattle.rules.specs.declared.Box.{Box}
 use Rattle.rules.specs.Lattice.{coord, withCoord, up, down, Set, OfGrid, pointNumber, faceIn, whole, pointCount, Sub}
 use Rattle.rules.specs.Grid.{value, stored}
 use Rattle.rules.specs.Rims.{joinBox}
-use Rattle.lattice.specs.Byte.{high, seen, wayBack, entered}
-use Rattle.lattice.specs.Cells.{indexOf, faceOf, aside, Cell}
+use Rattle.byte.specs.Byte.{high, seen, wayBack, entered, aside}
+use Rattle.lattice.specs.Cells.{indexOf, faceOf, Cell}
 use Rattle.walking.specs.declared.Walk.{Walk}
 
 -- ---- what the work bytes hold

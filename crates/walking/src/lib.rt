@@ -1,12 +1,12 @@
 // The cells of one rim, found by a walk that keeps its way back in the cells' bytes.
+use byte::departed;
+use byte::entered;
+use byte::odd_bit;
+use byte::seen_bit;
+use byte::way_back;
 use cells::face_rule;
 use cells::step;
 use cells::upper_face;
-use lattice::byte::departed;
-use lattice::byte::entered;
-use lattice::byte::odd_bit;
-use lattice::byte::seen_bit;
-use lattice::byte::way_back;
 use lattice::index;
 use lattice::least;
 use lattice::most;

@@ -11,10 +11,10 @@ use lib.ListN.{length}
 use Rattle.descending.proofs.mark_cube.Reads as mark-cube
 use Rattle.descending.proofs.mark_cube.Kinds as mark-cube-kinds
 use Rattle.descending.proofs.+mark_cube.Lts-mark_cube as mark-cube-lts
-use Rattle.descending.proofs.touches.Reads as touches-reads
+use Rattle.cubes.proofs.touches.Reads as touches-reads
 use Rattle.descending.proofs.mark_single.Reads as mark-single-reads
-use Rattle.descending.proofs.is_missed.Reads as is-missed-reads
-use Rattle.descending.proofs.eighth.Reads as eighth-reads
+use Rattle.cubes.proofs.is_missed.Reads as is-missed-reads
+use Rattle.cubes.proofs.eighth.Reads as eighth-reads
 use Rattle.lattice.specs.Levels.{cellsOf}
 use Rattle.lattice.proofs.LevelFacts.{cells-most}
 use Rattle.lattice.proofs.Tests.{fails, holds}
@@ -23,10 +23,10 @@ use Rattle.meeting.specs.Met.{met}
 use Rattle.meeting.specs.Covered.{Covers}
 use Rattle.meeting.specs.Adding.{Added}
 use Rattle.corners.proofs.Planes.{covers-reaches}
-use Rattle.descending.specs.Cubes.{inFirsts}
-use Rattle.descending.specs.Reach.{KeepsAll}
-use Rattle.descending.proofs.Cubes.{outside-dropped, missed-dropped, single-cell, single-touches, single}
-use Rattle.descending.proofs.Cubes.{halves, eighth-ok, first-none, first-next, first-all, cube-wider}
+use Rattle.cubes.specs.Cubes.{inFirsts}
+use Rattle.cubes.specs.Reach.{KeepsAll}
+use Rattle.cubes.proofs.Cubes.{outside-dropped, missed-dropped, single-cell, single-touches, single}
+use Rattle.cubes.proofs.Cubes.{halves, eighth-ok, first-none, first-next, first-all, cube-wider}
 use Rattle.descending.proofs.+mark_cube.{statement}
 use Rattle.descending.proofs.+mark_cube.Tie.{close}
 

@@ -1,6 +1,6 @@
 -- `mark_cubes` keeps the ten axes and goes down from the whole grid, which is a cube that holds every cell of the box. Assumes nothing.
 use borrow.Author.Needs.{needs}
-use Rattle.descending.proofs.Cubes.{whole-cube, whole-all}
+use Rattle.cubes.proofs.Cubes.{whole-cube, whole-all}
 use Rattle.descending.proofs.mark_cubes.Statement.{statement}
 use Rattle.descending.proofs.mark_cubes.Tie as tie
 

@@ -8,7 +8,7 @@ use lib.ListN.{drop, replicate}
 use Rattle.rules.specs.Lattice.{pointCount}
 use Rattle.rules.specs.Grid.{marks}
 use Rattle.rules.proofs.Numbers.{marks-inner}
-use Rattle.lattice.specs.Byte.{oddPutBy}
+use Rattle.byte.specs.Byte.{oddPutBy}
 use Rattle.lattice.proofs.Buffers.{grid-sized}
 use Rattle.patching.proofs.PaintLaws.{cleared-paint}
 use Rattle.finding.proofs.Found.{layers-most, in-layer, Passed, passed-none, point-below, passed-on, all-ones, all-threes, odd-found}

@@ -3,7 +3,7 @@ use mathlib.Core.Path.{_≡_, refl, ap, _∙_}
 use Prim.Native.Nat.{ℕ, _-_, _+_, _≤_}
 use native.Mathlib.Nat.{le-antisymm}
 use native.Mathlib.Omega.{arith}
-use Rattle.lattice.specs.Byte.{low}
+use Rattle.byte.specs.Byte.{low}
 use Rattle.patching.specs.Paint.{paint, allChanges, zeroByte}
 use Rattle.patching.proofs.PaintLaws.{paint-none, paint-room, paint-kept, paint-more, paint-read, changes-most, changes-more, changes-none}
 use Rattle.finishing.proofs.finish.Statement.{statement}

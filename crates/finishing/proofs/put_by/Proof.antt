@@ -3,7 +3,7 @@ use mathlib.Core.Path.{_≡_}
 use Prim.Native.Nat.{_-_, _≤_}
 use native.Mathlib.Nat.{le-antisymm}
 use native.Mathlib.Omega.{arith}
-use Rattle.lattice.specs.Byte.{marksPutBy}
+use Rattle.byte.specs.Byte.{marksPutBy}
 use Rattle.patching.specs.Paint.{paint}
 use Rattle.patching.proofs.PaintLaws.{paint-none, paint-room, paint-kept, paint-more}
 use Rattle.finishing.proofs.put_by.Statement.{statement}

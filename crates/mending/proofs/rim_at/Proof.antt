@@ -3,7 +3,7 @@ use mathlib.Core.Path.{_≡_, sym, _∙_}
 use mathlib.Core.Bool.{false}
 use native.Mathlib.Omega.{arith}
 use lib.ListN.{getD}
-use Rattle.lattice.specs.Byte.{noneOdd, seen}
+use Rattle.byte.specs.Byte.{noneOdd, seen}
 use Rattle.lattice.proofs.Buffers.{work-sized}
 use Rattle.mending.proofs.Point.{fit-of, at-none, at-cell, at-seen, at-unseen, at-rim}
 use borrow.Author.Needs.{needs}

@@ -2,8 +2,7 @@
 use mathlib.Core.Path.{ap, _∙_}
 use native.Mathlib.Omega.{arith}
 use lib.ListN.{length}
-use Rattle.reporting.proofs.Lent.{bytes-lent, list-lent, list-long}
-use Rattle.streaming.proofs.Opened.{lent-ready}
+use Rattle.reporting.proofs.Lent.{bytes-lent, list-lent, list-long, lent-ready}
 use Rattle.packing.proofs.Packs.{packed-done, packed-stopped}
 use borrow.Author.Needs.{needs}
 use Rattle.packing.proofs.pack_at.Statement.{statement}

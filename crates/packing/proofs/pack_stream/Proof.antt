@@ -1,6 +1,6 @@
 -- `pack_stream`: no byte, or a byte that is no level, is refused by 1; else the level byte goes before the bytes that explain pack_at's parts. Assumes nothing.
 use mathlib.Core.Path.{sym, _∙_}
-use Rattle.streaming.proofs.Opened.{read-number}
+use Rattle.refusals.proofs.Levels.{read-number}
 use Rattle.packing.proofs.Packs.{packed-none, packed-bad, packed-level}
 use borrow.Author.Needs.{needs}
 use Rattle.packing.proofs.pack_stream.Statement.{statement}

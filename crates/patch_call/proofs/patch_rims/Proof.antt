@@ -2,7 +2,7 @@
 use mathlib.Core.Path.{ap, _∙_}
 use Prim.Native.Nat.{ℕ}
 use borrow.Author.Needs.{needs}
-use Rattle.lattice.specs.Byte.{marksPutBy}
+use Rattle.byte.specs.Byte.{marksPutBy}
 use Rattle.patching.specs.Paint.{paint}
 use Rattle.patch_call.proofs.Begins.{fine-start}
 use Rattle.patch_call.proofs.Ends.{rims-done}

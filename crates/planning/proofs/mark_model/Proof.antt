@@ -1,6 +1,6 @@
 -- `mark_model` meets its contract: the grid begins empty, as open leaves it. Assumes nothing.
-use Rattle.streaming.proofs.Opened.{lent-ready}
-use Rattle.planning.proofs.Marks.{marked-done, marked-refused, marked-stopped}
+use Rattle.reporting.proofs.Lent.{lent-ready}
+use Rattle.plans.proofs.Marks.{marked-done, marked-refused, marked-stopped}
 use borrow.Author.Needs.{needs}
 use Rattle.planning.proofs.mark_model.Statement.{statement}
 use Rattle.planning.proofs.mark_model.Tie as tie

@@ -1,6 +1,6 @@
 -- `plan_file` meets its contract: a front whose length is right is whole, and so is its count. Assumes nothing.
 use mathlib.Core.Path.{sym, _∙_}
-use Rattle.planning.proofs.Plans.{file-refused, file-none, file-plans}
+use Rattle.plans.proofs.Plans.{file-refused, file-none, file-plans}
 use borrow.Author.Needs.{needs}
 use Rattle.planning.proofs.plan_file.Statement.{statement}
 use Rattle.planning.proofs.plan_file.Tie as tie

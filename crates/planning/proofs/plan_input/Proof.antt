@@ -1,5 +1,5 @@
 -- `plan_input` meets its contract: what standard input is, is what `size_of_input` answers. Assumes nothing.
-use Rattle.planning.proofs.Plans.{input-file, input-other}
+use Rattle.plans.proofs.Plans.{input-file, input-other}
 use borrow.Author.Needs.{needs}
 use Rattle.planning.proofs.plan_input.Statement.{statement}
 use Rattle.planning.proofs.plan_input.Tie as tie

@@ -1,6 +1,6 @@
 -- `plan_measured` meets its contract: a model that stands does so with an e and a shift that can be told. Assumes nothing.
 use mathlib.Core.Path.{sym, ap, _∙_}
-use Rattle.planning.specs.Plan.{planned}
+use Rattle.plans.specs.Plan.{planned}
 use borrow.Author.Needs.{needs}
 use Rattle.planning.proofs.plan_measured.Statement.{statement}
 use Rattle.planning.proofs.plan_measured.Tie as tie

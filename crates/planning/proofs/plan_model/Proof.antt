@@ -1,7 +1,7 @@
 -- `plan_model` meets its contract: a word that is known is sound. Assumes nothing.
 use mathlib.Core.Path.{sym, _∙_}
-use Rattle.planning.proofs.Orders.{word-sound}
-use Rattle.planning.proofs.Plans.{word-known, word-bad}
+use Rattle.plans.proofs.Orders.{word-sound}
+use Rattle.plans.proofs.Plans.{word-known, word-bad}
 use borrow.Author.Needs.{needs}
 use Rattle.planning.proofs.plan_model.Statement.{statement}
 use Rattle.planning.proofs.plan_model.Tie as tie

@@ -1,7 +1,7 @@
 -- `plan_records` meets its contract: what the first pass saw is the extent of the records' model. Assumes nothing.
 use Rattle.stl_feeding.specs.Measured.{modelOf}
-use Rattle.planning.proofs.Seen.{seen-measures}
-use Rattle.planning.proofs.Plans.{records-seen, records-refused}
+use Rattle.plans.proofs.Seen.{seen-measures}
+use Rattle.plans.proofs.Plans.{records-seen, records-refused}
 use borrow.Author.Needs.{needs}
 use Rattle.planning.proofs.plan_records.Statement.{statement}
 use Rattle.planning.proofs.plan_records.Tie as tie

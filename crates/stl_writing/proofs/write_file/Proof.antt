@@ -6,7 +6,8 @@ use mathlib.Core.Path.{sym, _∙_}
 use Rattle.rules.specs.Grid.{marks, inside}
 use Rattle.rounding.specs.Scales.{exponentOf}
 use Rattle.stl_records.specs.File.{facings}
-use Rattle.stl_writing.proofs.Files.{facings-count, file-short, file-written}
+use Rattle.stl_listing.proofs.Counted.{facings-count}
+use Rattle.stl_writing.proofs.Files.{file-short, file-written}
 
 count-quads-requires : tie.Need-count-quads-requires
 count-quads-requires c κs = search needs

@@ -2,8 +2,8 @@
 use mathlib.Core.Path.{_∙_}
 use native.Mathlib.Omega.{arith}
 use Rattle.streaming.specs.declared.Wanted.the-variants.{Listing, Layers, Masks, Faces, Surface}
-use Rattle.reporting.proofs.Lent.{bytes-lent, list-lent}
-use Rattle.streaming.proofs.Opened.{lent-ready, printed-done, printed-refused, room-some}
+use Rattle.reporting.proofs.Lent.{bytes-lent, list-lent, lent-ready}
+use Rattle.streaming.proofs.Opened.{printed-done, printed-refused, room-some}
 use borrow.Author.Needs.{needs}
 use Rattle.streaming.proofs.repair_at.Statement.{statement}
 use Rattle.streaming.proofs.repair_at.Tie as tie

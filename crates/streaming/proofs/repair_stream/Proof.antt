@@ -1,9 +1,10 @@
 -- `repair_stream` reads the level byte; a stream without one and one with a bad level are refused, the rest is the triangles of a level. Assumes nothing.
 use mathlib.Core.Path.{sym, _∙_}
 use mathlib.Core.List.{[], _∷_}
-use Rattle.streaming.proofs.Opened.{printed-none, printed-bad, printed-level, read-number, room-some}
+use Rattle.streaming.proofs.Opened.{printed-none, printed-bad, printed-level, room-some}
 use borrow.Author.Needs.{needs}
 use Rattle.lattice.specs.Levels.{numberOf}
+use Rattle.refusals.proofs.Levels.{read-number}
 use Rattle.streaming.proofs.repair_stream.Statement.{statement}
 use Rattle.streaming.proofs.repair_stream.Tie as tie
 

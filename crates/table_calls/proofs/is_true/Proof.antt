@@ -2,8 +2,7 @@
 use mathlib.Core.Path.{_≡_, sym, ap, _∙_}
 use mathlib.Core.Bool.{Bool}
 use mathlib.Core.List.{List}
-use Prim.Native.Nat.{ℕ, suc, _/_, _≤_}
-use native.Mathlib.Nat.{mul-le-mul}
+use Prim.Native.Nat.{ℕ, suc, _/_}
 use native.Mathlib.Omega.{arith}
 use borrow.Author.Needs.{needs}
 use lib.Dec.{eqb}
@@ -15,7 +14,7 @@ use Rattle.rules.proofs.Same.{allOf-same}
 use Rattle.rules.proofs.Numbers.{rising}
 use Rattle.rules.proofs.PointOf.{all-points}
 use Rattle.totals.specs.Totals.{blockCount, blocks, trued}
-use Rattle.totals.proofs.Blocks.{total-at, trued-true}
+use Rattle.totals.proofs.Blocks.{blocks-most, total-at, trued-true}
 use Rattle.asking.specs.Ask.{entryOf, isTrue, alike}
 use Rattle.table_calls.proofs.is_true.Statement.{statement}
 use Rattle.table_calls.proofs.is_true.Tie as tie
@@ -32,10 +31,6 @@ by-number n g z t =
 -- as they are of one that was counted
 counted-alike : (n k : ℕ) (g z h t : List ℕ) → k ≡ blockCount n → h ≡ trued n g z → alike k h t ≡ isTrue n g t
 counted-alike n k g z h t e f = rw (e, f) (by-number n g z t)
-
--- at most 729 blocks
-blocks-most : (n : ℕ) → n ≤ 32 → blockCount n ≤ 729
-blocks-most n h = let m : suc (n / 4) ≤ 9 = omega arith in mul-le-mul (mul-le-mul m m) m
 
 no-totals-requires : tie.Need-no-totals-requires
 no-totals-requires c κs = search needs
