@@ -92,8 +92,8 @@ lock() {
 
 unlock() { exec 9<&-; }
 
-# How many provers rt starts at a time: as many as there are processors. Twice as many would keep these busy while rt waits for the last of a
-# batch, but a check that shares its processor takes an eighth longer (docs/BENCH.md). Each takes up to a gigabyte of memory.
+# How many provers rt starts at a time: as many as there are processors, each with up to a gigabyte of memory. Twice as many wait less for the
+# last of a batch and take longer each; neither was seen to win (docs/BENCH.md).
 provers() {
     count=$(nproc 2>/dev/null || echo 1)
     [ "$count" -le 8 ] || count=8
