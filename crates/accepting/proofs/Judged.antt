@@ -1,23 +1,30 @@
 -- The rows of accept, one after the other. Assumes nothing.
 use mathlib.Core.Bool.{true, false}
 use mathlib.Core.List.{List}
-use mathlib.Core.Path.{_≡_, refl}
-use Prim.Native.Nat.{ℕ, _%_, _≤_, _<_}
+use mathlib.Core.Path.{_≡_, refl, subst}
+use Prim.Native.Nat.{ℕ, _*_, _^_, _%_, _≤_, _<_}
+use native.Mathlib.Nat.{mul-le-mul-right}
+use native.Mathlib.Decide.{decLt}
 use native.Mathlib.Omega.{arith}
 use borrow.Author.Tests.{lt-ltb, le-ltb, eq-eqb, ne-eqb}
 use lib.ListN.{length}
 use Rattle.lattice.specs.declared.level.Level.{Level}
-use Rattle.lattice.specs.declared.level.Level.the-variants.{Two, Three, Four, Five}
-use Rattle.lattice.specs.Levels.{cellsOf, pointsOf}
+use Rattle.lattice.specs.Levels.{cellsOf, sideOf, pointsOf}
+use Rattle.lattice.proofs.LevelFacts.{side-whole, side-quarter}
 use Rattle.refusals.specs.Columns.{badLevel, levelAt}
 use Rattle.accepting.specs.Call.{refused, decided, acceptRows, acceptCall}
 
--- at each level there are more cells than one a side
+-- there are more cells than one a side: a cell's side is at most a quarter of the lattice's
 pub cells-more : (v : Level) → 1 < cellsOf v
-cells-more Two = omega arith
-cells-more Three = omega arith
-cells-more Four = omega arith
-cells-more Five = omega arith
+cells-more v = go (decLt 1 (cellsOf v))
+  where
+    go : Dec (1 < cellsOf v) → 1 < cellsOf v
+    go (yes h) = h
+    go (no h) =
+        let c : cellsOf v ≤ 1 = omega (arith, h) in
+        let m : 2 ^ 20 ≤ 1 * sideOf v = subst (λ (k : ℕ). k ≤ 1 * sideOf v) (side-whole v) (mul-le-mul-right (sideOf v) c) in
+        let z : ⊥ = omega (arith, m, side-quarter v) in
+        absurd z
 
 module _ (level : ℕ) (l g w : List ℕ) where
   pub bad-level : badLevel level ≡ true → refused g w 1 ≡ acceptCall level l g w
