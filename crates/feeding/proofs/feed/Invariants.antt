@@ -1,0 +1,26 @@
+-- `feed` meets its contract. The loop's invariant: whatever follows the block, what is left from here, taken from the state now, comes to the
+-- whole. Assumes nothing.
+use mathlib.Core.Path.{◌≡◌}
+use mathlib.Core.List.{List, ◌++◌}
+use Prim.Native.Nat.{ℕ, ◌+◌, ◌-◌, ◌/◌, ◌%◌, ◌≤◌}
+use lib.ListN.{length, drop}
+use Rattle.lattice.specs.Levels.{number_of}
+use Rattle.lattice.specs.Buffers.{Ready}
+use Rattle.feeding.specs.Taken.{taken}
+use Rattle.feeding.specs.Feed.{Uncut}
+use Rattle.feeding.proofs.feed.Given as goal
+
+abbrev pub invariant-loop-at : goal.invariant-loop-at
+invariant-loop-at l =
+    (l.at ≤ length l.block)
+    × (l.at % 36 ≡ 0)
+    × (l.triangles ≡ l.count + l.at / 36)
+    × (l.triangles ≤ 100000)
+    × (length l.grid ≡ length l.initial.grid)
+    × Ready l.l l.grid
+    × ((rest : List ℕ) → Uncut l.block rest
+    → taken (number_of l.l) (100000 - l.count) (l.block ++ rest) l.count l.initial.grid
+    ≡ taken (number_of l.l) (100000 - l.triangles) (drop l.at l.block ++ rest) l.triangles l.grid)
+
+abbrev pub decreases-loop-at : goal.decreases-loop-at
+decreases-loop-at l = length l.block - l.at
