@@ -1,7 +1,7 @@
 #!/usr/bin/env python3
 """Times a list of triangles through mark_all: from C and from Python, beside plain C, beside mark for each triangle, and beside the program.
 
-usage: bench/lists.py "LISTS COMMAND" "PYTHON or nothing" "REPAIR COMMAND" STREAM...
+usage: bench/lists.py "LISTS COMMAND" PYTHON "REPAIR COMMAND" STREAM...
        bench/lists.py --from-python STREAM            (prints milliseconds; the module omphirun has to be found)
        bench/lists.py --small LEVEL MANY STREAM       (writes a stream of small triangles, no wider than a cell)
 """
@@ -65,11 +65,8 @@ def time_list(lists, python, repair, stream):
     row("mark_all", marked)
     row("plain C that marks a list", plain, f"mark_all takes {marked / plain:.2f} of its time")
     row("mark for each", each, f"a tenth of them, times ten; mark_all is {each / marked:.0f} times faster")
-    if python:
-        here = subprocess.run([python, os.path.abspath(__file__), "--from-python", stream], capture_output=True, text=True, check=True)
-        row("mark_all from Python", float(here.stdout), f"{float(here.stdout) / marked:.2f} of the time from C")
-    else:
-        print("  mark_all from Python is passed over: this machine's Python is not for x86-64, and PYTHON_X86_64 names none")
+    here = subprocess.run([python, os.path.abspath(__file__), "--from-python", stream], capture_output=True, text=True, check=True)
+    row("mark_all from Python", float(here.stdout), f"{float(here.stdout) / marked:.2f} of the time from C")
     row("open, mark_all, patch, sign, surface", whole)
     program, printed = best_of(lambda: run(repair, stream)[0]), run(repair, stream)[1].decode().split("\n", 1)[0]
     told = f"which prints '{printed}'" if printed.startswith("refused") else f"the calls take {whole / program:.2f} of its time, start and output included"

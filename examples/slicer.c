@@ -1,9 +1,9 @@
 /* Uses the repair stage as a slicer would: repairs a model, asks which layers its surface reaches, and says for each layer how much is cured.
 
-   build:  rt staticlib stage
-           cc -O2 -Wall -I include -o target/slicer examples/slicer.c target/staticlib/libstage.a
-   run:    target/slicer models/lampshade.bin
-           target/slicer models/lampshade.bin target/lampshade.stl     (writes the surface as binary STL besides)
+   build:  (cd crates/stage && rt lib)
+           cc -O2 -Wall -I include -o /tmp/slicer examples/slicer.c crates/stage/out/libstage.a
+   run:    /tmp/slicer models/lampshade.bin
+           /tmp/slicer models/lampshade.bin /tmp/lampshade.stl     (writes the surface as binary STL besides)
 
    The file is a stream as docs/FORMATS.md describes it: one level byte, then nine little-endian 32-bit numbers a triangle. */
 #include <stdio.h>

@@ -1,5 +1,5 @@
 #!/bin/sh
-# Runs a proved program on standard input as ./repair does, under the kit's loader; or makes the programs that are missing or older than the crates.
+# Runs a proved program on standard input as ./repair does; or makes the programs that are missing or older than the crates.
 # usage: explaining/proved.sh repair | layers | --build
 set -eu
 me=explain
@@ -11,9 +11,6 @@ case "$# ${1:-}" in
     build_program repair
     build_program layers
     ;;
-'1 repair' | '1 layers')
-    find_kit
-    run_proved "$root/target/bin/$1"
-    ;;
+'1 repair' | '1 layers') exec "$root/target/bin/$1" ;;
 *) die "usage: explaining/proved.sh repair | layers | --build" ;;
 esac

@@ -1,8 +1,8 @@
 /* The repair stage for a slicer: five calls, mark in a second form and for many triangles, two that read and write binary STL, two that read
    and write job files, one that checks a surface, one that writes masks, and three about the table of totals, on memory that the caller lends.
 
-   `./install PREFIX` puts this header and the library in place, for x86-64: `pkg-config --cflags --libs omphirun` tells a compiler the rest.
-   Without it, link with libstage.a, which `rt staticlib stage` writes to target/staticlib/. examples/plate.c shows the calls in their order:
+   `./install PREFIX` puts this header and the library in place, for x86-64-v2: `pkg-config --cflags --libs omphirun` tells a compiler the rest.
+   Without it, link with libstage.a, which `rt lib` in crates/stage writes to out/ there. examples/plate.c shows the calls in their order:
    read_stl, open, mark_all, patch, sign, write_stl, masks; examples/slicer.c marks triangle by triangle, and takes the surface as quads.
 
    Measures. At level L, 2 to 5, the grid has n = 2^L cells a side and P = (n+1)^3 points. Lattice coordinates run from 0 to

@@ -42,7 +42,7 @@ For many files:
 
 A stream is one level byte, 2 to 5, then nine little-endian 32-bit numbers a triangle; a job file has a table of contents
 before its bodies (docs/FORMATS.md). No more of a stream is read than 100,000 triangles and a byte, and no job file of more
-than 64 MB; an STL file may be larger. The first run proves and builds the programs, which takes three to ten minutes; later
+than 64 MB; an STL file may be larger. The first run proves and builds the programs, which takes long and is said; later
 runs take a moment. Exit status: 0 repaired, 1 refused, 2 for anything else that went wrong; one line on standard error says
 why. Of many files 1 says that some were refused, 2 that some failed.
 END

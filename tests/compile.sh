@@ -1,4 +1,4 @@
-# Functions for the scripts that compile C: which files make up the reference and the harness, a compiler for x86-64, objects and programs in
+# Functions for the scripts that compile C: which files make up the reference and the harness, the compilers, objects and programs in
 # target/tests. Read after tests/build.sh.
 
 flags='-O2 -std=gnu11 -Wall -Wextra'
@@ -12,32 +12,19 @@ reference=$(names 'reference*.c' | grep -v reference_main)
 inputs="inputs triangles grids tables turning $(names 'call_*.c')"
 harness="compare calls sides shrink print examples examples_totals $inputs $reference"
 
-# A C compiler for x86-64: the machine's own, or Debian's cross compiler, whose programs are linked whole.
+# The C compiler.
 find_compiler() {
+    find_machine
     mkdir -p "$work"
-    if [ "$(uname -m)" = x86_64 ]; then
-        need gcc gcc
-        need_file /usr/include/stdio.h libc6-dev
-        cc=gcc whole=
-    else
-        need x86_64-linux-gnu-gcc gcc-x86-64-linux-gnu
-        need_file /usr/x86_64-linux-gnu/include/stdio.h libc6-dev-amd64-cross
-        find_kit
-        [ -n "$emulator" ] || die "the kit has no emulator for x86-64 on $(uname -m)"
-        cc=x86_64-linux-gnu-gcc whole=-static
-    fi
-}
-
-# For programs without the library, which is for x86-64: the machine's own C compiler where there is one, so that no emulator runs them.
-own_compiler() {
-    [ -n "$whole" ] && command -v gcc >/dev/null 2>&1 && [ -f /usr/include/stdio.h ] || return 0
-    cc=gcc whole=
+    need gcc gcc
+    need_file /usr/include/stdio.h libc6-dev
+    cc=gcc
 }
 
 # The C++ compiler beside it.
 find_cxx() {
-    cxx=${cc%gcc}g++
-    if [ "$cxx" = g++ ]; then need g++ g++; else need "$cxx" g++-x86-64-linux-gnu; fi
+    need g++ g++
+    cxx=g++
 }
 
 # Compiles C files of a folder, named without .c, into objects of target/tests.
@@ -56,12 +43,7 @@ link() { # PROGRAM "NAME..." FILE...
     for part in $2; do parts="$parts $part.o"; done
     shift 2
     # shellcheck disable=SC2086
-    (cd "$work" && $cc $flags $whole -o "$program" $parts "$@") || die "$program does not link"
-}
-
-# Runs a program that was linked above.
-run_own() { # PROGRAM ARGUMENT...
-    if [ -n "$whole" ]; then "$emulator" "$@"; else "$@"; fi
+    (cd "$work" && $cc $flags -o "$program" $parts "$@") || die "$program does not link"
 }
 
 # Links the library's archive as a shared library that exports the calls and nothing else.

@@ -1,7 +1,7 @@
 #!/usr/bin/env python3
 """Installs the library as a user would, builds examples/plate.c with what is there, runs it, and takes it away: exactly what was put in place.
 
-usage: tests/install.py CC CXX ARCHIVE [EMULATOR LOADER LIBRARIES]     (the last three where programs for x86-64 do not run by themselves)
+usage: tests/install.py CC CXX ARCHIVE
 """
 import os
 import re
@@ -13,7 +13,7 @@ import tempfile
 
 import install_example
 import install_running
-from install_running import ARCHIVE, CALLS, CC, EMULATED, FILES, HEADER, INSTALL, SHARED, SOON, VERSION
+from install_running import ARCHIVE, CALLS, CC, FILES, HEADER, INSTALL, SHARED, SOON, VERSION
 from install_running import everything, fails, install, installs, placed, read, told_by
 from script import hold, hold_all, small_files
 
@@ -155,6 +155,5 @@ if __name__ == "__main__":
     failures = hold_all((in_place, install_example.example, exported, short_names, destdir, others_stay, wrong_words, hostile_names, no_place))
     missing = sorted(set(install_example.passed_over))
     without = f", passed over: {' and '.join(missing)}, not installed" if missing else ""
-    machine = " under the emulator" if EMULATED else ""
-    print(f"tests/install: ./install in {install_running.runs} runs, plate.c in {install_example.tried}{machine}, {failures} failures{without}")
+    print(f"tests/install: ./install in {install_running.runs} runs, plate.c in {install_example.tried}, {failures} failures{without}")
     sys.exit(1 if failures else 0)

@@ -6,7 +6,7 @@ import struct
 import subprocess
 import tempfile
 
-from install_running import CC, CXX, EMULATED, SHARED, SOON, VERSION, installs, read, told_by
+from install_running import CC, CXX, SHARED, SOON, VERSION, installs, read, told_by
 from script import ROOT, hold
 
 STRICT = ["-O2", "-Wall", "-Wextra", "-Wpedantic", "-Werror"]
@@ -15,22 +15,13 @@ tried = 0
 passed_over = []
 
 
-def loaded_from(folder):
-    """How a program that is linked with the shared library of a folder is run."""
-    if EMULATED:
-        emulator, loader, libraries = EMULATED
-        return [emulator, loader, "--library-path", f"{folder}:{libraries}"], {}
-    return [], {"LD_LIBRARY_PATH": folder}
-
-
 def plate(program, libraries, room, *words):
-    """Status, output, complaints and the two files that the example writes."""
-    how, more = loaded_from(libraries)
+    """Status, output, complaints and the two files that the example writes, with the shared library of a folder."""
     files = [os.path.join(room, name) for name in ("repaired.stl", "masks.pbm")]
     for file in files:
         if os.path.exists(file):
             os.remove(file)
-    done = subprocess.run([*how, program, *words, *files], capture_output=True, env={**os.environ, **more}, timeout=SOON)
+    done = subprocess.run([program, *words, *files], capture_output=True, env={**os.environ, "LD_LIBRARY_PATH": libraries}, timeout=SOON)
     return [done.returncode, done.stdout.decode(), done.stderr.decode()] + [read(file) if os.path.exists(file) else None for file in files]
 
 
@@ -49,9 +40,8 @@ def by_pkg_config(prefix, room):
     hold(flags == ["-I" + os.path.join(prefix, "include")], f"and where the header is: {flags}")
     programs = [os.path.join(room, name) for name in ("plate_c", "plate_cxx")]
     told_by([CC, *STRICT, "-std=c99", *flags, "-o", programs[0], source, *asked(prefix, "--libs")])
-    # linked by the C compiler, as in tests/header: Debian's cross library for C++ has no libm of this machine
     told_by([CXX, *STRICT, "-std=c++98", "-fno-exceptions", *flags, "-x", "c++", "-c", "-o", programs[1] + ".o", source])
-    told_by([CC, "-o", programs[1], programs[1] + ".o", *asked(prefix, "--libs")])
+    told_by([CXX, "-o", programs[1], programs[1] + ".o", *asked(prefix, "--libs")])
     return programs
 
 
@@ -61,8 +51,7 @@ def by_cmake(prefix, room):
         return []
     folder = os.path.join(room, "cmake")
     env = {**os.environ, "PKG_CONFIG_PATH": os.path.join(prefix, "lib", "pkgconfig")}
-    other = ["-DCMAKE_SYSTEM_NAME=Linux", "-DCMAKE_SYSTEM_PROCESSOR=x86_64"] if EMULATED else []
-    told_by(["cmake", "-S", os.path.join(ROOT, "examples"), "-B", folder, "-DCMAKE_C_COMPILER=" + CC, "-DCMAKE_BUILD_TYPE=Release", *other], env=env)
+    told_by(["cmake", "-S", os.path.join(ROOT, "examples"), "-B", folder, "-DCMAKE_C_COMPILER=" + CC, "-DCMAKE_BUILD_TYPE=Release"], env=env)
     told_by(["cmake", "--build", folder], env=env)
     return [os.path.join(folder, "plate")]
 

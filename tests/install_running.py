@@ -8,7 +8,7 @@ import tempfile
 from script import ROOT, hold
 
 INSTALL = os.path.join(ROOT, "install")
-CC, CXX, ARCHIVE, EMULATED = (sys.argv[1:4] + [None] * 3)[:3] + [sys.argv[4:]]
+CC, CXX, ARCHIVE = (sys.argv[1:4] + [None] * 3)[:3]
 SOON = 60
 
 runs = 0

@@ -16,7 +16,7 @@ make_plates() {
 }
 
 expect_plate() { # NUMBER NAME WORD
-    run_own "$work/reference_plate" "$3" <"$plates/$2.stl" >"$plates/$1.expected" || die "the reference failed on $2.stl, $3"
+    "$work/reference_plate" "$3" <"$plates/$2.stl" >"$plates/$1.expected" || die "the reference failed on $2.stl, $3"
 }
 
 # Calls a function for each run, until it fails.

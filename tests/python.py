@@ -1,7 +1,7 @@
 #!/usr/bin/env python3
 """Tries python/omphirun.py: results, refusals, every kind of memory, and what is not to be lent. A fault ends it, and so would a crash.
 
-usage: tests/python.py PYTHON library|stand-in WITH     (PYTHONPATH and OMPHIRUN_LIBRARY are set; WITH says what with)
+usage: tests/python.py     (PYTHONPATH and OMPHIRUN_LIBRARY are set)
 """
 import ctypes
 import mmap
@@ -21,7 +21,6 @@ import python_claims
 from python_claims import LAMPSHADE, ROOT, STL, hold, numpy, raises, read
 from python_lending import any_words, refusals, wrong_memory
 
-PYTHON, LIBRARY, WITH = sys.argv[1:4]
 LISTING = [int(word) for line in read("tests", "listings", "lampshade.txt").decode().splitlines()[2:] for word in line.split()[1:]]
 
 
@@ -164,9 +163,7 @@ def lent_and_not_copied():
 
 
 def in_threads():
-    """Each thread with buffers of its own. The stand-in keeps state between its steps, and is no library."""
-    if LIBRARY == "stand-in":
-        return
+    """Each thread with buffers of its own."""
     got = []
     threads = [threading.Thread(target=lambda: got.append(bytes(repaired(of_python)[0]))) for _ in range(4)]
     for thread in threads:
@@ -184,7 +181,7 @@ def example():
             file.write(STL)
 
         def plate(*given):
-            return subprocess.run([PYTHON, os.path.join(ROOT, "examples", "plate.py"), *given], capture_output=True, text=True, timeout=120)
+            return subprocess.run([sys.executable, os.path.join(ROOT, "examples", "plate.py"), *given], capture_output=True, text=True, timeout=120)
 
         done = plate(model, "0", stl, masks)
         hold((done.returncode, done.stdout, done.stderr) == (0, "895 triangles, 13 rims closed by 20 flips\n391284 bytes of STL, 33 masks\n", ""), f"{done}")
@@ -204,7 +201,7 @@ def example():
 def without_library():
     """A library that is not there, or another one, is told by one clear exception."""
     for file in ("/nonexistent/libomphirun.so", "libm.so.6", os.path.join(ROOT, "README.md")):
-        done = subprocess.run([PYTHON, "-c", "import omphirun"], env={**os.environ, "OMPHIRUN_LIBRARY": file}, capture_output=True, text=True, timeout=120)
+        done = subprocess.run([sys.executable, "-c", "import omphirun"], env={**os.environ, "OMPHIRUN_LIBRARY": file}, capture_output=True, text=True, timeout=120)
         hold(done.returncode == 1 and f"ImportError: omphirun: {file} cannot be used" in done.stderr and "./install" in done.stderr, f"{done}")
 
 
@@ -214,4 +211,4 @@ if __name__ == "__main__":
     for test in TESTS:
         test()
     arrays = f"numpy {numpy.__version__}" if numpy else "numpy is not installed"
-    print(f"tests/python: {python_claims.tried} claims hold {WITH}; Python {sys.version.split()[0]}, {arrays}")
+    print(f"tests/python: {python_claims.tried} claims hold with the library; Python {sys.version.split()[0]}, {arrays}")

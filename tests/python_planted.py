@@ -1,7 +1,7 @@
 #!/usr/bin/env python3
 """Plants faults in a copy of python/omphirun.py, one at a time, and shows that tests/python.py finds each.
 
-usage: tests/python_planted.py PYTHON library|stand-in     (OMPHIRUN_LIBRARY is set)
+usage: tests/python_planted.py     (OMPHIRUN_LIBRARY is set)
 """
 import os
 import shutil
@@ -35,13 +35,13 @@ FAULTS = {
 }
 
 
-def tried(python, library, room):
+def tried(room):
     """The status of the tests with the copy in the module's place."""
     env = {**os.environ, "PYTHONPATH": os.path.join(room, "python"), "PYTHONDONTWRITEBYTECODE": "1"}
-    return subprocess.run([python, os.path.join(TESTS, "python.py"), python, library, ""], env=env, capture_output=True, timeout=300).returncode
+    return subprocess.run([sys.executable, os.path.join(TESTS, "python.py")], env=env, capture_output=True, timeout=300).returncode
 
 
-def main(python, library):
+def main():
     missed = []
     with tempfile.TemporaryDirectory() as room:
         shutil.copytree(os.path.join(ROOT, "python"), os.path.join(room, "python"))
@@ -54,11 +54,11 @@ def main(python, library):
                 sys.exit(f"tests/python: {fault}: its old text does not stand exactly once")
             with open(path, "w") as file:
                 file.write(module.replace(old, new))
-            if tried(python, library, room) == 0:
+            if tried(room) == 0:
                 missed.append(fault)
         with open(path, "w") as file:
             file.write(module)
-        if tried(python, library, room) != 0:
+        if tried(room) != 0:
             missed.append("a fault is found where none was planted")
     for fault in missed:
         print(f"NOT FOUND: {fault}")
@@ -67,4 +67,4 @@ def main(python, library):
 
 
 if __name__ == "__main__":
-    sys.exit(main(*sys.argv[1:3]))
+    sys.exit(main())

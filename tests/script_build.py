@@ -1,4 +1,4 @@
-"""Holds what ./repair does before its first run, the build, to what it says. A kit that only pretends stands in for the real one: its `rt check`
+"""Holds what ./repair does before its first run, the build, to what it says. A kit that only pretends stands in for the real one: its `rt run`
 says that crates are proved and puts the real program in place, at once or, with a prover in the background, when it is let go."""
 import contextlib
 import os
@@ -13,9 +13,15 @@ from script import ROOT, SOON, environment, hold
 
 RT = """#!/bin/sh
 # what was asked, and who asked while another was at work
-echo "$*" >>"$FAKE/asked"
-mkdir "$FAKE/at-work" 2>/dev/null || echo "$*" >>"$FAKE/two-at-once"
-echo "rt: rules proved (1 s)"
+crate=${PWD##*/}
+echo "$* $crate" >>"$FAKE/asked"
+mkdir "$FAKE/at-work" 2>/dev/null || echo "$* $crate" >>"$FAKE/two-at-once"
+proved() {
+    echo "fn $1::first: proved"
+    echo "crate $1: modules loaded=0 checked=34"
+    echo "logic=proved functions=1 incremental=trusted"
+}
+proved rules
 if [ -n "${SLOW:-}" ]; then
     # as rt does: provers in the background, which no interrupt reaches
     (while [ -d "$FAKE" ] && [ ! -e "$FAKE/go" ]; do sleep 0.1; done) &
@@ -23,15 +29,19 @@ if [ -n "${SLOW:-}" ]; then
     wait
 fi
 if [ -n "${FAILING:-}" ]; then
-    echo "rt: $2 NOT PROVED (exit 1, 1 s)"
+    echo "crate $crate: modules loaded=0 checked=34"
+    echo "logic=refused functions=1 incremental=trusted"
     rmdir "$FAKE/at-work"
     exit 1
 fi
-mkdir -p target/bin
-cp "$REAL/target/bin/$2" "target/bin/$2"
-echo "rt: $2 proved (1 s)"
+mkdir -p out/incremental
+cp "$REAL/target/bin/$crate" "out/$crate"
+proved "$crate"
+echo "what the program says of no input"
 rmdir "$FAKE/at-work"
 """
+
+PROGRAMS = ("repair", "layers", "gaps", "masking", "surfaced", "pack", "unpack", "plate")
 
 
 class Repository:
@@ -40,9 +50,10 @@ class Repository:
 
     def __init__(self, folder):
         self.folder, self.kit, self.room = (os.path.join(folder, name) for name in ("a repository", "kit", "room"))
-        for name in (self.folder + "/tests", self.folder + "/include", self.folder + "/models", self.folder + "/crates/rules",
-                     self.kit + "/bin", self.kit + "/on/" + os.uname().machine, self.room):
-            os.makedirs(name)
+        for name in ("tests", "include", "models", *(f"crates/{crate}/src" for crate in ("rules", *PROGRAMS))):
+            os.makedirs(os.path.join(self.folder, name))
+        os.makedirs(self.kit + "/bin")
+        os.mkdir(self.room)
         shutil.copytree(os.path.join(ROOT, "repairing"), os.path.join(self.folder, "repairing"))
         for name in ("repair", "crates.txt", "tests/build.sh", "include/omphirun.h", "models/lampshade.bin"):
             shutil.copy(os.path.join(ROOT, name), os.path.join(self.folder, name))
@@ -50,15 +61,12 @@ class Repository:
             with open(os.path.join(self.kit, name), "w") as file:
                 file.write(text)
         os.chmod(self.kit + "/bin/rt", 0o755)
-        real = os.path.dirname(os.path.dirname(os.path.realpath(shutil.which("rt"))))
-        os.symlink(os.path.join(os.environ.get("RATTLE_HOME", real), "on", os.uname().machine, "toolchain"),
-                   os.path.join(self.kit, "on", os.uname().machine, "toolchain"))
-        self.source = self.folder + "/crates/rules/lib.rt"
+        self.source = self.folder + "/crates/rules/src/lib.rt"
         self.touch()
 
     def start(self, **more):
         script.runs += 1
-        env = environment(self.room, PATH=self.kit + "/bin:" + os.environ["PATH"], FAKE=self.kit, REAL=ROOT, RATTLE_HOME=self.kit, **more)
+        env = environment(self.room, PATH=self.kit + "/bin:" + os.environ["PATH"], FAKE=self.kit, REAL=ROOT, **more)
         return subprocess.Popen([os.path.join(self.folder, self.tool)], stdin=subprocess.DEVNULL, stdout=subprocess.PIPE, stderr=subprocess.PIPE, env=env)
 
     def run(self, **more):
@@ -102,8 +110,8 @@ def runs_again():
     with repository() as r:
         status, out, said = r.run()
         hold(status == 0 and out.startswith("lampshade.bin: repaired"), "the first run builds and repairs")
-        hold("repair: rules proved (1 s)\nrepair: repair proved (1 s)\n" in said, f"a line for each crate: {said!r}")
-        hold(r.run() == (0, out, "") and r.lines("asked") == ["check repair", "check layers"], "the second run asks nothing of rt")
+        hold("repair: rules proved\nrepair: repair proved\n" in said, f"a line for each crate: {said!r}")
+        hold(r.run() == (0, out, "") and r.lines("asked") == ["run repair", "run layers"], "the second run asks nothing of rt")
         r.touch()
         hold(r.run()[0] == 0 and len(r.lines("asked")) == 4, "a crate that changed is built anew")
         r.touch()
@@ -118,7 +126,7 @@ def runs_again():
 def build_fails():
     with repository() as r:
         status, out, said = r.run(FAILING="yes")
-        hold((status, out) == (2, "") and "rt check repair failed: see target/tests/rt.log" in said, "a failed build is 2")
+        hold((status, out) == (2, "") and "rt run in crates/repair failed: see target/tests/rt.log" in said, "a failed build is 2")
         hold(r.run()[0] == 0, "and the next may succeed")
 
 
@@ -158,7 +166,7 @@ def two_at_once():
             process.communicate(timeout=SOON)
         hold("another run is building here" in said, f"the second says why it waits: {said!r}")
         hold((one.returncode, two.returncode) == (0, 0), "both repair")
-        hold(r.lines("asked") == ["check repair", "check layers"] and not r.lines("two-at-once"), "and does not build again")
+        hold(r.lines("asked") == ["run repair", "run layers"] and not r.lines("two-at-once"), "and does not build again")
 
 
 def nothing_installed():

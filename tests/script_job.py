@@ -167,8 +167,7 @@ def unpacked(data):
     with tempfile.TemporaryFile() as file:
         file.write(data)
         file.seek(0)
-        text = f". '{ROOT}/tests/build.sh'; find_kit; run_proved '{ROOT}/target/bin/unpack'"
-        return subprocess.run(["sh", "-c", f"me=test; root='{ROOT}'; {text}"], stdin=file, capture_output=True, timeout=SOON).stdout
+        return subprocess.run([os.path.join(ROOT, "target", "bin", "unpack")], stdin=file, capture_output=True, timeout=SOON).stdout
 
 
 def files_kept():
@@ -220,7 +219,7 @@ def planted():
         hold(r.run()[0] == 0, "the repository's copy repairs")
         job = write(os.path.join(r.folder, "a.job"), job_of(2, {TRIANGLES: LINE * 2}))
         out, path, part = (os.path.join(r.folder, name) for name in ("out.job", "repair", "repairing/streams.sh"))
-        env = dict(PATH=r.kit + "/bin:" + os.environ["PATH"], FAKE=r.kit, REAL=ROOT, RATTLE_HOME=r.kit)
+        env = dict(PATH=r.kit + "/bin:" + os.environ["PATH"], FAKE=r.kit, REAL=ROOT)
         words, text = ["--job", out, job], read(part).decode()
         hold(run(words, script=path, env=env)[0] == 0 and len(read(out)) == 29 + 125 + 2 * 36 + 6 * 8, "and writes a job")
         os.remove(out)

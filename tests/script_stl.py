@@ -305,7 +305,7 @@ def stl_planted():
     """A program that prints less, or something else, is found: what it prints is changed behind it in a copy of the script."""
     with script_build.repository() as r:
         path, part, out = (os.path.join(r.folder, name) for name in ("repair", "repairing/models.sh", "out.stl"))
-        env = dict(PATH=r.kit + "/bin:" + os.environ["PATH"], FAKE=r.kit, REAL=ROOT, RATTLE_HOME=r.kit)
+        env = dict(PATH=r.kit + "/bin:" + os.environ["PATH"], FAKE=r.kit, REAL=ROOT)
         text, words = read(part).decode(), ["-o", out, "--job", out + ".job", HOOK]
         hold(run(words, script=path, env=env)[0] == 0 and os.path.exists(out), "the repository's copy repairs")
         for name in (out, out + ".job"):

@@ -11,10 +11,10 @@ make_streams() {
     link make_streams "streams triangles"
     rm -rf "$streams"
     mkdir -p "$streams"
-    run_own "$work/make_streams" "$streams" || die "the streams could not be written"
+    "$work/make_streams" "$streams" || die "the streams could not be written"
     cp "$root"/models/*.bin "$streams"
     for stream in "$streams"/*.bin; do
-        run_own "$work/reference" <"$stream" >"${stream%.bin}.expected" || die "the reference failed on $stream"
+        "$work/reference" <"$stream" >"${stream%.bin}.expected" || die "the reference failed on $stream"
     done
 }
 
