@@ -15,7 +15,7 @@ call: memory of another type, with gaps, not aligned, not writable, or lent twic
 A buffer that is too short is refused by the library, as in C: 2, 8 or 16. No other thread may touch a buffer while a call runs.
 
 The library is the file that the environment's OMPHIRUN_LIBRARY names, or else the one of this major version that the loader finds; ./install
-puts it in place. It is for x86-64, and so has Python to be.
+puts it in place. It is for x86-64-v2 (x86-64 with SSE4.2 and POPCNT), and so has Python to be.
 """
 import ctypes
 import enum

@@ -30,7 +30,7 @@ if [ -n "${SLOW:-}" ]; then
 fi
 if [ -n "${FAILING:-}" ]; then
     echo "crate $crate: modules loaded=0 checked=34"
-    echo "logic=refused functions=1 incremental=trusted"
+    echo "logic=not-proved functions=1 incremental=trusted"
     rmdir "$FAKE/at-work"
     exit 1
 fi
