@@ -28,7 +28,8 @@ returns-then-block-at-lt-TRIANGLE c =
       counted = tt;
       goes_on = λ rest w.
           c.loop-at.invariant.6 rest w
-          ∙ block_short a.l c.loop-at.triangles _ a.block.now rest c.loop-at.at some f c.loop-at.invariant.5 w c.loop-at.invariant.1 c.if-block-at-lt-TRIANGLE.true;
+          ∙ block_short a.l c.loop-at.triangles _ a.block.now rest c.loop-at.at some f c.loop-at.invariant.5 w
+          c.loop-at.invariant.1 c.if-block-at-lt-TRIANGLE.true;
     }
 
 pub returns-then-number-ne0 : goal.returns-then-number-ne0

@@ -36,7 +36,8 @@ put_quads-at-requires c =
     let h : c.loop-p.p < point_count n = omega (arith, c.loop-p.invariant.0, c.loop-p-test.true) in record {
       small = c.requires.sized.small;
       marks_inner = marks_inner_at n g c.loop-p.p c.loop-p.q c.requires.sized.long c.requires.is_grid c.loop-p.invariant.2 h;
-      list_room = byte_room n g c.loop-p.p c.loop-p.q _ c.loop-p.at c.loop-p.list c.requires.sized.long c.requires.is_grid c.loop-p.invariant.2 h c.loop-p.invariant.4;
+      list_room = byte_room n g c.loop-p.p c.loop-p.q _ c.loop-p.at c.loop-p.list c.requires.sized.long c.requires.is_grid
+          c.loop-p.invariant.2 h c.loop-p.invariant.4;
     }
 
 pub loop-p-preserved : goal.loop-p-preserved
