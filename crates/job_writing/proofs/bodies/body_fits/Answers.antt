@@ -18,7 +18,7 @@ returns-then-at-ge4294967296 c =
 pub returns-then-bytes-ge4294967296 : goal.returns-then-bytes-ge4294967296
 returns-then-bytes-ge4294967296 c =
     fits_long c.args.points c.args.at c.args.kind c.args.wanted c.args.bytes.now
-    c.if-not-wanted.false c.if-at-ge4294967296.false c.if-bytes-ge4294967296.true
+    c.if-not-wanted.false c.if-bytes-ge4294967296.true
 
 pub returns : goal.returns
 returns c =
