@@ -5,7 +5,8 @@ use borrow.Author.Tests.{not-true, not-false}
 use Prim.Native.Nat.{ℕ, ◌<◌}
 use native.Mathlib.Omega.{arith}
 use native.Mathlib.Numerals.{add-one}
-use lib.ListN.{get_or}
+use lib.ListN.{get_or, take, length, length-take}
+use Rattle.std.proofs.lemmas.List.{get_or-take}
 use Rattle.rules.specs.declared.Axis.TheVariants.{X}
 use Rattle.rules.specs.Lists.{◌⊕◌}
 use Rattle.rules.specs.Lattice.{point_count, point_of}
@@ -20,32 +21,36 @@ use Rattle.accept_call.proofs.said_inside.Goals as goal
 wrong : (n : ℕ) (w : List ℕ) (p : ℕ) (x : Bool) {b : Bool} → x ≡ sign (marks n w) (point_of n p) → not (says_inside (get_or w p 0)) || x ≡ b → said_at n w p ≡ b
 wrong n w p x e f = ap (λ (y : Bool). not (says_inside (get_or w p 0)) || y) (sym e) ∙ f
 
-pub loop-p-init : goal.loop-p-init
-loop-p-init c =
+-- a byte of the first so many, and its place
+first_of : (n k : ℕ) (w : List ℕ) (p : ℕ) → k ≡ point_count n → p < length (take k w) → (p < point_count n) × (get_or (take k w) p 0 ≡ get_or w p 0)
+first_of n k w p e h = let l = length-take k w in (omega arith, get_or-take k w p 0 (omega arith))
+
+pub loop-b-init : goal.loop-b-init
+loop-b-init c =
     let n = c.args.n in
     let w = c.args.work.now in
-    (c.point_count-count.ensures.0, omega arith, sym (first_outside n (marks n w)), said_start n w)
+    (sym (first_outside n (marks n w)), said_start n w)
 
 pub returns-then-says_wrongly : goal.returns-then-says_wrongly
 returns-then-says_wrongly c =
     let n = c.args.n in
     let w = c.args.work.now in
-    let h : c.loop-p.p < point_count n = omega (arith, c.loop-p.invariant.0, c.loop-p-test.true) in
-    let e : said_at n w c.loop-p.p
-    ≡ false = wrong n w c.loop-p.p c.loop-p.inside c.loop-p.invariant.2 (not-true _ (sym c.says_wrongly.ensures ∙ c.if-says_wrongly.true)) in
-    sym (range_fails (said_at n w) c.loop-p.p (point_count n) h e) ∙ c.loop-p.invariant.3
+    let p = c.loop-b.b-index in
+    let f = first_of n _ w p c.point_count.ensures.0 c.loop-b-test.true in
+    let said = rw f.1 at c.says_wrongly.ensures in
+    let e : said_at n w p ≡ false = wrong n w p c.loop-b.inside c.loop-b.invariant.0 (not-true _ (sym said ∙ c.if-says_wrongly.true)) in
+    sym (range_fails (said_at n w) p (point_count n) f.0 e) ∙ c.loop-b.invariant.1
 
-pub loop-p-preserved : goal.loop-p-preserved
-loop-p-preserved c =
+pub loop-b-preserved : goal.loop-b-preserved
+loop-b-preserved c =
     let n = c.args.n in
     let w = c.args.work.now in
-    let h : c.loop-p.p < point_count n = omega (arith, c.loop-p.invariant.0, c.loop-p-test.true) in
-    let e : said_at n w c.loop-p.p ≡ true = wrong n w c.loop-p.p c.loop-p.inside c.loop-p.invariant.2
-    (not-false _ (sym c.says_wrongly.ensures ∙ c.if-says_wrongly.false)) in
-    let next = sign_next n w c.requires.sized.long c.requires.is_grid c.requires.even c.loop-p.p h in (
-      c.loop-p.invariant.0,
-      omega arith,
-      rw add-one (c.across-inside.ensures ∙ ap (λ (b : Bool). b ⊕ has X (get_or w c.loop-p.p 0)) c.loop-p.invariant.2 ∙ sym next),
-      rw add-one
-          (range_more (said_at n w) c.loop-p.p (point_count n) h e ∙ c.loop-p.invariant.3),
+    let p = c.loop-b.b-index in
+    let f = first_of n _ w p c.point_count.ensures.0 c.loop-b-test.true in
+    let said = rw f.1 at c.says_wrongly.ensures in
+    let e : said_at n w p ≡ true = wrong n w p c.loop-b.inside c.loop-b.invariant.0 (not-false _ (sym said ∙ c.if-says_wrongly.false)) in
+    let next = sign_next n w c.requires.sized.long c.requires.is_grid c.requires.even p f.0 in
+    let across = rw f.1 at c.across-inside.ensures in (
+      rw add-one (across ∙ ap (λ (b : Bool). b ⊕ has X (get_or w p 0)) c.loop-b.invariant.0 ∙ sym next),
+      rw add-one (range_more (said_at n w) p (point_count n) f.0 e ∙ c.loop-b.invariant.1),
     )

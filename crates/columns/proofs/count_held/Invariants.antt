@@ -1,19 +1,20 @@
--- `count_held` meets its contract. The loop's invariant: with the totals from q on written the table is as with all of them. Assumes nothing.
-use mathlib.Core.Path.{◌≡◌}
-use mathlib.Core.List.{map}
-use Prim.Native.Nat.{◌-◌}
-use lib.ListN.{length}
+-- `count_held` meets its contract. The loops' invariant: with the totals from a row's first block on written the table is as with all of them.
+-- Assumes nothing.
+use Rattle.std.proofs.Common.{◌≡◌, ℕ, List, length, map}
 use lib.Seq.{sets}
-use Rattle.rules.specs.Lattice.{point_count}
+use Rattle.rules.specs.Lattice.{point_number}
 use Rattle.grids.proofs.Points.{points_from}
-use Rattle.grids.proofs.Rows.{AtRow}
 use Rattle.totals.specs.Totals.{total_of}
 use Rattle.columns.proofs.count_held.Given as goal
 
-abbrev pub invariant-loop-q : goal.invariant-loop-q
-invariant-loop-q l =
-    (l.count ≡ point_count l.m) × AtRow l.m l.q l.c × (length l.table ≡ length l.initial.table)
-    × (sets l.table l.q (map (total_of l.n l.grid) (points_from l.m l.q)) ≡ sets l.initial.table 0 (map (total_of l.n l.grid) (points_from l.m 0)))
+-- the blocks from entry q on are left to be counted
+abbrev pub Left : ℕ → ℕ → List ℕ → List ℕ → List ℕ → ℕ → Type 0
+Left n m g table came q =
+    (length table ≡ length came)
+    × (sets table q (map (total_of n g) (points_from m q)) ≡ sets came 0 (map (total_of n g) (points_from m 0)))
 
-abbrev pub decreases-loop-q : goal.decreases-loop-q
-decreases-loop-q l = l.count - l.q
+abbrev pub invariant-loop-k : goal.invariant-loop-k
+invariant-loop-k l = Left l.n l.m l.grid l.table l.initial.table (point_number l.m (record { i = 0; j = 0; k = l.k }))
+
+abbrev pub invariant-loop-j : goal.invariant-loop-j
+invariant-loop-j l = Left l.n l.m l.grid l.table l.fn.table (point_number l.m (record { i = 0; j = l.j; k = l.k }))

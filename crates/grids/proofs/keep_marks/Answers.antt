@@ -1,41 +1,29 @@
-use mathlib.Core.Path.{◌≡◌, sym, ap, ◌∙◌}
-use mathlib.Core.List.{List, map}
-use Prim.Native.Nat.{ℕ, ◌-◌, ◌%◌, ◌<◌}
+use Rattle.std.proofs.Common.{◌≡◌, ◌∙◌, ℕ, List, ◌++◌, map, take, drop, length, get_or, arith, sym, append-nil, ◌≤◌}
 use native.Mathlib.Nat.{add-zero}
-use native.Mathlib.Omega.{arith}
-use lib.ListN.{length-set}
-use lib.Seq.{sets}
-use Rattle.rules.specs.Lists.{upto}
+use Rattle.std.proofs.lemmas.Grind.{common_steps}
+use Rattle.std.proofs.lemmas.List.Edits.{map_over_more}
+use Rattle.std.proofs.lemmas.List.{take_all, drop_all}
 use Rattle.rules.specs.Lattice.{point_count}
-use Rattle.rules.specs.Grid.{bytes, marks}
-use Rattle.rules.proofs.Numbers.{bytes_length}
+use Rattle.rules.proofs.Numbers.{bytes_marks}
+use Rattle.byte.specs.Byte.{low}
 use Rattle.grids.specs.Scans.{unsigned}
-use Rattle.lattice.proofs.Written.{written, write_end, rewrite_kept, rewrite_on}
-use Rattle.grids.proofs.Unsigning.{byte_of, bytes_by_number, low_byte}
 use Rattle.grids.proofs.keep_marks.Goals as goal
 
-pub loop-p-preserved : goal.loop-p-preserved
-loop-p-preserved c =
-    let n = c.args.n in
-    let g = c.args.grid.now in
-    let h : c.loop-p.p < point_count n = omega arith in
-    let e = c.with_sign.ensures ∙ add-zero _ ∙ ap (λ (k : ℕ). k % 8) (c.loop-p.invariant.3 c.loop-p.p (omega arith))
-    ∙ low_byte n g c.requires.0.long c.requires.1
-    c.loop-p.p h in (
-      c.loop-p.invariant.0,
-      omega arith,
-      length-set c.loop-p.grid c.loop-p.p _ ∙ c.loop-p.invariant.2,
-      rewrite_kept g c.loop-p.grid c.loop-p.p _ c.loop-p.invariant.3,
-      rewrite_on (byte_of n (marks n g)) c.loop-p.grid c.loop-p.p (point_count n) _ _ h e c.loop-p.invariant.4,
-    )
+-- at the end all are written
+all_low : (xs ys : List ℕ) (i : ℕ) → length xs ≤ i → ys ≡ map low (take i xs) ++ drop i xs → ys ≡ map low xs
+all_low xs ys i h e = rw (take_all i xs h, drop_all i xs h, append-nil) at e
+
+pub loop-b-preserved : goal.loop-b-preserved
+loop-b-preserved c =
+    let part = take c.point_count.result c.args.grid.now in
+    rw (c.with_sign.ensures ∙ add-zero _)
+    (map_over_more low part c.loop-b.b-items c.loop-b.b-index (get_or c.loop-b.b-items c.loop-b.b-index 0) (omega arith) c.loop-b.invariant
+    (grind (arith, common_steps)))
 
 pub returns : goal.returns
 unfolding unsigned
 returns c =
     let n = c.args.n in
-    let E = marks n c.args.grid.now in
-    sym (write_end (byte_of n E) c.loop-p.grid c.loop-p.p (point_count n) (omega arith))
-    ∙ c.loop-p.invariant.4
-    ∙ ap (λ (k : ℕ). sets c.args.grid.now 0 (map (byte_of n E) (upto 0 k))) (let e : point_count n - 0 ≡ point_count n = omega arith in e)
-    ∙ ap (λ (l : List ℕ). sets c.args.grid.now 0 l) (sym (bytes_by_number n E))
-    ∙ written c.args.grid.now (bytes n E) (point_count n) (bytes_length n E) c.requires.0.long
+    let g = c.args.grid.now in
+    let part : point_count n ≡ c.point_count.result = sym c.point_count.ensures.0 in
+    rw (all_low _ _ _ c.loop-b-test.false c.loop-b.invariant, ← part, bytes_marks n g c.requires.0.long c.requires.1)

@@ -1,24 +1,7 @@
--- `keep_marks` meets its contract. The loop's invariant: the bytes from p on are as they came, and with those of the marks written
--- there the buffer is as with all of them written. Assumes nothing.
-use mathlib.Core.Path.{◌≡◌}
-use mathlib.Core.List.{map}
-use Prim.Native.Nat.{ℕ, ◌-◌, ◌≤◌}
-use lib.ListN.{length, get_or}
-use lib.Seq.{sets}
-use Rattle.rules.specs.Lists.{upto}
-use Rattle.rules.specs.Lattice.{point_count}
-use Rattle.rules.specs.Grid.{marks}
-use Rattle.grids.proofs.Unsigning.{byte_of}
+-- `keep_marks` meets its contract. The loop's invariant: the bytes before the index are written anew, and the others are as they came. Assumes nothing.
+use Rattle.std.proofs.Common.{◌≡◌, ◌++◌, map, take, drop}
+use Rattle.byte.specs.Byte.{low}
 use Rattle.grids.proofs.keep_marks.Given as goal
 
-abbrev pub invariant-loop-p : goal.invariant-loop-p
-invariant-loop-p l =
-    (l.count ≡ point_count l.n)
-    × (l.p ≤ point_count l.n)
-    × (length l.grid ≡ length l.initial.grid)
-    × ((i : ℕ) → l.p ≤ i → get_or l.grid i 0 ≡ get_or l.initial.grid i 0)
-    × (sets l.grid l.p (map (byte_of l.n (marks l.n l.initial.grid)) (upto l.p (point_count l.n - l.p)))
-    ≡ sets l.initial.grid 0 (map (byte_of l.n (marks l.n l.initial.grid)) (upto 0 (point_count l.n - 0))))
-
-abbrev pub decreases-loop-p : goal.decreases-loop-p
-decreases-loop-p l = l.count - l.p
+abbrev pub invariant-loop-b : goal.invariant-loop-b
+invariant-loop-b l = l.b-items ≡ map low (take l.b-index l.initial.b-items) ++ drop l.b-index l.initial.b-items

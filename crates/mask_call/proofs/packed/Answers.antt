@@ -7,13 +7,12 @@ use Rattle.mask_call.proofs.packed.Goals as goal
 
 pub loop-x-init : goal.loop-x-init
 unfolding packed
-loop-x-init c = (omega arith, omega arith, refl)
+loop-x-init c = (omega arith, refl)
 
 pub loop-x-preserved : goal.loop-x-preserved
 loop-x-preserved c =
     let a = c.args in
     let f : ℕ → ℕ = λ y. pixel_at a.grid.now a.from a.w (8 * a.b + y) in (
-      omega arith,
-      omega (arith, power_more c.loop-x.x, c.pixel.ensures.1, c.loop-x.invariant.1),
-      (λ i. 2 * c.loop-x.invariant.2 i + c.pixel.ensures.0 i) ∙ sym (packed_more f c.loop-x.x),
+      omega (arith, power_more c.loop-x.x, c.pixel.ensures.1, c.loop-x.invariant.0),
+      (λ i. 2 * c.loop-x.invariant.1 i + c.pixel.ensures.0 i) ∙ sym (packed_more f c.loop-x.x),
     )

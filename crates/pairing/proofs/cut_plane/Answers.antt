@@ -10,9 +10,9 @@ loop-v-preserved c =
 
 pub returns : goal.returns
 returns c =
-    planing_end _ _ _ _ c.requires.fits c.requires.lo_below c.requires.hi_above _ _ c.requires.sized.work_long _ _ _ _ _ _ _ _ _
+    planing_end _ _ _ _ c.requires.fits c.requires.lo_below c.requires.hi_above _ _ c.requires.sized.work_long _ _ _ _ _ _ _ _
     c.loop-v.invariant
     c.loop-v-test.false (c.coordinate-from.ensures ∙ ap (λ (x : Axis). coord x c.args.b.lo) c.earlier-c.ensures)
     (c.coordinate-to.ensures ∙ ap (λ (x : Axis). coord x c.args.b.hi) c.earlier-c.ensures)
     (c.coordinate-end.ensures ∙ ap (λ (x : Axis). coord x c.args.b.hi) c.later-d.ensures)
-    (c.coordinate-v.ensures ∙ ap (λ (x : Axis). coord x c.args.b.lo) c.later-d.ensures)
+    (c.coordinate-first.ensures ∙ ap (λ (x : Axis). coord x c.args.b.lo) c.later-d.ensures)

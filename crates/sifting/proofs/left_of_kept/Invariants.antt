@@ -1,14 +1,11 @@
 -- `left_of_kept` meets its contract: at axis k the edges left are those that none of the first k separates. Assumes nothing.
 use mathlib.Core.Path.{◌≡◌}
 use mathlib.Core.Bool.{◌&&◌}
-use Prim.Native.Nat.{◌-◌, ◌≤◌, ◌<◌}
+use Prim.Native.Nat.{◌<◌}
 use Rattle.rules.specs.declared.Axis.{Axis}
 use Rattle.rules.specs.Grid.{has}
 use Rattle.corners.specs.Corner.{none_parts}
 use Rattle.sifting.proofs.left_of_kept.Given as goal
 
-abbrev pub invariant-loop-k : goal.invariant-loop-k
-invariant-loop-k l = (l.k ≤ l.built) × (l.left < 8) × ((a : Axis) → has a l.left ≡ has a l.left-2 && none_parts l.kept l.k l.p a)
-
-abbrev pub decreases-loop-k : goal.decreases-loop-k
-decreases-loop-k l = l.built - l.k
+abbrev pub invariant-loop-a : goal.invariant-loop-a
+invariant-loop-a l = (l.left < 8) × ((a : Axis) → has a l.left ≡ has a l.left-2 && none_parts l.kept l.a-index l.p a)

@@ -15,12 +15,8 @@ use Rattle.signing.proofs.sign_grid.Given as goal
 abbrev pub invariant-loop-p : goal.invariant-loop-p
 invariant-loop-p l =
     (l.count ≡ point_count l.n)
-    × (l.p ≤ point_count l.n)
     × (length l.grid ≡ length l.initial.grid)
     × ((i : ℕ) → l.p ≤ i → get_or l.grid i 0 ≡ get_or l.initial.grid i 0)
     × (l.inside ≡ sign (marks l.n l.initial.grid) (point_of l.n l.p))
     × (sets l.grid l.p (map (sign_of l.n (marks l.n l.initial.grid)) (upto l.p (point_count l.n - l.p)))
     ≡ sets l.initial.grid 0 (map (sign_of l.n (marks l.n l.initial.grid)) (upto 0 (point_count l.n - 0))))
-
-abbrev pub decreases-loop-p : goal.decreases-loop-p
-decreases-loop-p l = l.count - l.p

@@ -1,59 +1,95 @@
-use mathlib.Core.Path.{◌≡◌, ap, ◌∙◌}
-use mathlib.Core.List.{List}
-use Prim.Native.Nat.{ℕ, ◌+◌, ◌-◌, ◌<◌}
-use native.Mathlib.Omega.{arith}
-use lib.ListN.{take, drop}
+-- `feed_records` meets its contract: all have come, a record is refused, the next one, and what is left of the block. Assumes nothing.
+use Rattle.std.proofs.Common.{◌≡◌, ◌≢◌, ◌<◌, ◌≤◌, ◌+◌, ◌-◌, ◌*◌, ◌/◌, ℕ, List, ◌++◌, length, drop, arith, refl, sym, ap, ◌∙◌}
+use Rattle.std.proofs.lemmas.Result.{err_from_is_err_and}
+use Rattle.feeding.proofs.Stops.{stop_some}
+use Rattle.std.proofs.lemmas.Bool.{eqb-true, eqb-false}
+use Rattle.std.proofs.Math.ListN.{drop_of_length-le}
+use Rattle.lattice.specs.Levels.{number_of}
+use Rattle.rounding.specs.Scales.{exponent_of}
+use Rattle.stl_feeding.specs.Taken.{taken}
+use Rattle.stl_feeding.proofs.Records.{record_of_chunk}
 use Rattle.stl_feeding.proofs.Taken.{block_done, block_short, block_refused, block_next}
 use Rattle.stl_feeding.proofs.feed_records.Goals as goal
-
--- the record that is lent
-here : (at : ℕ) (block : List ℕ) → take (at + 50 - at) (drop at block) ≡ take 50 (drop at block)
-here at block = let e : at + 50 - at ≡ 50 = omega arith in ap (λ (k : ℕ). take k (drop at block)) e
+use Rattle.stl_feeding.proofs.feed_records.Goals.{else-triangles-all-2-via-then-triangles-all-2+else-not-is_empty}
+use Rattle.stl_feeding.proofs.feed_records.Goals.{else-triangles-all-2-via-else-triangles-all-2}
 
 pub returns-then-triangles-all : goal.returns-then-triangles-all
 returns-then-triangles-all c =
-    let a = c.args in
-    let e : c.loop-at.triangles ≡ a.all = c.if-triangles-all.true in
+    let l = c.loop-r.invariant in
     record {
-      ready = c.loop-at.invariant.5;
+      ready = l.ready;
       counted = (omega arith, λ n f. f);
-      goes_on = λ rest w. c.loop-at.invariant.6 rest w ∙ block_done a.l _ _ a.all c.loop-at.triangles _ a.block.now rest c.loop-at.at e rest;
+      goes_on = λ rest w. l.goes_on rest w ∙ block_done c.args.l _ _ c.args.all _ _ c.args.block.now rest _ c.if-triangles-all.true rest;
     }
 
-pub returns-then-block-at-lt-RECORD : goal.returns-then-block-at-lt-RECORD
-returns-then-block-at-lt-RECORD c =
-    let a = c.args in
-    let f : c.loop-at.triangles < a.all = omega (arith, c.loop-at.invariant.3, c.if-triangles-all.false) in
-    record {
-      ready = c.loop-at.invariant.5;
+pub returns-in_err-mark_record : goal.returns-in_err-mark_record
+returns-in_err-mark_record c =
+    let l = c.loop-r.invariant in
+    let p = err_from_is_err_and c.from_residual.result c.from_residual.ensures.1 in
+    let why = c.in_err-mark_record.field-0.0 in
+    let m = c.in_err-mark_record.ensures in
+    let i : 50 * c.loop-r.r-index + 50 ≤ length c.args.block.now = omega (arith, c.as_chunks.ensures.front_len) in
+    rw (p.1, p.2)
+    (record {
+      ready = m.ready;
       counted = tt;
-      goes_on = λ rest w. c.loop-at.invariant.6 rest w ∙ block_short a.l _ _ a.all c.loop-at.triangles _ a.block.now rest c.loop-at.at f w c.loop-at.invariant.1
-          c.loop-at-test.true c.if-block-at-lt-RECORD.true;
-    }
+      goes_on = λ rest w. l.goes_on rest w
+          ∙ block_refused c.args.l _ _ c.args.all _ _ c.args.block.now rest _ (omega (arith, l.most, c.if-triangles-all.false)) (omega arith) _
+          (record_of_chunk _ c.args.block.now _ c.as_chunks.ensures.front (omega (arith, c.as_chunks.ensures.front_len))) _ m.number_is
+          (stop_some why);
+    })
 
-pub returns-then-number-ne0 : goal.returns-then-number-ne0
-returns-then-number-ne0 c =
-    let a = c.args in
-    let f : c.loop-at.triangles < a.all = omega (arith, c.loop-at.invariant.3, c.if-triangles-all.false) in
+pub loop-r-preserved : goal.loop-r-preserved
+loop-r-preserved c =
+    let l = c.loop-r.invariant in
+    let m = c.in_ok-mark_record.ensures in
+    let i : 50 * c.loop-r.r-index + 50 ≤ length c.args.block.now = omega (arith, c.as_chunks.ensures.front_len) in
+    let next : 50 * c.loop-r.r-index + 50 ≡ 50 * (c.loop-r.r-index + 1) = omega arith in
     record {
-      ready = c.mark_record-number.ensures.ready;
-      counted = tt;
-      goes_on = λ rest w. c.loop-at.invariant.6 rest w
-          ∙ block_refused a.l _ _ a.all c.loop-at.triangles _ a.block.now rest c.loop-at.at f c.if-block-at-lt-RECORD.false _
-          (here c.loop-at.at a.block.now) _ c.mark_record-number.ensures.number_is c.if-number-ne0.true;
+      counted = omega (arith, l.counted);
+      most = omega (arith, l.most, c.if-triangles-all.false);
+      long = c.mark_record.auto.grid ∙ l.long;
+      ready = m.ready;
+      goes_on = λ rest w. l.goes_on rest w
+          ∙ block_next c.args.l _ _ c.args.all _ _ c.args.block.now rest _ (omega (arith, l.most, c.if-triangles-all.false)) (omega arith) _
+          (record_of_chunk _ c.args.block.now _ c.as_chunks.ensures.front (omega (arith, c.as_chunks.ensures.front_len))) _ m.number_is
+          refl _ (m.grid_is refl)
+          ∙ ap (λ (at : ℕ). taken (number_of c.args.l) (exponent_of c.args.s) c.args.shift (c.args.all - (c.loop-r.triangles + 1))
+          (drop at c.args.block.now ++ rest) (c.loop-r.triangles + 1) c.mark_record.new.grid) next;
     }
 
-pub loop-at-preserved : goal.loop-at-preserved
-loop-at-preserved c =
-    let a = c.args in
-    let f : c.loop-at.triangles < a.all = omega (arith, c.loop-at.invariant.3, c.if-triangles-all.false) in (
-      omega (arith, c.loop-at-test.true, c.if-block-at-lt-RECORD.false),
-      omega (arith, c.loop-at.invariant.1),
-      omega (arith, c.loop-at.invariant.1, c.loop-at.invariant.2),
-      omega arith,
-      c.mark_record-number.auto.grid ∙ c.loop-at.invariant.4,
-      c.mark_record-number.ensures.ready,
-      λ rest w. c.loop-at.invariant.6 rest w ∙ block_next a.l _ _ a.all c.loop-at.triangles _ a.block.now rest c.loop-at.at f c.if-block-at-lt-RECORD.false _
-          (here c.loop-at.at a.block.now) _ c.mark_record-number.ensures.number_is c.if-number-ne0.false _
-          (c.mark_record-number.ensures.grid_is c.if-number-ne0.false),
-    )
+pub returns-then-not-is_empty : goal.returns-then-not-is_empty
+returns-then-not-is_empty c =
+    let l = c.loop-r.invariant in
+    let some : length c.as_chunks.result.1.now ≢ 0 = eqb-false _ 0 (sym c.is_empty.ensures ∙ c.if-not-is_empty.true) in
+    record {
+      ready = l.ready;
+      counted = tt;
+      goes_on = λ rest w. l.goes_on rest w
+          ∙ block_short c.args.l _ _ c.args.all _ _ c.args.block.now rest _ (omega arith) w (omega arith)
+          (omega (arith, c.as_chunks.ensures.front_len, c.as_chunks.ensures.back_len)) (omega (arith, c.as_chunks.ensures.front_len));
+    }
+
+pub returns : goal.returns
+returns c =
+    let l = c.loop-r.invariant in
+    let n = c.as_chunks.ensures in
+    elim c.else-triangles-all-2.branch [
+      | else-triangles-all-2-via-then-triangles-all-2+else-not-is_empty w ↦
+          let none : length c.as_chunks.result.1.now ≡ 0 = eqb-true _ 0 (sym w.is_empty.ensures ∙ w.if-not-is_empty.false) in
+          record {
+            ready = l.ready;
+            counted = (l.most, λ f t. omega (arith, l.counted, n.front_len));
+            goes_on = λ rest d. l.goes_on rest d
+                ∙ ap (λ (left : List ℕ). taken (number_of c.args.l) (exponent_of c.args.s) c.args.shift (c.args.all - c.loop-r.triangles) (left ++ rest)
+                c.loop-r.triangles c.loop-r.grid) (drop_of_length-le c.args.block.now (omega (arith, n.front_len, n.back_len)));
+          }
+      | else-triangles-all-2-via-else-triangles-all-2 w ↦
+          let e : c.loop-r.triangles ≡ c.args.all = omega (arith, l.most, w.if-triangles-all-2.false) in
+          record {
+            ready = l.ready;
+            counted = (l.most, λ f t. rw e t);
+            goes_on = λ rest d. l.goes_on rest d ∙ block_done c.args.l _ _ c.args.all _ _ c.args.block.now rest _ e rest
+                ∙ ap (λ (t : ℕ). taken (number_of c.args.l) (exponent_of c.args.s) c.args.shift (c.args.all - t) rest t c.loop-r.grid) (sym e);
+          }
+    ]

@@ -26,7 +26,6 @@ loop-p-init c =
     let all = bytes_start c.args.side e n E s in
     let m = ap length all ∙ quads_length c.args.side e (facings n E s) in (
       c.point_count-count.ensures.0,
-      omega arith,
       at_start _,
       refl,
       omega (arith, m, facings_count n E s, c.requires.out_room),
@@ -43,9 +42,9 @@ put_edges-at-requires c =
     let h : c.loop-p.p < point_count n = omega (arith, c.loop-p.invariant.0, c.loop-p-test.true) in record {
       side_least = side_wide n side pre.sized.small pre.side_is;
       scale = pre.scale;
-      surrounded = marks_surrounded n side g c.loop-p.p c.loop-p.q pre.side_is pre.sized.long pre.is_grid c.loop-p.invariant.2 h;
-      out_room = bytes_room side (exponent_of c.args.s) n g c.loop-p.p c.loop-p.q _ c.loop-p.at c.loop-p.out pre.sized.long pre.is_grid c.loop-p.invariant.2 h
-          c.is_inside.ensures c.loop-p.invariant.4;
+      surrounded = marks_surrounded n side g c.loop-p.p c.loop-p.q pre.side_is pre.sized.long pre.is_grid c.loop-p.invariant.1 h;
+      out_room = bytes_room side (exponent_of c.args.s) n g c.loop-p.p c.loop-p.q _ c.loop-p.at c.loop-p.out pre.sized.long pre.is_grid c.loop-p.invariant.1 h
+          c.is_inside.ensures c.loop-p.invariant.3;
     }
 
 pub loop-p-preserved : goal.loop-p-preserved
@@ -57,16 +56,15 @@ loop-p-preserved c =
     let g = c.args.grid.now in
     let pre = c.requires in
     let h : c.loop-p.p < point_count n = omega (arith, c.loop-p.invariant.0, c.loop-p-test.true) in
-    let put = rw (bytes_byte side e n g c.loop-p.p c.loop-p.q _ pre.sized.long pre.is_grid c.loop-p.invariant.2 h c.is_inside.ensures) at
+    let put = rw (bytes_byte side e n g c.loop-p.p c.loop-p.q _ pre.sized.long pre.is_grid c.loop-p.invariant.1 h c.is_inside.ensures) at
     c.put_edges-at.ensures in
     let w = given_written n (marks n g)
-    (bytes_of side e (inside n g)) c.loop-p.p c.loop-p.q c.loop-p.invariant.2 h c.loop-p.at _ c.loop-p.out _ put c.loop-p.invariant.4 in (
+    (bytes_of side e (inside n g)) c.loop-p.p c.loop-p.q c.loop-p.invariant.1 h c.loop-p.at _ c.loop-p.out _ put c.loop-p.invariant.3 in (
       c.loop-p.invariant.0,
-      omega arith,
-      rw (add-one, c.next_point-q.ensures) (at_next n c.loop-p.p c.loop-p.q c.loop-p.invariant.2 h),
-      w.0 ∙ c.loop-p.invariant.3,
+      rw (add-one, c.next_point-q.ensures) (at_next n c.loop-p.p c.loop-p.q c.loop-p.invariant.1 h),
+      w.0 ∙ c.loop-p.invariant.2,
       rw add-one w.1,
-      rw add-one (w.2 ∙ c.loop-p.invariant.5),
+      rw add-one (w.2 ∙ c.loop-p.invariant.4),
     )
 
 pub returns : goal.returns
@@ -75,4 +73,4 @@ returns c =
     let g = c.args.grid.now in
     let none = given_end n (marks n g) (bytes_of c.args.side (exponent_of c.args.s) (inside n g)) c.loop-p.p
     (omega (arith, c.loop-p.invariant.0, c.loop-p-test.false)) in
-    sym (ap (puts c.loop-p.out c.loop-p.at) none ∙ puts_none c.loop-p.out c.loop-p.at) ∙ c.loop-p.invariant.5
+    sym (ap (puts c.loop-p.out c.loop-p.at) none ∙ puts_none c.loop-p.out c.loop-p.at) ∙ c.loop-p.invariant.4

@@ -2,7 +2,7 @@
 -- `at` the buffer is as with all of them put. Assumes nothing.
 use mathlib.Core.Path.{◌≡◌}
 use mathlib.Core.List.{List}
-use Prim.Native.Nat.{ℕ, ◌+◌, ◌-◌, ◌≤◌}
+use Prim.Native.Nat.{ℕ, ◌+◌, ◌≤◌}
 use lib.ListN.{length}
 use Rattle.rules.specs.Lists.{each}
 use Rattle.rules.specs.Lattice.{point_count}
@@ -22,12 +22,8 @@ left n side s g p = given_from n (marks n g) (bytes_of side (exponent_of s) (ins
 abbrev pub invariant-loop-p : goal.invariant-loop-p
 invariant-loop-p l =
     (l.count ≡ point_count l.n)
-    × (l.p ≤ point_count l.n)
     × At l.n l.p l.q
     × (length l.out ≡ length l.initial.out)
     × (l.at + length (left l.n l.side l.s l.grid l.p) ≤ length l.out)
     × (puts l.out l.at (left l.n l.side l.s l.grid l.p)
     ≡ puts l.initial.out 84 (each (quad_bytes l.side (exponent_of l.s)) (facings l.n (marks l.n l.grid) (inside l.n l.grid))))
-
-abbrev pub decreases-loop-p : goal.decreases-loop-p
-decreases-loop-p l = l.count - l.p

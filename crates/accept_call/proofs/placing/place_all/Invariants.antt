@@ -1,16 +1,10 @@
--- `place_all`. The loop's invariant: the quads from `at` on, placed in the work as it is, give what all
--- of them gave at the start. Assumes nothing.
+-- `place_all`. The loop's invariant: the quads that are left, placed in the work as it is, give what all of them gave at the start. Assumes nothing.
+use Rattle.std.proofs.Common.{◌≡◌, length, drop, map}
 use Rattle.accepting.specs.Placing.{placing}
 use Rattle.surfacing.specs.Sides.{fours}
-use mathlib.Core.Path.{◌≡◌}
-use lib.ListN.{length, drop}
-use Prim.Native.Nat.{◌-◌, ◌≤◌, ◌%◌}
+use Rattle.quad_reading.specs.Read.{four_in}
 use Rattle.accept_call.proofs.placing.place_all.Given as goal
 
-abbrev pub invariant-loop-at : goal.invariant-loop-at
-invariant-loop-at l = (l.at ≤ length l.list) × (l.at % 4 ≡ 0) × (length l.work ≡ length l.initial.work)
-    × (placing l.n (fours (drop l.at l.list)) l.work ≡ placing l.n
-    (fours l.list) l.initial.work)
-
-abbrev pub decreases-loop-at : goal.decreases-loop-at
-decreases-loop-at l = length l.list - l.at
+abbrev pub invariant-loop-quad : goal.invariant-loop-quad
+invariant-loop-quad l = (length l.work ≡ length l.initial.work)
+    × (placing l.n (map four_in (drop l.quad-index l.quads)) l.work ≡ placing l.n (fours l.list) l.initial.work)

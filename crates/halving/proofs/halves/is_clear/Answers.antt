@@ -1,23 +1,15 @@
-use mathlib.Core.Path.{refl, sym, ◌∙◌}
-use native.Mathlib.Numerals.{add-one}
-use Rattle.rules.proofs.Lists.{range_more, range_fails}
+use Rattle.std.proofs.Common.{rules, ◌≡◌, ◌-◌, ◌∙◌, refl}
+use Rattle.std.proofs.lemmas.Iterator.{YieldsList-from_range}
+use Rattle.std.proofs.lemmas.Iterator.Search.{all_from_yields_List}
 use Rattle.halving.specs.Clear.{layer_clear, box_clear}
+use Rattle.halving.proofs.Clear.{all_range}
 use Rattle.halving.proofs.halves.is_clear.Goals as goal
 
-pub loop-k-init : goal.loop-k-init
+pub returns : goal.returns
 unfolding box_clear
-loop-k-init c = refl
-
-pub returns-then-not-layer_is_clear : goal.returns-then-not-layer_is_clear
-returns-then-not-layer_is_clear c =
-    let loop_told = c.loop-k in
-    let test = layer_clear c.args.n c.args.b c.args.work.now in
-    sym (range_fails test loop_told.k c.args.b.hi.k c.loop-k-test.true
-    (sym c.layer_is_clear.ensures ∙ c.if-not-layer_is_clear.true)) ∙ loop_told.invariant
-
-pub loop-k-preserved : goal.loop-k-preserved
-loop-k-preserved c =
-    let loop_told = c.loop-k in
-    let test = layer_clear c.args.n c.args.b c.args.work.now in
-    rw add-one (range_more test loop_told.k c.args.b.hi.k c.loop-k-test.true
-    (sym c.layer_is_clear.ensures ∙ c.if-not-layer_is_clear.false) ∙ loop_told.invariant)
+returns c =
+    let layers = layer_clear c.args.n c.args.b c.args.work.now in
+    let k = c.args.b.lo.k in
+    let count = c.args.b.hi.k - k in
+    all_from_yields_List layers _ _ _ c.all.ensures.ran (YieldsList-from_range k c.args.b.hi.k count refl refl) (λ x b q h. search rules)
+    ∙ all_range layers k count

@@ -1,7 +1,7 @@
 -- `put_triangles` meets its contract. The loop's invariant: with the numbers from triangle t on written, the list is as with all of them
 -- written. Assumes nothing.
 use mathlib.Core.Path.{◌≡◌}
-use Prim.Native.Nat.{◌*◌, ◌-◌, ◌≤◌}
+use Prim.Native.Nat.{◌*◌}
 use lib.ListN.{length}
 use lib.Seq.{sets}
 use Rattle.rounding.specs.Pattern.{round_times}
@@ -11,10 +11,6 @@ use Rattle.stl_reading.proofs.Numbers.{numbers_from}
 use Rattle.stl_triangles.proofs.triangles.put_triangles.Given as goal
 
 abbrev pub invariant-loop-t : goal.invariant-loop-t
-invariant-loop-t l = (l.t ≤ l.count)
-    × (length l.list ≡ length l.initial.list)
+invariant-loop-t l = (length l.list ≡ length l.initial.list)
     × (sets l.list (9 * l.t) (numbers_from (round_times (exponent_of l.s)) l.file l.t l.count)
     ≡ sets l.initial.list 0 (numbers_of (round_times (exponent_of l.s)) l.file l.count))
-
-abbrev pub decreases-loop-t : goal.decreases-loop-t
-decreases-loop-t l = l.count - l.t

@@ -7,4 +7,4 @@ pub loop-q-preserved : goal.loop-q-preserved
 loop-q-preserved c =
     let l = c.loop-q in
     let p = c.put_quad-next in
-    (omega arith, p.auto.out ∙ l.invariant.1, omega (arith, l.invariant.2, p.ensures.1), rw (each_more _ l.q) (put_both l.invariant.3 p.ensures.0))
+    (p.auto.out ∙ l.invariant.0, omega (arith, l.invariant.1, p.ensures.1), rw (each_more _ l.q) (put_both l.invariant.2 p.ensures.0))

@@ -1,6 +1,6 @@
 -- `put_quads`: the loop's invariant is that the lines of the first q quads stand there, each of 26 bytes at most. Assumes nothing.
 use mathlib.Core.Path.{◌≡◌}
-use Prim.Native.Nat.{◌+◌, ◌*◌, ◌-◌, ◌≤◌}
+use Prim.Native.Nat.{◌+◌, ◌*◌, ◌≤◌}
 use lib.ListN.{length}
 use Rattle.rules.specs.Lists.{each, upto}
 use Rattle.text.specs.Text.{Put}
@@ -9,8 +9,5 @@ use Rattle.text.proofs.listing.put_quads.Given as goal
 
 abbrev pub invariant-loop-q : goal.invariant-loop-q
 invariant-loop-q l =
-    (l.q ≤ l.quads) × (length l.out ≡ length l.initial.out) × (l.next ≤ l.at + 26 * l.q)
+    (length l.out ≡ length l.initial.out) × (l.next ≤ l.at + 26 * l.q)
     × Put l.initial.out l.at (each (quad_line l.list) (upto 0 l.q)) l.out l.next
-
-abbrev pub decreases-loop-q : goal.decreases-loop-q
-decreases-loop-q l = l.quads - l.q
