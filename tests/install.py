@@ -52,6 +52,13 @@ def exported():
         hold(os.path.isdir(room) and not os.listdir(room), "a folder that was there stays")
 
 
+def needed():
+    """The archive needs memset of whoever links it, and no other name."""
+    nm = re.sub("gcc$", "nm", CC)
+    found = told_by([nm, "-u", ARCHIVE])
+    hold(sorted({line.split()[-1] for line in found.splitlines() if line.startswith(" ")}) == ["memset"], f"needed: {found}")
+
+
 def short_names():
     """A relative PREFIX, a symlink to the script, a symlink to a folder."""
     with tempfile.TemporaryDirectory() as room:
@@ -152,7 +159,7 @@ def no_place():
 
 
 if __name__ == "__main__":
-    failures = hold_all((in_place, install_example.example, exported, short_names, destdir, others_stay, wrong_words, hostile_names, no_place))
+    failures = hold_all((in_place, install_example.example, exported, needed, short_names, destdir, others_stay, wrong_words, hostile_names, no_place))
     missing = sorted(set(install_example.passed_over))
     without = f", passed over: {' and '.join(missing)}, not installed" if missing else ""
     print(f"tests/install: ./install in {install_running.runs} runs, plate.c in {install_example.tried}, {failures} failures{without}")
