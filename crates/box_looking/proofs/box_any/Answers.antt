@@ -1,10 +1,13 @@
--- `box_any` asks layer after layer, and each row by row. Assumes nothing.
+-- `box_any` asks layer after layer, and each row by row, unless these are empty. Assumes nothing.
 use Rattle.std.proofs.Common.{rules, refl, ◌∙◌, ◌-◌}
 use Rattle.std.proofs.lemmas.Iterator.{YieldsList-from_range}
 use Rattle.std.proofs.lemmas.Iterator.Search.{any_from_yields_List}
 use Rattle.box_looking.specs.Told.{told_at, layer_told}
-use Rattle.box_looking.proofs.Ranges.{box_by_ranges}
+use Rattle.box_looking.proofs.Ranges.{box_by_ranges, none_passes}
 use Rattle.box_looking.proofs.box_any.Goals as goal
+
+pub returns-then-b : goal.returns-then-b
+returns-then-b g c = none_passes (told_at g.T.Tell.tells c.args.n c.args.items.now g.T.Tell.none) c.args.b c.then-b.either
 
 pub returns : goal.returns
 returns g c =
