@@ -7,4 +7,5 @@ use Rattle.stage.proofs.omphirun_mark_all.Goals as goal
 pub returns : goal.returns
 returns c =
     let t = c.tell_mark_all.ensures in
-    t.2 c.mark_all.new.grid c.mark_all.new.totals ∙ ap (λ a. outcome_of a c.mark_all.new.grid c.mark_all.new.totals) t.1 ∙ told_is _ _ _ ∙ c.mark_all.ensures
+    t.2 c.mark_all.new.grid c.mark_all.new.totals ∙ ap (λ a. outcome_of a c.mark_all.new.grid c.mark_all.new.totals) t.1
+    ∙ told_is _ _ _ ∙ c.mark_all.ensures

@@ -7,4 +7,5 @@ use Rattle.stage.proofs.omphirun_mark_tree.Goals as goal
 pub returns : goal.returns
 returns c =
     let t = c.tell_mark.ensures in
-    t.2 c.mark_tree.new.grid c.mark_tree.new.totals ∙ ap (λ a. outcome_of a c.mark_tree.new.grid c.mark_tree.new.totals) t.1 ∙ told_is _ _ _ ∙ c.mark_tree.ensures
+    t.2 c.mark_tree.new.grid c.mark_tree.new.totals ∙ ap (λ a. outcome_of a c.mark_tree.new.grid c.mark_tree.new.totals) t.1
+    ∙ told_is _ _ _ ∙ c.mark_tree.ensures
