@@ -1,14 +1,13 @@
 -- Some point of a box, asked by ranges of numbers. Assumes nothing.
-use mathlib.Core.Path.{◌≡◌, refl, sym, ap, fun_ext, ◌∙◌}
+use mathlib.Core.Path.{◌≡◌, refl, sym, ap, ◌∙◌}
 use mathlib.Core.Bool.{Bool, false, ◌||◌}
-use mathlib.Core.List.{List, ◌∷◌}
+use mathlib.Core.List.{List, [], ◌∷◌}
 use mathlib.Core.Logic.{◌⊎◌, ⊎_elim}
 use Prim.Native.Nat.{ℕ, zero, suc, ◌+◌, ◌-◌, ◌≤◌, ◌<◌}
 use native.Mathlib.Omega.{arith}
-use lib.ListN.{get_or, length, take, drop}
+use lib.ListN.{get_or, length}
 use native.Mathlib.Numerals.{add-one}
 use Rattle.std.specs.List.{list_any, range_with_len}
-use Rattle.std.proofs.lemmas.List.{drop_more}
 use Rattle.rules.specs.declared.Axis.TheVariants.{Y, Z}
 use Rattle.rules.specs.declared.Point.{Point}
 use Rattle.rules.specs.declared.Box.{Box}
@@ -34,25 +33,24 @@ box_by_ranges f b =
     ∙ any_like (extent b Y) (λ j. any_range (λ i. f (record { i = i; j = j; k = k })) b.lo.i (b.hi.i - b.lo.i)))
     ∙ sym (in_turn f b)
 
--- what stands side by side in a list, asked by its places
-pub side_by_side : {A : Type 0} (f : A → Bool) (s : List A) (d : A) (from a m : ℕ) → from + a + m ≤ length s →
-    list_any f (take m (drop (from + a) s)) ≡ list_any (λ i. f (get_or s (from + i) d)) (range_with_len a m)
-side_by_side f s d from a zero h = refl
-side_by_side f s d from a (suc m) h =
-    let e : drop (from + a) s ≡ get_or s (from + a) d ∷ drop (from + a + 1) s = drop_more s (from + a) d (omega arith) in
-    let g : from + a + 1 ≡ from + (a + 1) = omega arith in
-    ap (λ l. list_any f (take (suc m) l)) e
-    ∙ ap (λ p. f (get_or s (from + a) d) || list_any f (take m (drop p s))) g
-    ∙ ap (λ (x : Bool). f (get_or s (from + a) d) || x) (side_by_side f s d from (a + 1) m (omega arith))
+-- the numbers from a on, below b: the first, and those after it
+pub first_and_rest : (f : ℕ → Bool) (a b : ℕ) → a < b →
+    list_any f (range_with_len a (b - a)) ≡ (f a || list_any f (range_with_len (a + 1) (b - (a + 1))))
+first_and_rest f a b h =
+    let e : b - a ≡ suc (b - (a + 1)) = omega arith in
+    ap (λ m. list_any f (range_with_len a m)) e
 
--- so a row's points, given the number of its first
-pub row_side_by_side : {A : Type 0} (f : A → Bool) (n : ℕ) (s : List A) (d : A) (b : Box) (j k from : ℕ) →
-    from ≡ point_number n (record { i = 0; j = j; k = k }) → from + b.lo.i + (b.hi.i - b.lo.i) ≤ length s →
-    list_any f (take (b.hi.i - b.lo.i) (drop (from + b.lo.i) s)) ≡ row_told (told_at f n s d) b k j
-row_side_by_side f n s d b j k from e h =
-    side_by_side f s d from b.lo.i (b.hi.i - b.lo.i) h
-    ∙ ap (λ (t : ℕ → Bool). list_any t (range_with_len b.lo.i (b.hi.i - b.lo.i)))
-    (fun_ext (λ i. ap (λ (p : ℕ). f (get_or s p d)) (omega (arith, e))))
+at_place : {A : Type 0} (s : List A) (p : ℕ) (d x : A) → p < length s → get_or s p d ≡ get_or s p x
+at_place [] p d x h = absurd (omega (arith, h))
+at_place (y ∷ s) zero d x h = refl
+at_place (y ∷ s) (suc p) d x h = at_place s p d x (omega (arith, h))
+
+-- what stands at a point's place in a row, given the number of the row's first, is held of the point
+pub told_there : {A : Type 0} (f : A → Bool) (n : ℕ) (s : List A) (d : A) (i j k from : ℕ) → from ≡ point_number n (record { i = 0; j = j; k = k }) →
+    (x : A) → from + i < length s → x ≡ get_or s (from + i) x → told_at f n s d (record { i = i; j = j; k = k }) ≡ f x
+told_there f n s d i j k from e x h at =
+    let p : point_number n (record { i = i; j = j; k = k }) ≡ from + i = omega (arith, e) in
+    ap (λ q. f (get_or s q d)) p ∙ ap f (at_place s (from + i) d x h ∙ sym at)
 
 -- a box whose rows or layers are empty has no point that passes
 pub none_passes : (f : Point → Bool) (b : Box) → (b.hi.i ≤ b.lo.i) ⊎ ((b.lo.i < b.hi.i) × (b.hi.j ≤ b.lo.j)) → false ≡ any_of f (box_points b)
